@@ -1,9 +1,9 @@
 -- "for a dataset its dataspace, datatype, layout, then contiguous bytes if address is defined and length above 0"
 use Prim.Native.Nat.{ℕ, _*_}
-use mathlib.Core.List.{List}
+use mathlib.Core.List.{List, [], _∷_}
 use mathlib.Core.Bool.{Bool, true, false, not, _&&_}
 use lib.Dec.{leb, eqb}
-use Rattle.format.specs.Bytes.{if_then_else_, undefinedAddress}
+use Rattle.format.specs.Bytes.{if_then_else_, allHold, undefinedAddress}
 use Rattle.format.specs.Walk.{Walk, ret, refuse, enterBlock, check, dataBlock, _>>=_, _>>_}
 use Rattle.format.specs.Message.{Message, isShared}
 use Rattle.format.specs.Dataspace.{Dataspace, dataspaceWalk, product}
@@ -22,7 +22,7 @@ fills d (sharedAt address) l = true
 
 -- "contiguous bytes if address is defined and length above 0"
 abbrev pub hasDataBlock : Layout → Bool
-hasDataBlock l = eqb (l .class) 1 && not (eqb (l .address) undefinedAddress) && leb 1 (l .size)
+hasDataBlock l = allHold (eqb (l .class) 1 ∷ not (eqb (l .address) undefinedAddress) ∷ leb 1 (l .size) ∷ [])
 
 unfoldable pub dataWalk : Layout → Walk (Unit {0})
 dataWalk l = if hasDataBlock l then enterBlock dataBlock (l .address) (l .size) >> ret tt else ret tt

@@ -16,8 +16,8 @@ wordBytes [] = []
 wordBytes (w ∷ ws) = toBytes 8 w ++ wordBytes ws
 
 -- a slice of n bytes that begins with the words; a slice's words are its whole eights of bytes
-abbrev pub slice : ℕ → List ℕ → List ℕ
-slice n ws = padded n (wordBytes ws)
+abbrev pub paddedBytes : ℕ → List ℕ → List ℕ
+paddedBytes n ws = padded n (wordBytes ws)
 
 -- the fields of a reply that is not 0 are not written
 abbrev pub ifDone : ℕ → List ℕ → List ℕ
@@ -37,8 +37,8 @@ pub record CAudit : Type 0 where
 abbrev pub cAuditEnd : ℕ → ℕ → AuditReply → CAudit
 cAuditEnd l r a = record {
   number = a .number;
-  list = slice l (a .list);
-  reply = slice r (ifDone (a .number) (a .blockCount ∷ length (a .objects) ∷ objectWords (a .objects)));
+  list = paddedBytes l (a .list);
+  reply = paddedBytes r (ifDone (a .number) (a .blockCount ∷ length (a .objects) ∷ objectWords (a .objects)));
 }
 
 -- slices of l and r bytes for the list and the reply. "Under 770, 3 or 1 words gives 13 first, in C only."
@@ -58,9 +58,9 @@ pub record CMend : Type 0 where
 abbrev pub cMendEnd : ℕ → ℕ → ℕ → MendReply → CMend
 cMendEnd l g r m = record {
   number = m .number;
-  list = slice l (m .list);
-  log = slice g (m .log);
-  reply = slice r (ifDone (m .number) (m .blockCount ∷ m .entries ∷ m .writes ∷ []));
+  list = paddedBytes l (m .list);
+  log = paddedBytes g (m .log);
+  reply = paddedBytes r (ifDone (m .number) (m .blockCount ∷ m .entries ∷ m .writes ∷ []));
   image = m .image;
 }
 
@@ -77,7 +77,7 @@ pub record CUndo : Type 0 where
 
 -- "or undo's writes"
 abbrev pub cUndoEnd : ℕ → UndoReply → CUndo
-cUndoEnd r u = record { number = u .number; reply = slice r (ifDone (u .number) (u .writes ∷ [])); image = u .image }
+cUndoEnd r u = record { number = u .number; reply = paddedBytes r (ifDone (u .number) (u .writes ∷ [])); image = u .image }
 
 -- a log as bytes, a slice of r bytes for the reply, entries and write limit
 unfoldable pub cUndo : List ℕ → List ℕ → ℕ → ℕ → ℕ → CUndo

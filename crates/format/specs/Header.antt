@@ -1,11 +1,11 @@
 -- The object header, version 1 (FF IV.A.1.a), its continuations and its kind.
 use Prim.Native.Nat.{ℕ, zero, suc, _+_}
 use mathlib.Core.List.{List, [], _∷_}
-use mathlib.Core.Bool.{Bool, true, false, _&&_}
+use mathlib.Core.Bool.{Bool, true, false}
 use lib.ListN.{length, drop}
 use lib.Dec.{eqb}
 use Rattle.format.specs.Limits.{blocksMost}
-use Rattle.format.specs.Bytes.{if_then_else_, withFirst, littleEndian, u8, u16, u32, u64}
+use Rattle.format.specs.Bytes.{if_then_else_, allHold, withFirst, littleEndian, u8, u16, u32, u64}
 use Rattle.format.specs.Walk.{Walk, ret, refuse, enter, stored, enterBlock, check, headerBlock, continuationBlock, _>>=_, _>>_}
 use Rattle.format.specs.Message.{Message, messages, ofType, theMessage}
 
@@ -41,7 +41,12 @@ pub data Object : Type 0 where
 -- so many messages of the types 1, 3, 8 and 0x11
 unfoldable pub hasCounts : List Message → ℕ → ℕ → ℕ → ℕ → Bool
 hasCounts ms a b c d =
-    eqb (length (ofType 0x0001 ms)) a && eqb (length (ofType 0x0003 ms)) b && eqb (length (ofType 0x0008 ms)) c && eqb (length (ofType 0x0011 ms)) d
+    allHold
+    (eqb (length (ofType 0x0001 ms)) a ∷
+    eqb (length (ofType 0x0003 ms)) b ∷
+    eqb (length (ofType 0x0008 ms)) c ∷
+    eqb (length (ofType 0x0011 ms)) d ∷
+    [])
 
 -- "A group has one 0x0011 and none of 1, 3, 8; a dataset one each of 1, 3, 8 and no 0x0011; a committed datatype one 3 alone of these,
 -- its body not read. Anything else gives 10."

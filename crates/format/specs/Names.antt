@@ -5,7 +5,7 @@ use mathlib.Core.Bool.{Bool, true, false, not, _&&_}
 use lib.ListN.{length, take, drop}
 use lib.Dec.{ltb, eqb, leb}
 use Rattle.format.specs.Limits.{nameMost}
-use Rattle.format.specs.Bytes.{if_then_else_, inRange, sameBytes, contains}
+use Rattle.format.specs.Bytes.{if_then_else_, allHold, inRange, sameBytes, contains}
 use Rattle.format.specs.Blocks.{overlapsAny}
 use Rattle.format.specs.Walk.{Walk, ret, refuse}
 use Rattle.format.specs.Heap.{Heap}
@@ -62,7 +62,7 @@ outsideFree h off (fault f) = fault f
 
 -- "A name has 1 to 255 bytes, no '/', and isn't "."."
 unfoldable pub isName : List ℕ → Bool
-isName t = inRange 1 nameMost (length t) && not (contains 0x2f t) && not (sameBytes t (0x2e ∷ []))
+isName t = allHold (inRange 1 nameMost (length t) ∷ not (contains 0x2f t) ∷ not (sameBytes t (0x2e ∷ [])) ∷ [])
 
 abbrev pub wellFormed : Text → Text
 wellFormed (text t) = if isName t then text t else fault badForm
@@ -90,4 +90,4 @@ pub record Bound : Type 0 where
 -- "names under child i are above key i and at most key i+1", for a child on every level above the name
 unfoldable pub within : List Bound → List ℕ → Bool
 within [] t = true
-within (k ∷ ks) t = below (k .low) t && not (below (k .high) t) && within ks t
+within (k ∷ ks) t = allHold (below (k .low) t ∷ not (below (k .high) t) ∷ within ks t ∷ [])

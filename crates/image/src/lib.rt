@@ -1,0 +1,2 @@
+// The image reader: each structure of the file format, read from the image as the walks of the definitions read it.
+pub mod superblock;

@@ -1,0 +1,171 @@
+-- The simulation: what is left of a walk at a place of a function's code. Each law is one step of code against one step of the walk.
+use mathlib.Core.Path.{_≡_, refl, ap, sym, _∙_}
+use mathlib.Core.Bool.{Bool, true, false}
+use mathlib.Core.List.{List, [], _∷_, _++_}
+use Prim.Native.Nat.{ℕ, suc, zero, _+_, _≤_, _<_}
+use native.Mathlib.Omega.{arith}
+use native.Mathlib.Numerals.{add-one}
+use lib.ListN.{length, getD, set, length-append, length-set}
+use lib.Seq.{getD-set-other}
+use Rattle.format.specs.Bytes.{if_then_else_, part}
+use Rattle.format.specs.Blocks.{Block, block, entryAnswer}
+use Rattle.format.specs.Walk.{Kind, shown, Length, fixed, stored, lengthIn, Walk, ret, refuse, enter, enterBlock, check, _>>=_, _>>_, Outcome, done, refused, ifEntered, run, andThen}
+use Rattle.walk.specs.Lent.{blocksOf, Lent, Ended, ended, stopped, endOf, left, Walked, entering, entered, entryEnd}
+use Rattle.walk.specs.declared.blocks.Entry.{Entry}
+use Rattle.walk.specs.declared.blocks.Entry.the-variants.{Entered, Refused}
+use Rattle.walk.proofs.Bind.{run-bind}
+use Rattle.walk.proofs.Growth.{Grown, run-grown}
+use Rattle.walk.proofs.BlockList.{length-blocksOf, blocks-snoc, entered-zero, refused-suc, entryAnswer-zero, entryAnswer-outside}
+
+-- The walk w₀, begun with n₀ blocks in the list ws₀, has come to w, with n blocks in ws.
+pub record Simulation (im : List ℕ) (eof room : ℕ) {A : Type 0} (w₀ : Walk A) (n₀ : ℕ) (ws₀ : List ℕ) (w : Walk A) (n : ℕ) (ws : List ℕ) : Type 0 where
+  pub lent : Lent ws n room
+  pub sameLength : length ws ≡ length ws₀
+  pub grown : n₀ ≤ n
+  pub sameRun : run im eof room w₀ (blocksOf n₀ ws₀) ≡ run im eof room w (blocksOf n ws)
+  pub rest : (k : ℕ) → n + n ≤ k → getD ws k 0 ≡ getD ws₀ k 0
+
+pub start : (im : List ℕ) (eof room : ℕ) {A : Type 0} (w : Walk A) (n : ℕ) (ws : List ℕ) → Lent ws n room → Simulation im eof room w n ws w n ws
+start im eof room w n ws l = record { lent = l; sameLength = refl; grown = omega arith; sameRun = refl; rest = λ k h. refl }
+
+-- a function that returned a value and a count: the outcome is that value with the blocks that the list holds
+pub walked-done : {A : Type 0} (ws ws′ : List ℕ) (a : A) (c : ℕ) (o : Outcome A) → Walked ws ws′ (ended a c) o → o ≡ done a (blocksOf c ws′)
+walked-done ws ws′ a c (done b bs) w =
+    let e : length bs ≡ c = cc (w .answer) in
+    let f : b ≡ a = cc (w .answer) in
+    rw f (ap (done a) (rw e at (sym (w .held))))
+walked-done ws ws′ a c (refused n at bs) w = let z : _≡_ {A = ℕ} 0 1 = cc (w .answer) in absurd (omega arith)
+
+-- a function that stopped has stopped what follows it too
+walked-stopped : {A B : Type 0} (ws ws′ : List ℕ) (n : ℕ) (o : Outcome A) (f : A → List Block → Outcome B) → Walked ws ws′ (stopped n) o → Walked ws ws′ (stopped n) (andThen o f)
+walked-stopped ws ws′ n (done b bs) f w = let z : _≡_ {A = ℕ} 0 1 = cc (w .answer) in absurd (omega arith)
+walked-stopped ws ws′ n (refused m at bs) f w = let e : n ≡ m = cc (w .answer) in record { answer = ap stopped e; held = w .held; rest = w .rest }
+
+module _ {im : List ℕ} {eof room : ℕ} {A : Type 0} {w₀ : Walk A} {n₀ : ℕ} {ws₀ : List ℕ} {n : ℕ} {ws : List ℕ} where
+  -- what is left may be put another way
+  pub same-walk : {w : Walk A} (w′ : Walk A) → w ≡ w′ → Simulation im eof room w₀ n₀ ws₀ w n ws → Simulation im eof room w₀ n₀ ws₀ w′ n ws
+  same-walk w′ e s = record {
+    lent = s .lent;
+    sameLength = s .sameLength;
+    grown = s .grown;
+    sameRun = s .sameRun ∙ ap (λ (x : Walk A). run im eof room x (blocksOf n ws)) e;
+    rest = s .rest;
+  }
+
+  -- the function returns, with a value or with an answer
+  pub returned : {a : A} → Simulation im eof room w₀ n₀ ws₀ (ret a) n ws → Walked ws₀ ws (ended a n) (run im eof room w₀ (blocksOf n₀ ws₀))
+  unfolding run
+  returned {a} s = rw (s .sameRun) (record { answer = ap (ended a) (sym (length-blocksOf n ws)); held = rw length-blocksOf; rest = λ k h. s .rest k (rw length-blocksOf at h) })
+
+  pub refusal : {m at : ℕ} → Simulation im eof room w₀ n₀ ws₀ (refuse m at) n ws → Walked ws₀ ws (stopped m) (run im eof room w₀ (blocksOf n₀ ws₀))
+  unfolding run
+  refusal s = rw (s .sameRun) (record { answer = refl; held = rw length-blocksOf; rest = λ k h. s .rest k (rw length-blocksOf at h) })
+
+  -- a test that passed, and one that failed
+  pub passed : (t : Bool) (m at : ℕ) (f : Unit {0} → Walk A) → t ≡ true → Simulation im eof room w₀ n₀ ws₀ (check t m at >>= f) n ws → Simulation im eof room w₀ n₀ ws₀ (f tt) n ws
+  unfolding _>>=_
+  passed t m at f e s = same-walk (f tt) (rw e) s
+
+  pub failed : (t : Bool) (m at : ℕ) (f : Unit {0} → Walk A) → t ≡ false → Simulation im eof room w₀ n₀ ws₀ (check t m at >>= f) n ws → Walked ws₀ ws (stopped m) (run im eof room w₀ (blocksOf n₀ ws₀))
+  unfolding _>>=_
+  failed t m at f e s = refusal (same-walk (refuse m at) (rw e) s)
+
+  -- a choice that is made
+  pub chosen-then : (t : Bool) (x y : Walk A) → t ≡ true → Simulation im eof room w₀ n₀ ws₀ (if t then x else y) n ws → Simulation im eof room w₀ n₀ ws₀ x n ws
+  chosen-then t x y e s = same-walk x (rw e) s
+
+  pub chosen-else : (t : Bool) (x y : Walk A) → t ≡ false → Simulation im eof room w₀ n₀ ws₀ (if t then x else y) n ws → Simulation im eof room w₀ n₀ ws₀ y n ws
+  chosen-else t x y e s = same-walk y (rw e) s
+
+  -- a callee that enters no block, and whose walk is known to be done or refused
+  pub callee-value : {B : Type 0} (w : Walk B) (f : B → Walk A) (b : B) → w ≡ ret b → Simulation im eof room w₀ n₀ ws₀ (w >>= f) n ws → Simulation im eof room w₀ n₀ ws₀ (f b) n ws
+  unfolding _>>=_
+  callee-value w f b e s = same-walk (f b) (rw e) s
+
+  pub callee-refusal : {B : Type 0} (w : Walk B) (f : B → Walk A) (m at : ℕ) → w ≡ refuse m at → Simulation im eof room w₀ n₀ ws₀ (w >>= f) n ws → Walked ws₀ ws (stopped m) (run im eof room w₀ (blocksOf n₀ ws₀))
+  unfolding _>>=_
+  callee-refusal w f m at e s = refusal (same-walk (refuse m at) (rw e) s)
+
+  -- a block whose prefix, or whose whole, isn't inside
+  pub outside : {v : Kind} {a p : ℕ} {rest : List ℕ → ℕ} {k : List ℕ → Walk A} → eof < a + p → Simulation im eof room w₀ n₀ ws₀ (enter v a (stored p rest) k) n ws →
+      Walked ws₀ ws (stopped 5) (run im eof room w₀ (blocksOf n₀ ws₀))
+  unfolding run
+  outside {v} {a} {p} {rest} {k} h s =
+      let e : run im eof room w₀ (blocksOf n₀ ws₀) ≡ refused 5 a (blocksOf n ws) =
+      s .sameRun ∙ rw (entryAnswer-outside eof room (blocksOf n ws) a (lengthIn im v a (stored p rest)) (omega arith)) in
+      rw e (record { answer = refl; held = rw length-blocksOf; rest = λ k h. s .rest k (rw length-blocksOf at h) })
+
+  -- the function `enter`, called for a block of m bytes
+  module _ {v : Kind} {a : ℕ} {l : Length} {k : List ℕ → Walk A} (m : ℕ) (sized : m ≡ lengthIn im v a l) (ws₁ : List ℕ)
+      (s : Simulation im eof room w₀ n₀ ws₀ (enter v a l k) n ws) (q : ws₁ ≡ entered (entryAnswer eof room (blocksOf n ws) a m) ws n a m) where
+    abbrev answer : ℕ
+    answer = entryAnswer eof room (blocksOf n ws) a m
+
+    pub entered-inside : (c : ℕ) → Entered c ≡ entering answer n → a + m ≤ eof
+    entered-inside c p = entryAnswer-zero eof room (blocksOf n ws) a m (entered-zero answer n c p .0) .0
+
+    pub block-entered : (c : ℕ) → Entered c ≡ entering answer n → Simulation im eof room w₀ n₀ ws₀ (k (shown v (part im a m))) c ws₁
+    unfolding run
+    block-entered c p =
+        let z = entered-zero answer n c p in
+        let y : n < room = rw length-blocksOf at (entryAnswer-zero eof room (blocksOf n ws) a m (z .0) .2) in
+        let w : ws₁ ≡ set (set ws (n + n) a) (n + n + 1) m = rw (z .0) at q in
+        let b : blocksOf c ws₁ ≡ blocksOf n ws ++ (block a m ∷ []) = rw (w, z .1, add-one, add-one) (blocks-snoc a m n (n + n) ws refl (omega (arith, s .lent .lent))) in
+        record {
+          lent = record { counted = omega (arith, z .1); lent = rw w (simp length-set (s .lent .lent)) };
+          sameLength = rw w (simp length-set (s .sameLength));
+          grown = omega (arith, s .grown, z .1);
+          sameRun = s .sameRun ∙ rw (← sized, z .0, b);
+          rest = λ i h.
+              rw w
+              (getD-set-other (set ws (n + n) a) (n + n + 1) i m 0 (omega (arith, z .1))
+              ∙ getD-set-other ws (n + n) i a 0 (omega (arith, z .1))
+              ∙ s .rest i (omega (arith, z .1)));
+        }
+
+    pub block-refused : (x : ℕ) → Refused x ≡ entering answer n → Walked ws₀ ws₁ (stopped x) (run im eof room w₀ (blocksOf n₀ ws₀))
+    unfolding run
+    block-refused x p =
+        let z = refused-suc answer n x p in
+        let w : ws₁ ≡ ws = rw (z .1) at q in
+        let e : run im eof room w₀ (blocksOf n₀ ws₀) ≡ refused (suc (z .0)) a (blocksOf n ws) =
+        (rw (← sized) at (s .sameRun))
+        ∙ ap (λ (y : ℕ). ifEntered y (run im eof room (k (shown v (part im a m))) (blocksOf n ws ++ (block a m ∷ []))) (λ j. refused j a (blocksOf n ws))) (z .1) in
+        rw (e, w) (record { answer = ap stopped (z .2); held = rw length-blocksOf; rest = λ k h. s .rest k (rw length-blocksOf at h) })
+
+  -- a callee that walks w and leaves the list ws₁
+  module _ (ws₁ : List ℕ) where
+    -- it was the last: its return is the function's
+    pub callee-last : {w : Walk A} {r : Ended A} → Simulation im eof room w₀ n₀ ws₀ w n ws → Walked ws ws₁ r (run im eof room w (blocksOf n ws)) → Walked ws₀ ws₁ r (run im eof room w₀ (blocksOf n₀ ws₀))
+    callee-last {w} {r} s h =
+        let d = run-grown im eof room w (blocksOf n ws) (rw length-blocksOf (s .lent .counted)) in
+        let m : n ≤ length (left (run im eof room w (blocksOf n ws))) = omega (arith, simp (length-append, length-blocksOf) at (ap length (d .all))) in
+        rw (s .sameRun) (record { answer = h .answer; held = h .held; rest = λ i b. h .rest i b ∙ s .rest i (omega (arith, m)) })
+
+    module _ {B : Type 0} (w : Walk B) (f : B → Walk A) (s : Simulation im eof room w₀ n₀ ws₀ (w >>= f) n ws) where
+      -- it stopped, and so does the function
+      pub callee-stopped : {x : ℕ} → Walked ws ws₁ (stopped x) (run im eof room w (blocksOf n ws)) → Walked ws₀ ws₁ (stopped x) (run im eof room w₀ (blocksOf n₀ ws₀))
+      callee-stopped {x} h = callee-last s (rw run-bind (walked-stopped ws ws₁ x (run im eof room w (blocksOf n ws)) (λ a cs. run im eof room (f a) cs) h))
+
+      -- it returned a value, and the function goes on
+      pub callee-done : {b : B} {c : ℕ} → length ws₁ ≡ length ws → Walked ws ws₁ (ended b c) (run im eof room w (blocksOf n ws)) → Simulation im eof room w₀ n₀ ws₀ (f b) c ws₁
+      callee-done {b} {c} e h =
+          let o = walked-done ws ws₁ b c _ h in
+          let d = run-grown im eof room w (blocksOf n ws) (rw length-blocksOf (s .lent .counted)) in
+          let m : length (left (run im eof room w (blocksOf n ws))) ≡ c = rw o (length-blocksOf c ws₁) in
+          let m2 : n ≤ length (left (run im eof room w (blocksOf n ws))) = omega (arith, simp (length-append, length-blocksOf) at (ap length (d .all))) in
+          record {
+            lent = record { counted = omega (arith, d .fits, m); lent = omega (arith, s .lent .lent, e) };
+            sameLength = e ∙ s .sameLength;
+            grown = omega (arith, m, m2, s .grown);
+            sameRun = s .sameRun ∙ run-bind im eof room w f (blocksOf n ws) ∙ rw o;
+            rest = λ i k. h .rest i (omega (arith, m)) ∙ s .rest i (omega (arith, m, m2));
+          }
+
+-- a function that only enters a block of m bytes
+pub one-block : (im : List ℕ) (eof room : ℕ) (v : Kind) (a m n : ℕ) (ws ws₁ : List ℕ) (r : Entry) → Lent ws n room →
+    r ≡ entering (entryAnswer eof room (blocksOf n ws) a m) n → ws₁ ≡ entered (entryAnswer eof room (blocksOf n ws) a m) ws n a m →
+    Walked ws ws₁ (entryEnd r) (run im eof room (enterBlock v a m >> ret tt) (blocksOf n ws))
+unfolding _>>=_
+one-block im eof room v a m n ws ws₁ (Entered c) l e q = returned (block-entered m refl ws₁ (start im eof room (enterBlock v a m >> ret tt) n ws l) q c e)
+one-block im eof room v a m n ws ws₁ (Refused x) l e q = block-refused m refl ws₁ (start im eof room (enterBlock v a m >> ret tt) n ws l) q x e

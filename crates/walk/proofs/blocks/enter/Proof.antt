@@ -1,0 +1,106 @@
+-- Each return rewrites with the answer that the tests before it lead to.
+use Prim.Native.Nat.{_+_, _≤_, _<_}
+use mathlib.Core.Path.{_≡_, refl, sym, _∙_}
+use mathlib.Core.Bool.{true, false}
+use lib.ListN.{length, length-set}
+use denote.Ref.{now}
+use Rattle.format.specs.Blocks.{overlapsAny}
+use Rattle.walk.specs.Lent.{blocksOf}
+use Rattle.walk.proofs.BlockList.{length-blocksOf, entryAnswer-outside, entryAnswer-overlap, entryAnswer-full, entryAnswer-open}
+use native.Mathlib.Omega.{arith}
+use borrow.Author.Needs.{needs}
+use Rattle.walk.proofs.blocks.enter.Statement.{statement}
+use Rattle.walk.proofs.blocks.enter.Tie as tie
+
+returns : tie.Need-returns
+returns c =
+    let a = c .before .before .args in
+    let h : a .end-of-file < a .at + a .size = omega arith in
+    rw entryAnswer-outside (refl, refl)
+
+returns-2 : tie.Need-returns-2
+returns-2 c =
+    let a = c .before .before .before .args in
+    let h : a .end-of-file < a .at + a .size = omega arith in
+    rw entryAnswer-outside (refl, refl)
+
+overlaps-requires : tie.Need-overlaps-requires
+overlaps-requires c κs = search needs
+
+same-length : tie.Need-same-length
+same-length c = search needs
+
+returns-3 : tie.Need-returns-3
+returns-3 c =
+    let a = c .before .before .before .before .before .before .args in
+    let h : a .at + a .size ≤ a .end-of-file = omega arith in
+    let k : true ≡ overlapsAny (blocksOf (a .count) (now (a .blocks))) (a .at) (a .size) = sym (c .if3 .taken) ∙ c .before .overlaps .ensures in
+    rw entryAnswer-overlap (refl, refl)
+
+same-length-2 : tie.Need-same-length-2
+same-length-2 c = search needs
+
+returns-4 : tie.Need-returns-4
+returns-4 c =
+    let a = c .before .before .before .before .before .before .before .args in
+    let h : a .at + a .size ≤ a .end-of-file = omega arith in
+    let k : false ≡ overlapsAny (blocksOf (a .count) (now (a .blocks))) (a .at) (a .size) = sym (c .before .if3 .left) ∙ c .before .before .overlaps .ensures in
+    let l : a .room ≤ length (blocksOf (a .count) (now (a .blocks))) = rw length-blocksOf (omega arith) in
+    rw entryAnswer-full (refl, refl)
+
+add-blocks : tie.Need-add-blocks
+add-blocks c = search needs
+
+mul-blocks : tie.Need-mul-blocks
+mul-blocks c = search needs
+
+slice-write-blocks : tie.Need-slice-write-blocks
+slice-write-blocks c = search needs
+
+add-blocks-2 : tie.Need-add-blocks-2
+add-blocks-2 c = search needs
+
+add-blocks-3 : tie.Need-add-blocks-3
+add-blocks-3 c = search needs
+
+mul-blocks-2 : tie.Need-mul-blocks-2
+mul-blocks-2 c = search needs
+
+slice-write-blocks-2 : tie.Need-slice-write-blocks-2
+slice-write-blocks-2 c = simp length-set (omega arith)
+
+add-t12 : tie.Need-add-t12
+add-t12 c = search needs
+
+same-length-3 : tie.Need-same-length-3
+same-length-3 c = search needs
+
+returns-5 : tie.Need-returns-5
+returns-5 c =
+    let a = c .before .before .before .before .before .before .before .args in
+    let h : a .at + a .size ≤ a .end-of-file = omega arith in
+    let k : false ≡ overlapsAny (blocksOf (a .count) (now (a .blocks))) (a .at) (a .size) = sym (c .before .if3 .left) ∙ c .before .before .overlaps .ensures in
+    let l : length (blocksOf (a .count) (now (a .blocks))) < a .room = rw length-blocksOf (omega arith) in
+    rw entryAnswer-open (refl, refl)
+
+pub enter-spec : {M : Type 1} → statement M
+enter-spec =
+    tie.close
+    (tie.spec
+    returns
+    returns-2
+    overlaps-requires
+    same-length
+    returns-3
+    same-length-2
+    returns-4
+    add-blocks
+    mul-blocks
+    slice-write-blocks
+    add-blocks-2
+    add-blocks-3
+    mul-blocks-2
+    slice-write-blocks-2
+    add-t12
+    same-length-3
+    returns-5)

@@ -1,0 +1,88 @@
+// The blocks entered, in a list of words that the caller lends: two words a block, its address and its length.
+ghost use mathlib.Core.Path.{_≡_};
+ghost use Prim.Native.Nat.{_+_, _^_, _<_, _≤_};
+ghost use lib.ListN.{length, replicate};
+ghost use Rattle.format.specs.Blocks.{overlapsAny, entryAnswer, roomOf};
+ghost use Rattle.walk.specs.Lent.{Lent, blocksOf, entering, entered};
+
+// Fills the words with zeros.
+pub fn clear(words: &mut [u64])
+    ensures { λ _. ⌜ now (words .exit) ≡ replicate (length (now (words .entry))) 0 ⌝ }
+{
+    let mut i: usize = 0;
+    while i < words.len() {
+        words[i] = 0;
+        i += 1;
+    }
+}
+
+// How many blocks so many words may hold.
+pub fn room(words: usize) -> usize
+    ensures { λ r. ⌜ r ≡ roomOf words ⌝ }
+{
+    let limits = format::the_limits();
+    let pairs = words / 2;
+    if limits.blocks_most <= pairs {
+        return limits.blocks_most;
+    }
+    pairs
+}
+
+// Whether one of the blocks shares a byte with the `size` bytes at `at`.
+fn overlaps(blocks: &[u64], count: usize, at: u64, size: u64) -> bool
+    requires { ⌜ count + count ≤ length (now blocks) ⌝ }
+    requires { ⌜ at + size < 2 ^ 64 ⌝ }
+    ensures { λ r. ⌜ r ≡ overlapsAny (blocksOf count (now (blocks .entry))) at size ⌝ }
+{
+    let end = at + size;
+    let mut i = 0;
+    while i < count {
+        let b = blocks[i + i];
+        let n = blocks[i + i + 1];
+        if b < end {
+            if at < b {
+                return true;
+            }
+            if at - b < n {
+                return true;
+            }
+        }
+        i += 1;
+    }
+    false
+}
+
+pub enum Entry {
+    Entered(usize),
+    Refused(u8),
+}
+
+// Enters the block of `size` bytes at `at`: 5 if it isn't inside, 6 if it overlaps, 13 if there is no room, or the new count.
+pub fn enter(
+    end_of_file: u64,
+    blocks: &mut [u64],
+    count: usize,
+    room: usize,
+    at: u64,
+    size: u64,
+) -> Entry
+    requires { ⌜ Lent (now blocks) count room ⌝ }
+    ensures { λ r. ⌜ r ≡ entering (entryAnswer «end_of_file» room (blocksOf count (now (blocks .entry))) at size) count ⌝ }
+    ensures { λ r. ⌜ now (blocks .exit) ≡ entered (entryAnswer «end_of_file» room (blocksOf count (now (blocks .entry))) at size) (now (blocks .entry)) count at size ⌝ }
+{
+    if end_of_file < at {
+        return Entry::Refused(5);
+    }
+    if end_of_file - at < size {
+        return Entry::Refused(5);
+    }
+    if overlaps(blocks, count, at, size) {
+        return Entry::Refused(6);
+    }
+    if room <= count {
+        return Entry::Refused(13);
+    }
+    blocks[count + count] = at;
+    blocks[count + count + 1] = size;
+    Entry::Entered(count + 1)
+}
