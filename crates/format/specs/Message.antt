@@ -11,9 +11,8 @@ pub record Message : Type 0 where
   pub type : ℕ
   pub flags : ℕ
   pub body : List ℕ
-  -- the body's place in the image, and the address of the block that holds the message
+  -- where the body begins in the image
   pub place : ℕ
-  pub block : ℕ
 
 -- "Type 0x0000 to 0x0017 decides": stepped over, read, or answer 3
 pub data Treatment : Type 0 where
@@ -40,27 +39,27 @@ allowed notRead = false
 abbrev pub isShared : ℕ → Bool
 isShared flags = eqb (flags / 2 % 2) 1
 
--- The messages that fill the bytes m exactly, behind those read so far; m begins at place in the image, in the block at the address at.
+-- The messages that fill the bytes m exactly, behind those read so far; m begins at place in the image.
 -- "A message: type 2, size 2, flags 1, reserved 3, body; size a multiple of 8. Messages fill each block exactly .. else 10."
 -- The fuel is the number of bytes or more; a message takes eight or more, so it lasts.
-unfoldable pub messages : ℕ → ℕ → ℕ → List ℕ → List Message → Walk (List Message)
-messages zero at place m sofar = check (eqb (length m) 0) 10 at >> ret sofar
-messages (suc fuel) at place m sofar =
+unfoldable pub messages : ℕ → ℕ → List ℕ → List Message → Walk (List Message)
+messages zero place m sofar = check (eqb (length m) 0) 10 >> ret sofar
+messages (suc fuel) place m sofar =
     let type = u16 m 0 in
     let size = u16 m 2 in
     let flags = u8 m 4 in
     let body = part m 8 size in
-    let here : Message = record { type = type; flags = flags; body = body; place = place + 8; block = at } in
-    let rest = messages fuel at (place + 8 + size) (drop (8 + size) m) (sofar ++ (here ∷ [])) in
+    let here : Message = record { type = type; flags = flags; body = body; place = place + 8 } in
+    let rest = messages fuel (place + 8 + size) (drop (8 + size) m) (sofar ++ (here ∷ [])) in
     if eqb (length m) 0 then ret sofar
     else do
-      check (leb 8 (length m)) 10 at
-      check (allowed (treatment type)) 3 at
-      check (eqb (size % 8) 0) 10 at
-      check (leb (8 + size) (length m)) 10 at
-      check (isShared flags implies eqb type 0x0003) 3 at
-      check (inRange 0x0010 0x0011 type implies leb 16 size) 10 at
-      check (eqb type 0x0010 implies leb 8 (u64 body 8)) 10 at
+      check (leb 8 (length m)) 10
+      check (allowed (treatment type)) 3
+      check (eqb (size % 8) 0) 10
+      check (leb (8 + size) (length m)) 10
+      check (isShared flags implies eqb type 0x0003) 3
+      check (inRange 0x0010 0x0011 type implies leb 16 size) 10
+      check (eqb type 0x0010 implies leb 8 (u64 body 8)) 10
       rest
 
 -- the messages of one type, in order
@@ -70,4 +69,4 @@ ofType t (m ∷ ms) = let rest = ofType t ms in if eqb (m .type) t then m ∷ re
 
 -- the first message of a type; where there is none, an empty one
 unfoldable pub theMessage : ℕ → List Message → Message
-theMessage t ms = withFirst (ofType t ms) (record { type = t; flags = 0; body = []; place = 0; block = 0 }) (λ m. m)
+theMessage t ms = withFirst (ofType t ms) (record { type = t; flags = 0; body = []; place = 0 }) (λ m. m)

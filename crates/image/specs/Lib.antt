@@ -1,1 +1,2 @@
 pub mod Superblock
+pub mod Message

@@ -34,12 +34,12 @@ walked-done ws ws′ a c (done b bs) w =
     let e : length bs ≡ c = cc (w .answer) in
     let f : b ≡ a = cc (w .answer) in
     rw f (ap (done a) (rw e at (sym (w .held))))
-walked-done ws ws′ a c (refused n at bs) w = let z : _≡_ {A = ℕ} 0 1 = cc (w .answer) in absurd (omega arith)
+walked-done ws ws′ a c (refused n bs) w = let z : _≡_ {A = ℕ} 0 1 = cc (w .answer) in absurd (omega arith)
 
 -- a function that stopped has stopped what follows it too
 walked-stopped : {A B : Type 0} (ws ws′ : List ℕ) (n : ℕ) (o : Outcome A) (f : A → List Block → Outcome B) → Walked ws ws′ (stopped n) o → Walked ws ws′ (stopped n) (andThen o f)
 walked-stopped ws ws′ n (done b bs) f w = let z : _≡_ {A = ℕ} 0 1 = cc (w .answer) in absurd (omega arith)
-walked-stopped ws ws′ n (refused m at bs) f w = let e : n ≡ m = cc (w .answer) in record { answer = ap stopped e; held = w .held; rest = w .rest }
+walked-stopped ws ws′ n (refused m bs) f w = let e : n ≡ m = cc (w .answer) in record { answer = ap stopped e; held = w .held; rest = w .rest }
 
 module _ {im : List ℕ} {eof room : ℕ} {A : Type 0} {w₀ : Walk A} {n₀ : ℕ} {ws₀ : List ℕ} {n : ℕ} {ws : List ℕ} where
   -- what is left may be put another way
@@ -57,18 +57,18 @@ module _ {im : List ℕ} {eof room : ℕ} {A : Type 0} {w₀ : Walk A} {n₀ : �
   unfolding run
   returned {a} s = rw (s .sameRun) (record { answer = ap (ended a) (sym (length-blocksOf n ws)); held = rw length-blocksOf; rest = λ k h. s .rest k (rw length-blocksOf at h) })
 
-  pub refusal : {m at : ℕ} → Simulation im eof room w₀ n₀ ws₀ (refuse m at) n ws → Walked ws₀ ws (stopped m) (run im eof room w₀ (blocksOf n₀ ws₀))
+  pub refusal : {m : ℕ} → Simulation im eof room w₀ n₀ ws₀ (refuse m) n ws → Walked ws₀ ws (stopped m) (run im eof room w₀ (blocksOf n₀ ws₀))
   unfolding run
   refusal s = rw (s .sameRun) (record { answer = refl; held = rw length-blocksOf; rest = λ k h. s .rest k (rw length-blocksOf at h) })
 
   -- a test that passed, and one that failed
-  pub passed : (t : Bool) (m at : ℕ) (f : Unit {0} → Walk A) → t ≡ true → Simulation im eof room w₀ n₀ ws₀ (check t m at >>= f) n ws → Simulation im eof room w₀ n₀ ws₀ (f tt) n ws
+  pub passed : (t : Bool) (m : ℕ) (f : Unit {0} → Walk A) → t ≡ true → Simulation im eof room w₀ n₀ ws₀ (check t m >>= f) n ws → Simulation im eof room w₀ n₀ ws₀ (f tt) n ws
   unfolding _>>=_
-  passed t m at f e s = same-walk (f tt) (rw e) s
+  passed t m f e s = same-walk (f tt) (rw e) s
 
-  pub failed : (t : Bool) (m at : ℕ) (f : Unit {0} → Walk A) → t ≡ false → Simulation im eof room w₀ n₀ ws₀ (check t m at >>= f) n ws → Walked ws₀ ws (stopped m) (run im eof room w₀ (blocksOf n₀ ws₀))
+  pub failed : (t : Bool) (m : ℕ) (f : Unit {0} → Walk A) → t ≡ false → Simulation im eof room w₀ n₀ ws₀ (check t m >>= f) n ws → Walked ws₀ ws (stopped m) (run im eof room w₀ (blocksOf n₀ ws₀))
   unfolding _>>=_
-  failed t m at f e s = refusal (same-walk (refuse m at) (rw e) s)
+  failed t m f e s = refusal (same-walk (refuse m) (rw e) s)
 
   -- a choice that is made
   pub chosen-then : (t : Bool) (x y : Walk A) → t ≡ true → Simulation im eof room w₀ n₀ ws₀ (if t then x else y) n ws → Simulation im eof room w₀ n₀ ws₀ x n ws
@@ -82,16 +82,16 @@ module _ {im : List ℕ} {eof room : ℕ} {A : Type 0} {w₀ : Walk A} {n₀ : �
   unfolding _>>=_
   callee-value w f b e s = same-walk (f b) (rw e) s
 
-  pub callee-refusal : {B : Type 0} (w : Walk B) (f : B → Walk A) (m at : ℕ) → w ≡ refuse m at → Simulation im eof room w₀ n₀ ws₀ (w >>= f) n ws → Walked ws₀ ws (stopped m) (run im eof room w₀ (blocksOf n₀ ws₀))
+  pub callee-refusal : {B : Type 0} (w : Walk B) (f : B → Walk A) (m : ℕ) → w ≡ refuse m → Simulation im eof room w₀ n₀ ws₀ (w >>= f) n ws → Walked ws₀ ws (stopped m) (run im eof room w₀ (blocksOf n₀ ws₀))
   unfolding _>>=_
-  callee-refusal w f m at e s = refusal (same-walk (refuse m at) (rw e) s)
+  callee-refusal w f m e s = refusal (same-walk (refuse m) (rw e) s)
 
   -- a block whose prefix, or whose whole, isn't inside
   pub outside : {v : Kind} {a p : ℕ} {rest : List ℕ → ℕ} {k : List ℕ → Walk A} → eof < a + p → Simulation im eof room w₀ n₀ ws₀ (enter v a (stored p rest) k) n ws →
       Walked ws₀ ws (stopped 5) (run im eof room w₀ (blocksOf n₀ ws₀))
   unfolding run
   outside {v} {a} {p} {rest} {k} h s =
-      let e : run im eof room w₀ (blocksOf n₀ ws₀) ≡ refused 5 a (blocksOf n ws) =
+      let e : run im eof room w₀ (blocksOf n₀ ws₀) ≡ refused 5 (blocksOf n ws) =
       s .sameRun ∙ rw (entryAnswer-outside eof room (blocksOf n ws) a (lengthIn im v a (stored p rest)) (omega arith)) in
       rw e (record { answer = refl; held = rw length-blocksOf; rest = λ k h. s .rest k (rw length-blocksOf at h) })
 
@@ -128,9 +128,9 @@ module _ {im : List ℕ} {eof room : ℕ} {A : Type 0} {w₀ : Walk A} {n₀ : �
     block-refused x p =
         let z = refused-suc answer n x p in
         let w : ws₁ ≡ ws = rw (z .1) at q in
-        let e : run im eof room w₀ (blocksOf n₀ ws₀) ≡ refused (suc (z .0)) a (blocksOf n ws) =
+        let e : run im eof room w₀ (blocksOf n₀ ws₀) ≡ refused (suc (z .0)) (blocksOf n ws) =
         (rw (← sized) at (s .sameRun))
-        ∙ ap (λ (y : ℕ). ifEntered y (run im eof room (k (shown v (part im a m))) (blocksOf n ws ++ (block a m ∷ []))) (λ j. refused j a (blocksOf n ws))) (z .1) in
+        ∙ ap (λ (y : ℕ). ifEntered y (run im eof room (k (shown v (part im a m))) (blocksOf n ws ++ (block a m ∷ []))) (λ j. refused j (blocksOf n ws))) (z .1) in
         rw (e, w) (record { answer = ap stopped (z .2); held = rw length-blocksOf; rest = λ k h. s .rest k (rw length-blocksOf at h) })
 
   -- a callee that walks w and leaves the list ws₁

@@ -26,12 +26,12 @@ pub data Ended (A : Type 0) : Type 0 where
 -- the end of a run with this outcome
 abbrev pub endOf : {A : Type 0} → Outcome A → Ended A
 endOf (done a bs) = ended a (length bs)
-endOf (refused n at bs) = stopped n
+endOf (refused n bs) = stopped n
 
 -- the blocks of an outcome
 abbrev pub left : {A : Type 0} → Outcome A → List Block
 left (done a bs) = bs
-left (refused n at bs) = bs
+left (refused n bs) = bs
 
 -- a function that was lent ws left ws′ and returned r, as the run's outcome o asks
 pub record Walked {A : Type 0} (ws ws′ : List ℕ) (r : Ended A) (o : Outcome A) : Type 0 where
