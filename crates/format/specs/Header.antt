@@ -18,7 +18,7 @@ continuations zero waiting sofar = refuse 13
 continuations (suc fuel) [] sofar = ret sofar
 continuations (suc fuel) (c ∷ waiting) sofar = do
   b ← enterBlock continuationBlock (u64 (c .body) 0) (u64 (c .body) 8)
-  new ← messages (length b) (u64 (c .body) 0) b []
+  new ← messages (length b) (u64 (c .body) 0) b
   continuations fuel (waiting ++ ofType 0x0010 new) (sofar ++ new)
 
 -- "Object header: version 1 (else 3), reserved, message count 2, reference count 4, size 4, padding 4, then that many bytes of messages
@@ -27,7 +27,7 @@ unfoldable pub headerMessages : ℕ → Walk (List Message)
 headerMessages at = do
   b ← enter headerBlock at (stored 16 (λ p. u32 p 8)) ret
   check (eqb (u8 b 0) 1) 3
-  first ← messages (length b) (at + 16) (drop 16 b) []
+  first ← messages (length b) (at + 16) (drop 16 b)
   all ← continuations blocksMost (ofType 0x0010 first) first
   check (eqb (length all) (u16 b 2)) 10
   ret all

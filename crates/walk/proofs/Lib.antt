@@ -2,6 +2,8 @@ pub mod LittleEndian
 pub mod Overwrite
 pub mod BlockList
 pub mod Tests
+pub mod Checks
+pub mod Parts
 pub mod Bind
 pub mod Plan
 pub mod Disjoint
