@@ -1,1 +1,3 @@
 pub mod SuperblockLaws
+pub mod TreatmentLaws
+pub mod MessageLaws
