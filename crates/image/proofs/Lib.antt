@@ -1,3 +1,4 @@
 pub mod SuperblockLaws
 pub mod TreatmentLaws
 pub mod MessageLaws
+pub mod TallyLaws
