@@ -2,3 +2,4 @@ pub mod SuperblockLaws
 pub mod TreatmentLaws
 pub mod MessageLaws
 pub mod TallyLaws
+pub mod ScanLaws

@@ -1,3 +1,4 @@
 pub mod Superblock
 pub mod Message
 pub mod Tally
+pub mod Scan
