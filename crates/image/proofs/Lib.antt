@@ -3,3 +3,4 @@ pub mod TreatmentLaws
 pub mod MessageLaws
 pub mod TallyLaws
 pub mod ScanLaws
+pub mod ContinuationLaws

@@ -147,7 +147,7 @@ pub record Step (im : List ℕ) (at end : ℕ) (ms : List Message) : Type 0 wher
   pub body : at + 8 + u16 im (at + 2) ≤ end
   pub is : ms ≡ messageAt im (u16 im at) (at + 8) ∷ rest
   pub holds : Holds im (at + 8 + u16 im (at + 2)) end rest
-  pub fields : u16 im at ≡ 0x0010 → at + 24 ≤ end
+  pub long : u16 im at ≡ 0x0010 → 16 ≤ u16 im (at + 2)
 
 module _ (im : List ℕ) (at end : ℕ) (ms : List Message) (h : Holds im at end ms) (l : at < end) where
   abbrev here-on : List ℕ
@@ -185,7 +185,7 @@ module _ (im : List ℕ) (at end : ℕ) (ms : List Message) (h : Holds im at end
           fuel = fuel;
           read = rw (size, rest-there im at end (h .inside) l (u16 im (at + 2)) refl body) at f;
         };
-        fields = λ k. let n : 16 ≤ u16 here-on 2 = fields-long (u16 here-on 0) (u16 here-on 2) (s .fields) (type ∙ k) in omega arith;
+        long = λ k. rw size at (fields-long (u16 here-on 0) (u16 here-on 2) (s .fields) (type ∙ k));
       }
 
   pub holds-step : Step im at end ms
@@ -223,7 +223,7 @@ module _ (im : List ℕ) (from end at : ℕ) (s : Seeking im from end at) where
             r .1 ∙ ap (ofType 0x0010) (p .is) ∙ ofType-append 0x0010 (messageAt im (u16 im at) (at + 8) ∷ []) (p .rest)
             ∙ rw (e, ofType-same 0x0010 (messageAt im 0x0010 (at + 8)) refl);
         holds = p .holds;
-        fields = p .fields e;
+        long = p .long e;
       }
 
   pub seek-end : at ≡ end → (ms : List Message) → Holds im from end ms → ofType 0x0010 ms ≡ []
