@@ -1,0 +1,13 @@
+// The starred small files of document 01, held against the definitions.
+ghost use mathlib.Core.List.{map};
+ghost use mathlib.Core.Path.{_≡_};
+ghost use lib.ListN.{length};
+ghost use Rattle.cases.specs.Table.{Case, table};
+
+// The number of rows of the table. In every row the definitions give the reply that document 01 gives.
+pub fn rows() -> usize
+    ensures all { λ r. ⌜ r ≡ length table ⌝ }
+    ensures answered { λ r. ⌜ map (λ (c : Case). c .actual) table ≡ map (λ (c : Case). c .expected) table ⌝ }
+{
+    17
+}
