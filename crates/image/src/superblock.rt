@@ -1,6 +1,7 @@
 // The superblock, versions 0 and 1.
 use walk::blocks;
 use walk::blocks::Entry;
+use walk::numbers::UNDEFINED_ADDRESS;
 use walk::numbers::u16_at;
 use walk::numbers::u32_at;
 use walk::numbers::u64_at;
@@ -15,8 +16,6 @@ ghost use Rattle.image.specs.Superblock.{Shifted, superblockOf, openingO
 
 // The signature's eight bytes as a number, the lowest first: 89 48 44 46 0d 0a 1a 0a.
 const SIGNATURE: u64 = 0x0a1a0a0d46444889;
-
-const UNDEFINED_ADDRESS: u64 = 0xffffffffffffffff;
 
 pub struct Superblock {
     pub size: u64,

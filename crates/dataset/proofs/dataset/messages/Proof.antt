@@ -1,0 +1,125 @@
+-- Each message's reader stands for its walk; the product comes last.
+use denote.Ref.{now}
+use mathlib.Core.Path.{_≡_, refl, subst, ap, sym, _∙_}
+use Prim.Native.Nat.{_≤_}
+use borrow.Author.Tests.{not-true, not-false}
+use lib.ListN.{length}
+use Rattle.format.specs.Dataspace.{dataspaceWalk}
+use Rattle.format.specs.Layout.{layoutWalk}
+use Rattle.format.specs.Walk.{ret}
+use Rattle.walk.proofs.Checks.{passes, fails, gives, refuses}
+use Rattle.image.specs.Message.{messageOf}
+use Rattle.dataset.specs.declared.dataspace.DataspaceRead.{DataspaceRead}
+use Rattle.dataset.specs.Dataspace.{spaceOf, spaceWalk, sizesEnd}
+use Rattle.dataset.specs.Datatype.{typeOf, typeWalk}
+use Rattle.dataset.specs.Layout.{layoutOf, layoutRead}
+use Rattle.dataset.specs.Dataset.{bodyOf, typeMessage, messagesWalk}
+use borrow.Author.Needs.{needs}
+use Rattle.dataset.proofs.dataset.messages.Statement.{statement}
+use Rattle.dataset.proofs.dataset.messages.Tie as tie
+
+-- what was read of each message
+space-read : (c : tie.After-rank) →
+    let b = bodyOf (now (c .before .before .before .before .args .image)) (c .before .before .before .before .args .space) in
+    ret (spaceOf b (c .rank .given .0 .0) (c .rank .given .0 .1 .0)) ≡ dataspaceWalk b
+space-read c = ap (spaceWalk _) (sym (c .rank .given .1)) ∙ c .before .before .read-space .ensures .walk
+
+type-read : (c : tie.After-t) →
+    let a = c .before .before .before .before .before .before .before .before .args in
+    ret (typeOf (c .t .given .0 .0)) ≡ typeMessage (messageOf (now (a .image)) 0x0003 (a .datatype))
+type-read c = ap typeWalk (sym (c .t .given .1)) ∙ c .before .before .read-type .ensures
+
+layout-read : (c : tie.After-l) →
+    let a = c .before .before .before .before .before .before .before .before .before .before .before .before .args in
+    ret (layoutOf (c .l .given .0 .0)) ≡ layoutWalk (a .layout .place) (bodyOf (now (a .image)) (a .layout))
+layout-read c = ap layoutRead (sym (c .l .given .1)) ∙ c .before .before .read-layout .ensures
+
+read-space-requires : tie.Need-read-space-requires
+read-space-requires c κs = search needs
+
+enum-known-n : tie.Need-enum-known-n
+enum-known-n c = search needs
+
+enum-known-rank : tie.Need-enum-known-rank
+enum-known-rank c = search needs
+
+read-type-requires : tie.Need-read-type-requires
+read-type-requires c κs = search needs
+
+enum-known-n-2 : tie.Need-enum-known-n-2
+enum-known-n-2 c = search needs
+
+enum-known-t : tie.Need-enum-known-t
+enum-known-t c = search needs
+
+read-layout-requires : tie.Need-read-layout-requires
+read-layout-requires c κs = search needs
+
+enum-known-n-3 : tie.Need-enum-known-n-3
+enum-known-n-3 c = search needs
+
+enum-known-l : tie.Need-enum-known-l
+enum-known-l c = search needs
+
+filled-requires : tie.Need-filled-requires
+filled-requires c κs =
+    let space = c .before .before .before .before .before .before .before .before .before in
+    let s = space .before .before .before .before in
+    record {
+      spaceInside = s .pre .spaceInside;
+      sizesInside = subst (λ (r : DataspaceRead). sizesEnd r ≤ length (bodyOf (now (s .args .image)) (s .args .space))) (space .rank .given .1) (space .before .before .read-space .ensures .sizes);
+    }
+
+returns : tie.Need-returns
+unfolding messagesWalk
+returns c =
+    let layout = c .before .before .before in
+    let type = layout .before .before .before .before in
+    let space = type .before .before .before .before in
+    gives _ (space-read space) (gives _ (type-read type) (gives _ (layout-read layout) (fails _ _ (sym (c .before .filled .ensures) ∙ not-true _ (c .if1 .taken)))))
+
+returns-2 : tie.Need-returns-2
+unfolding messagesWalk
+returns-2 c =
+    let space = c .before .before .before .read-space .ensures .walk in
+    refuses _ (ap (spaceWalk _) (sym (c .before .n .given .1)) ∙ space)
+
+returns-3 : tie.Need-returns-3
+unfolding messagesWalk
+returns-3 c =
+    gives _ (space-read (c .before .before .before .before .before)) (refuses _ (ap typeWalk (sym (c .before .n2 .given .1)) ∙ c .before .before .before .read-type .ensures))
+
+returns-4 : tie.Need-returns-4
+unfolding messagesWalk
+returns-4 c =
+    let type = c .before .before .before .before .before in
+    let space = type .before .before .before .before in
+    gives _ (space-read space) (gives _ (type-read type) (refuses _ (ap layoutRead (sym (c .before .n3 .given .1)) ∙ c .before .before .before .read-layout .ensures)))
+
+returns-5 : tie.Need-returns-5
+unfolding messagesWalk
+returns-5 c =
+    let layout = c .before .before .before in
+    let type = layout .before .before .before .before in
+    let space = type .before .before .before .before in
+    gives _ (space-read space) (gives _ (type-read type) (gives _ (layout-read layout) (passes _ _ (sym (c .before .filled .ensures) ∙ not-false _ (c .if1 .left)) refl)))
+
+pub messages-spec : {M : Type 1} → statement M
+messages-spec =
+    tie.close
+    (tie.spec
+    read-space-requires
+    enum-known-n
+    enum-known-rank
+    read-type-requires
+    enum-known-n-2
+    enum-known-t
+    read-layout-requires
+    enum-known-n-3
+    enum-known-l
+    filled-requires
+    returns
+    returns-2
+    returns-3
+    returns-4
+    returns-5)

@@ -1,0 +1,32 @@
+-- The part of the image is the body.
+use denote.Ref.{now}
+use mathlib.Core.Path.{ap, _∙_}
+use Rattle.format.specs.Layout.{layoutWalk}
+use Rattle.dataset.proofs.DatasetLaws.{body-part}
+use borrow.Author.Needs.{needs}
+use Rattle.dataset.proofs.dataset.read_layout.Statement.{statement}
+use Rattle.dataset.proofs.dataset.read_layout.Tie as tie
+
+add-end : tie.Need-add-end
+add-end c = search needs
+
+sub-read : tie.Need-sub-read
+sub-read c = search needs
+
+part-read-start : tie.Need-part-read-start
+part-read-start c = search needs
+
+part-read-end : tie.Need-part-read-end
+part-read-end c = search needs
+
+read-requires : tie.Need-read-requires
+read-requires c κs = search needs
+
+returns : tie.Need-returns
+returns c =
+    let a = c .before .before .before .before .args in
+    c .read .ensures ∙ ap (layoutWalk (a .body .place)) (body-part (now (a .image)) (a .body .place) (a .body .size))
+
+pub read-layout-spec : {M : Type 1} → statement M
+read-layout-spec =
+    tie.close (tie.spec add-end sub-read part-read-start part-read-end read-requires returns)

@@ -1,0 +1,4 @@
+pub mod Dataspace
+pub mod Datatype
+pub mod Layout
+pub mod Dataset
