@@ -52,6 +52,13 @@ fn overlaps(blocks: &[u64], count: usize, at: u64, size: u64) -> bool
     false
 }
 
+// The answers of document 01 to a block that can't be entered.
+const OUTSIDE: u8 = 5;
+
+const OVERLAP: u8 = 6;
+
+const NO_ROOM: u8 = 13;
+
 pub enum Entry {
     Entered(usize),
     Refused(u8),
@@ -71,16 +78,16 @@ pub fn enter(
     ensures { λ r. ⌜ now (blocks .exit) ≡ entered (entryAnswer «end_of_file» room (blocksOf count (now (blocks .entry))) at size) (now (blocks .entry)) count at size ⌝ }
 {
     if end_of_file < at {
-        return Entry::Refused(5);
+        return Entry::Refused(OUTSIDE);
     }
     if end_of_file - at < size {
-        return Entry::Refused(5);
+        return Entry::Refused(OUTSIDE);
     }
     if overlaps(blocks, count, at, size) {
-        return Entry::Refused(6);
+        return Entry::Refused(OVERLAP);
     }
     if room <= count {
-        return Entry::Refused(13);
+        return Entry::Refused(NO_ROOM);
     }
     blocks[count + count] = at;
     blocks[count + count + 1] = size;
