@@ -1,0 +1,3 @@
+// The table of objects: each address met, in order of discovery, with the number of hard links that give it.
+pub mod report;
+pub mod table;
