@@ -41,6 +41,17 @@ walked-stopped : {A B : Type 0} (ws ws′ : List ℕ) (n : ℕ) (o : Outcome A) 
 walked-stopped ws ws′ n (done b bs) f w = let z : _≡_ {A = ℕ} 0 1 = cc (w .answer) in absurd (omega arith)
 walked-stopped ws ws′ n (refused m bs) f w = let e : n ≡ m = cc (w .answer) in record { answer = ap stopped e; held = w .held; rest = w .rest }
 
+-- one stretch of the walk behind another
+pub come-from : {im : List ℕ} {eof room : ℕ} {A : Type 0} {w₀ w₁ w₂ : Walk A} {n₀ n₁ n₂ : ℕ} {ws₀ ws₁ ws₂ : List ℕ} →
+    Simulation im eof room w₀ n₀ ws₀ w₁ n₁ ws₁ → Simulation im eof room w₁ n₁ ws₁ w₂ n₂ ws₂ → Simulation im eof room w₀ n₀ ws₀ w₂ n₂ ws₂
+come-from s u = record {
+  lent = u .lent;
+  sameLength = u .sameLength ∙ s .sameLength;
+  grown = omega (arith, s .grown, u .grown);
+  sameRun = s .sameRun ∙ u .sameRun;
+  rest = λ k h. u .rest k h ∙ s .rest k (omega (arith, u .grown));
+}
+
 module _ {im : List ℕ} {eof room : ℕ} {A : Type 0} {w₀ : Walk A} {n₀ : ℕ} {ws₀ : List ℕ} {n : ℕ} {ws : List ℕ} where
   -- what is left may be put another way
   pub same-walk : {w : Walk A} (w′ : Walk A) → w ≡ w′ → Simulation im eof room w₀ n₀ ws₀ w n ws → Simulation im eof room w₀ n₀ ws₀ w′ n ws

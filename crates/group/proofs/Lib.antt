@@ -1,0 +1,4 @@
+pub mod NodeLaws
+pub mod SymbolLaws
+pub mod TreeLaws
+pub mod GroupLaws

@@ -1,0 +1,66 @@
+// A whole group: its heap, then its tree.
+use crate::tree;
+use heap::segment;
+use heap::segment::HeapRead;
+use symbol::entry::Group;
+use symbol::entry::State;
+use symbol::entry::Step;
+use symbol::range::Name;
+use symbol::visit::Link;
+ghost use Rattle.group.specs.Group.{Settings, Ready, GroupIs};
+
+// The group with the tree and the heap at these addresses, for the audit or for a lookup of `wanted`.
+pub fn read(
+    image: &[u8],
+    wanted: &[u8],
+    list: &mut [u64],
+    addresses: &mut [u64],
+    counts: &mut [u32],
+    end_of_file: u64,
+    room: usize,
+    leaf_k: u64,
+    internal_k: u64,
+    auditing: bool,
+    tree: u64,
+    heap: u64,
+    count: usize,
+    objects: usize,
+) -> Step
+    requires { ⌜ Settings (now image) «end_of_file» room «leaf_k» «internal_k» ⌝ }
+    requires { ⌜ Ready (now list) (now addresses) (now counts) room count objects ⌝ }
+    ensures { λ r. ⌜ GroupIs (now (image .entry)) (now (wanted .entry)) (now (list .entry)) (now (addresses .entry)) (now (counts .entry)) «end_of_file» room «leaf_k» «internal_k» auditing tree heap count objects (now (list .exit)) (now (addresses .exit)) (now (counts .exit)) r ⌝ }
+{
+    match segment::read(image, end_of_file, list, count, room, heap) {
+        HeapRead::Stopped(x) => Step::Stopped(x),
+        HeapRead::Read(h, c) => {
+            let start = h.segment;
+            let end = start + h.size;
+            let group = Group {
+                end_of_file,
+                room,
+                leaf_k,
+                internal_k,
+                head: h.head,
+                free: h.free,
+                auditing,
+            };
+            let state = State {
+                count: c,
+                objects,
+                last: Name { at: 0, size: 0 },
+                link: Link::Absent,
+            };
+            tree::tree(
+                image,
+                &image[start..end],
+                wanted,
+                list,
+                addresses,
+                counts,
+                group,
+                tree,
+                state,
+            )
+        }
+    }
+}

@@ -1,0 +1,184 @@
+// The descent over a group's tree.
+use crate::node;
+use crate::node::BranchRead;
+use crate::node::NodeRead;
+use crate::symbols;
+use symbol::entry::Group;
+use symbol::entry::State;
+use symbol::entry::Step;
+use symbol::key::key_at;
+use symbol::range;
+use symbol::range::Name;
+use symbol::range::Range;
+use walk::numbers::u16_at;
+use walk::numbers::u64_at;
+ghost use Prim.Native.Nat.{ℕ, _+_, _≤_};
+ghost use lib.ListN.{length};
+ghost use Rattle.symbol.specs.Range.{RangeInside};
+ghost use Rattle.symbol.specs.Key.{KeyAt};
+ghost use Rattle.group.specs.Tree.{Fixed, Sound, Descending, ChildRange, SubtreeIs, HeightAt, TreeIs};
+
+// The range of a child: between the key at `at` and the one behind the child's address.
+fn child_range(image: &[u8], segment: &[u8], range: Range, at: usize) -> Range
+    requires { ⌜ RangeInside (now segment) range ⌝ }
+    requires { ⌜ KeyAt (now image) (now segment) at ⌝ }
+    requires { ⌜ KeyAt (now image) (now segment) (at + 16) ⌝ }
+    ensures { λ r. ⌜ ChildRange (now (image .entry)) (now (segment .entry)) range at r ⌝ }
+{
+    let low = key_at(image, segment, at);
+    let high = key_at(image, segment, at + 16);
+    range::narrowed(segment, range, low, high)
+}
+
+// What hangs below a node: at height 0 a symbol table node, at any other height a node of a level one lower.
+pub fn subtree(
+    image: &[u8],
+    segment: &[u8],
+    wanted: &[u8],
+    list: &mut [u64],
+    addresses: &mut [u64],
+    counts: &mut [u32],
+    group: Group,
+    range: Range,
+    height: u64,
+    at: u64,
+    state: State,
+) -> Step
+    requires { ⌜ Descending (now image) (now segment) (now list) (now addresses) (now counts) group range state ⌝ }
+    ensures { λ r. ⌜ SubtreeIs (now (image .entry)) (now (segment .entry)) (now (wanted .entry)) (now (list .entry)) (now (addresses .entry)) (now (counts .entry)) group range height at state (now (list .exit)) (now (addresses .exit)) (now (counts .exit)) r ⌝ }
+{
+    if height == 0 {
+        return symbols::symbol_node(
+            image,
+            segment,
+            wanted,
+            list,
+            addresses,
+            counts,
+            group,
+            range,
+            at,
+            state,
+        );
+    }
+    match node::read_branch(image, segment, list, group, state.count, height - 1, at) {
+        BranchRead::Stopped(x) => Step::Stopped(x),
+        BranchRead::Read { entries, count } => {
+            let objects = state.objects;
+            let last = state.last;
+            let link = state.link;
+            let mut s = State {
+                count,
+                objects,
+                last,
+                link,
+            };
+            let from = at as usize + 24;
+            let mut i: usize = 0;
+            while i < entries {
+                let here = from + 16 * i;
+                let inner = child_range(image, segment, range, here);
+                let child = u64_at(image, here + 8);
+                match subtree(
+                    image,
+                    segment,
+                    wanted,
+                    list,
+                    addresses,
+                    counts,
+                    group,
+                    inner,
+                    height - 1,
+                    child,
+                    s,
+                ) {
+                    Step::Stopped(x) => return Step::Stopped(x),
+                    Step::Done(next) => {
+                        s = next;
+                        i += 1;
+                    }
+                }
+            }
+            Step::Done(s)
+        }
+    }
+}
+
+// The height of a root with entries; 0 for an empty one, and where it doesn't lie inside the image: then reading it answers.
+fn root_height(image: &[u8], at: u64) -> u64
+    ensures { λ r. ⌜ HeightAt (now (image .entry)) at r ⌝ }
+{
+    let place = at as usize;
+    if image.len() < 32 {
+        return 0;
+    }
+    if image.len() - 32 < place {
+        return 0;
+    }
+    if u16_at(image, place + 6) == 0 {
+        return 0;
+    }
+    let level = image[place + 5];
+    level as u64 + 1
+}
+
+// The whole tree, from its root. A root with entries is a subtree of its own level; an empty one has level 0.
+pub fn tree(
+    image: &[u8],
+    segment: &[u8],
+    wanted: &[u8],
+    list: &mut [u64],
+    addresses: &mut [u64],
+    counts: &mut [u32],
+    group: Group,
+    at: u64,
+    state: State,
+) -> Step
+    requires { ⌜ Fixed (now image) (now segment) group ⌝ }
+    requires { ⌜ Sound (now segment) (now list) (now addresses) (now counts) group state ⌝ }
+    ensures { λ r. ⌜ TreeIs (now (image .entry)) (now (segment .entry)) (now (wanted .entry)) (now (list .entry)) (now (addresses .entry)) (now (counts .entry)) group at state (now (list .exit)) (now (addresses .exit)) (now (counts .exit)) r ⌝ }
+{
+    let height = root_height(image, at);
+    if height != 0 {
+        let none = Name { at: 0, size: 0 };
+        let range = Range {
+            bounded: false,
+            low: none,
+            high: none,
+        };
+        return subtree(
+            image,
+            segment,
+            wanted,
+            list,
+            addresses,
+            counts,
+            group,
+            range,
+            height,
+            at,
+            state,
+        );
+    }
+    match node::read_node(image, list, group, state.count, at) {
+        NodeRead::Stopped(x) => Step::Stopped(x),
+        NodeRead::Read {
+            level,
+            entries: _,
+            count,
+        } => {
+            if level != 0 {
+                return Step::Stopped(8);
+            }
+            let objects = state.objects;
+            let last = state.last;
+            let link = state.link;
+            Step::Done(State {
+                count,
+                objects,
+                last,
+                link,
+            })
+        }
+    }
+}

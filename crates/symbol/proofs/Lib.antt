@@ -1,0 +1,4 @@
+pub mod RangeLaws
+pub mod KeyLaws
+pub mod VisitLaws
+pub mod EntryLaws

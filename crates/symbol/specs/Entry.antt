@@ -1,0 +1,78 @@
+-- What reading the entries of a symbol table node returns.
+use Prim.Native.Nat.{ℕ, _+_, _*_, _^_, _≤_, _<_}
+use mathlib.Core.List.{List, []}
+use mathlib.Core.Path.{_≡_}
+use lib.ListN.{length}
+use Rattle.format.specs.Bytes.{part, littleEndian, u64}
+use Rattle.format.specs.Walk.{Walk, ret, refuse}
+use Rattle.format.specs.Names.{Bound, nameText, text}
+use Rattle.format.specs.Symbols.{GroupState, valueWalk, entryWalk, entries}
+use Rattle.heap.specs.FreeBlocks.{Chained}
+use Rattle.heap.specs.Segment.{chainedHeap}
+use Rattle.ledger.specs.Links.{linkSum}
+use Rattle.ledger.specs.Table.{linkedOf, Table}
+use Rattle.symbol.specs.Range.{NameInside, RangeInside, nameIn, Tight}
+use Rattle.symbol.specs.Visit.{Both, visitBoth, bothOf}
+use Rattle.symbol.specs.declared.range.Name.{Name}
+use Rattle.symbol.specs.declared.range.Range.{Range}
+use Rattle.symbol.specs.declared.entry.Group.{Group}
+use Rattle.symbol.specs.declared.entry.State.{State}
+use Rattle.symbol.specs.declared.entry.Step.{Step}
+use Rattle.symbol.specs.declared.entry.Step.the-variants.{Done, Stopped}
+use Rattle.symbol.specs.declared.entry.Value.{Value}
+use Rattle.symbol.specs.declared.entry.Value.the-variants.{Sound, Unsound}
+
+-- the group as the definitions have it, with the visit for both uses
+abbrev pub groupOf : List ℕ → List ℕ → Group → Rattle.format.specs.Symbols.Group Both
+groupOf seg wanted g = record { leafK = g .«leaf_k»; internalK = g .«internal_k»; heap = chainedHeap seg (g .head) (g .free); visit = visitBoth (g .auditing) wanted }
+
+abbrev pub stateOf : List ℕ → List ℕ → List ℕ → State → GroupState Both
+stateOf seg addresses counts s = record { last = nameIn seg (s .last); found = bothOf addresses counts (s .objects) (s .link) }
+
+abbrev pub stepOf : List ℕ → List ℕ → List ℕ → Step → Walk (GroupState Both)
+stepOf seg addresses counts (Done s) = ret (stateOf seg addresses counts s)
+stepOf seg addresses counts (Stopped n) = refuse n
+
+abbrev pub valueOf : Value → Walk (Unit {0})
+valueOf Sound = ret tt
+valueOf (Unsound n) = refuse n
+
+-- a value was read as its walk reads it, where the entry's type is this one
+abbrev pub ValueIs : List ℕ → List ℕ → ℕ → ℕ → ℕ → ℕ → Value → Type 0
+ValueIs im seg head free kind at r =
+    (m : ℕ) → 40 ≤ m → at + m ≤ length im → kind ≡ littleEndian (part (part im at m) 16 4) → valueOf r ≡ valueWalk (chainedHeap seg head free) (part im at m)
+
+-- what holds at an entry: the free list can be followed, the strings lie in the segment, and the table is one
+pub record Ready (seg addresses counts : List ℕ) (g : Group) (r : Range) (s : State) : Type 0 where
+  pub chained : Chained (g .free) seg (g .head)
+  pub range : RangeInside seg r
+  pub last : NameInside seg (s .last)
+  pub table : Table addresses counts (s .objects)
+
+-- the entry's name is sound, and it is this one
+pub record NameSound (im seg : List ℕ) (g : Group) (at : ℕ) (n : Name) : Type 0 where
+  pub inside : NameInside seg n
+  pub is : nameText (chainedHeap seg (g .head) (g .free)) (u64 im at) ≡ text (nameIn seg n)
+
+-- the state after a step is as good as the one before, with so many links more at most
+pub record Kept (seg addresses counts : List ℕ) (s : State) (n : ℕ) (addresses′ counts′ : List ℕ) (s′ : State) : Type 0 where
+  pub blocks : s′ .count ≡ s .count
+  pub last : NameInside seg (s′ .last)
+  pub table : Table addresses′ counts′ (s′ .objects)
+  pub links : linkSum (linkedOf (s′ .objects) addresses′ counts′) ≤ linkSum (linkedOf (s .objects) addresses counts) + n
+
+abbrev pub KeptIf : List ℕ → List ℕ → List ℕ → State → ℕ → List ℕ → List ℕ → Step → Type 0
+KeptIf seg addresses counts s n addresses′ counts′ (Done s′) = Kept seg addresses counts s n addresses′ counts′ s′
+KeptIf seg addresses counts s n addresses′ counts′ (Stopped x) = Unit {0}
+
+-- the entry at `at` was read as its walk reads it, from any part of the image that holds it
+pub record EntryIs (im seg wanted addresses counts : List ℕ) (g : Group) (r : Range) (at : ℕ) (s : State) (addresses′ counts′ : List ℕ) (x : Step) : Type 0 where
+  pub walk : (bounds : List Bound) (m : ℕ) → Tight seg r bounds → 40 ≤ m → at + m ≤ length im →
+      stepOf seg addresses′ counts′ x ≡ entryWalk (groupOf seg wanted g) bounds (part im at m) (stateOf seg addresses counts s)
+  pub kept : KeptIf seg addresses counts s 1 addresses′ counts′ x
+
+-- n entries were read as their walk reads them
+pub record EntriesAre (im seg wanted addresses counts : List ℕ) (g : Group) (r : Range) (from n : ℕ) (s : State) (addresses′ counts′ : List ℕ) (x : Step) : Type 0 where
+  pub walk : (bounds : List Bound) (m : ℕ) → Tight seg r bounds → 40 * n ≤ m → from + m ≤ length im →
+      stepOf seg addresses′ counts′ x ≡ entries (groupOf seg wanted g) bounds n (part im from m) (stateOf seg addresses counts s)
+  pub kept : KeptIf seg addresses counts s n addresses′ counts′ x

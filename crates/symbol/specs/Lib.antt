@@ -1,0 +1,4 @@
+pub mod Range
+pub mod Key
+pub mod Visit
+pub mod Entry

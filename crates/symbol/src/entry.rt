@@ -1,0 +1,207 @@
+// The entries of a symbol table node.
+use crate::key::fault_number;
+use crate::range;
+use crate::range::Name;
+use crate::range::Range;
+use crate::visit;
+use crate::visit::Link;
+use crate::visit::Visit;
+use heap::names;
+use heap::names::Text;
+use walk::numbers::u32_at;
+use walk::numbers::u64_at;
+ghost use Prim.Native.Nat.{_+_, _*_, _^_, _≤_, _<_};
+ghost use lib.ListN.{length};
+ghost use Rattle.heap.specs.FreeBlocks.{Chained};
+ghost use Rattle.ledger.specs.Links.{linkSum};
+ghost use Rattle.ledger.specs.Table.{linkedOf};
+ghost use Rattle.symbol.specs.Entry.{ValueIs, Ready, NameSound, EntryIs, EntriesAre};
+
+// What stays the same over the whole descent.
+pub struct Group {
+    pub end_of_file: u64,
+    pub room: usize,
+    pub leaf_k: u64,
+    pub internal_k: u64,
+    pub head: u64,
+    pub free: usize,
+    pub auditing: bool,
+}
+
+// What the descent has come to: the blocks entered, the objects in the table, the last name, and a lookup's answer.
+pub struct State {
+    pub count: usize,
+    pub objects: usize,
+    pub last: Name,
+    pub link: Link,
+}
+
+pub enum Step {
+    Done(State),
+    Stopped(u8),
+}
+
+pub enum Value {
+    Sound,
+    Unsound(u8),
+}
+
+// A symbolic link's value, at the heap offset in the first 4 scratch bytes; a hard link has none.
+fn check_value(image: &[u8], segment: &[u8], head: u64, free: usize, kind: u64, at: usize) -> Value
+    requires { ⌜ at + 40 ≤ length (now image) ⌝ }
+    requires { ⌜ Chained free (now segment) head ⌝ }
+    ensures { λ r. ⌜ ValueIs (now (image .entry)) (now (segment .entry)) head free kind at r ⌝ }
+{
+    if kind != 2 {
+        return Value::Sound;
+    }
+    match names::value(segment, head, free, u32_at(image, at + 24)) {
+        Text::Fault(f) => Value::Unsound(fault_number(f)),
+        Text::Sound(_) => Value::Sound,
+    }
+}
+
+// An entry whose name is sound: its place among names and keys, its type, its value, and the visit.
+fn named_entry(
+    image: &[u8],
+    segment: &[u8],
+    wanted: &[u8],
+    addresses: &mut [u64],
+    counts: &mut [u32],
+    group: Group,
+    range: Range,
+    at: usize,
+    name: Name,
+    state: State,
+) -> Step
+    requires { ⌜ at + 40 ≤ length (now image) ⌝ }
+    requires { ⌜ Ready (now segment) (now addresses) (now counts) group range state ⌝ }
+    requires { ⌜ linkSum (linkedOf (state .objects) (now addresses) (now counts)) + 1 < 2 ^ 32 ⌝ }
+    requires { ⌜ NameSound (now image) (now segment) group at name ⌝ }
+    ensures { λ r. ⌜ EntryIs (now (image .entry)) (now (segment .entry)) (now (wanted .entry)) (now (addresses .entry)) (now (counts .entry)) group range at state (now (addresses .exit)) (now (counts .exit)) r ⌝ }
+{
+    let last = state.last;
+    if !range::name_below(segment, last, name) {
+        return Step::Stopped(8);
+    }
+    if !range::holds(segment, range, name) {
+        return Step::Stopped(8);
+    }
+    let kind = u32_at(image, at + 16);
+    if 2 < kind {
+        return Step::Stopped(8);
+    }
+    match check_value(image, segment, group.head, group.free, kind, at) {
+        Value::Unsound(n) => Step::Stopped(n),
+        Value::Sound => {
+            let from = name.at;
+            let end = from + name.size;
+            let header = u64_at(image, at + 8);
+            let link = state.link;
+            let objects = state.objects;
+            let auditing = group.auditing;
+            match visit::visit_entry(
+                addresses,
+                counts,
+                objects,
+                auditing,
+                &segment[from..end],
+                wanted,
+                kind,
+                header,
+                link,
+            ) {
+                Visit::Full => Step::Stopped(12),
+                Visit::Done { objects, link } => Step::Done(State {
+                    count: state.count,
+                    objects,
+                    last: name,
+                    link,
+                }),
+            }
+        }
+    }
+}
+
+// The entry at `at`.
+fn one_entry(
+    image: &[u8],
+    segment: &[u8],
+    wanted: &[u8],
+    addresses: &mut [u64],
+    counts: &mut [u32],
+    group: Group,
+    range: Range,
+    at: usize,
+    state: State,
+) -> Step
+    requires { ⌜ at + 40 ≤ length (now image) ⌝ }
+    requires { ⌜ Ready (now segment) (now addresses) (now counts) group range state ⌝ }
+    requires { ⌜ linkSum (linkedOf (state .objects) (now addresses) (now counts)) + 1 < 2 ^ 32 ⌝ }
+    ensures { λ r. ⌜ EntryIs (now (image .entry)) (now (segment .entry)) (now (wanted .entry)) (now (addresses .entry)) (now (counts .entry)) group range at state (now (addresses .exit)) (now (counts .exit)) r ⌝ }
+{
+    let off = u64_at(image, at);
+    match names::name(segment, group.head, group.free, off) {
+        Text::Fault(f) => Step::Stopped(fault_number(f)),
+        Text::Sound(n) => {
+            let name = Name {
+                at: off as usize,
+                size: n,
+            };
+            named_entry(
+                image,
+                segment,
+                wanted,
+                addresses,
+                counts,
+                group,
+                range,
+                at,
+                name,
+                state,
+            )
+        }
+    }
+}
+
+// `n` entries, one after the other; the first stands at `from`.
+pub fn entries(
+    image: &[u8],
+    segment: &[u8],
+    wanted: &[u8],
+    addresses: &mut [u64],
+    counts: &mut [u32],
+    group: Group,
+    range: Range,
+    from: usize,
+    n: usize,
+    state: State,
+) -> Step
+    requires { ⌜ from + 40 * n ≤ length (now image) ⌝ }
+    requires { ⌜ Ready (now segment) (now addresses) (now counts) group range state ⌝ }
+    requires { ⌜ linkSum (linkedOf (state .objects) (now addresses) (now counts)) + n < 2 ^ 32 ⌝ }
+    ensures { λ r. ⌜ EntriesAre (now (image .entry)) (now (segment .entry)) (now (wanted .entry)) (now (addresses .entry)) (now (counts .entry)) group range from n state (now (addresses .exit)) (now (counts .exit)) r ⌝ }
+{
+    let mut i: usize = 0;
+    let mut s = state;
+    while i < n {
+        match one_entry(
+            image,
+            segment,
+            wanted,
+            addresses,
+            counts,
+            group,
+            range,
+            from + 40 * i,
+            s,
+        ) {
+            Step::Stopped(x) => return Step::Stopped(x),
+            Step::Done(next) => {
+                s = next;
+                i += 1;
+            }
+        }
+    }
+    Step::Done(s)
+}
