@@ -1,0 +1,23 @@
+//! Files to read: a builder in which each structure writes itself and records its fields, plans of random and special
+//! files, and damage to single fields and bytes.
+
+mod bodies;
+pub mod corpus;
+pub mod damage;
+pub mod dataset;
+mod edges;
+pub mod files;
+pub mod group;
+pub mod header;
+pub mod limits;
+mod orders;
+pub mod plan;
+pub mod random;
+pub mod sheet;
+pub mod small;
+pub mod special;
+pub mod superblock;
+pub mod write;
+
+/// The undefined address.
+pub const UNDEFINED: u64 = u64::MAX;

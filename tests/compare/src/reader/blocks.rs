@@ -1,0 +1,77 @@
+//! The block list of a walk.
+
+use super::refusal::{ask, Refusal, Walked};
+use super::superblock::Superblock;
+use std::ops::Range;
+
+#[derive(Clone, Copy, PartialEq, Eq, Debug)]
+pub struct Block {
+    pub address: u64,
+    pub length: u64,
+}
+
+pub struct Blocks {
+    end_of_file: u64,
+    room: usize,
+    /// In the order of entering.
+    entered: Vec<Block>,
+    /// The same blocks as (first byte, end), by address.
+    by_address: Vec<(u64, u64)>,
+}
+
+impl Blocks {
+    /// A fresh list, "superblock first".
+    pub fn start(superblock: &Superblock, room: usize) -> Walked<Blocks> {
+        let mut blocks = Blocks {
+            end_of_file: superblock.end,
+            room,
+            entered: Vec::with_capacity(room.min(64)),
+            by_address: Vec::with_capacity(room.min(64)),
+        };
+        blocks.enter(0, superblock.length)?;
+        Ok(blocks)
+    }
+
+    /// The end of `length` bytes at `address` if they lie "inside the end-of-file address".
+    fn end(&self, address: u64, length: u64) -> Walked<u64> {
+        address
+            .checked_add(length)
+            .filter(|end| *end <= self.end_of_file)
+            .ok_or(Refusal::BlockOutside)
+    }
+
+    /// "A part whose length must first be read gives 5 if its fixed prefix isn't inside." Gives the prefix's place.
+    pub fn prefix(&self, address: u64, length: u64) -> Walked<usize> {
+        self.end(address, length)?;
+        Ok(address as usize)
+    }
+
+    /// "To enter a block: 5, 6, 13". No block is empty. Gives the block's place in the image.
+    pub fn enter(&mut self, address: u64, length: u64) -> Walked<Range<usize>> {
+        let end = self.end(address, length)?;
+        let before = self.by_address.partition_point(|block| block.1 <= address);
+        let apart = match self.by_address.get(before) {
+            Some(next) => end <= next.0,
+            None => true,
+        };
+        ask(apart, Refusal::BlocksMeet)?;
+        ask(self.entered.len() < self.room, Refusal::NoRoom)?;
+        self.by_address.insert(before, (address, end));
+        self.entered.push(Block { address, length });
+        Ok(address as usize..end as usize)
+    }
+
+    pub fn entered(&self) -> &[Block] {
+        &self.entered
+    }
+
+    /// The list lent: the pairs entered, then zeros.
+    pub fn list(&self, lent_words: usize) -> Vec<u64> {
+        let mut list = vec![0; lent_words];
+        for (pair, block) in list.chunks_exact_mut(2).zip(&self.entered) {
+            pair[0] = block.address;
+            pair[1] = block.length;
+        }
+        list
+    }
+}

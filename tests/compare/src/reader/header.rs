@@ -1,0 +1,175 @@
+//! Object headers of version 1 with their continuations, and the kinds of objects.
+
+use super::blocks::Blocks;
+use super::bytes::{u16_at, u32_at, u64_at};
+use super::refusal::{ask, Refusal, Walked};
+
+/// A message body: "handed to its reader as a part of the image and no reader sees beyond it".
+#[derive(Clone, Copy)]
+pub struct Body<'a> {
+    pub bytes: &'a [u8],
+    /// Its first byte's place in the image.
+    pub place: usize,
+    pub shared: bool,
+}
+
+#[derive(Clone, Copy)]
+pub enum Kind<'a> {
+    Group {
+        tree: u64,
+        heap: u64,
+    },
+    Dataset {
+        space: Body<'a>,
+        datatype: Body<'a>,
+        layout: Body<'a>,
+    },
+    Committed,
+}
+
+impl Kind<'_> {
+    /// "kind (1 group, 2 dataset, 3 committed datatype, 4 symbolic link)"
+    pub fn number(&self) -> u32 {
+        match self {
+            Kind::Group { .. } => 1,
+            Kind::Dataset { .. } => 2,
+            Kind::Committed => 3,
+        }
+    }
+}
+
+pub struct Header<'a> {
+    pub stored: u32,
+    pub kind: Kind<'a>,
+}
+
+/// How often a message was met and the last one's body.
+#[derive(Clone, Copy, Default)]
+struct Met<'a> {
+    times: u32,
+    body: Option<Body<'a>>,
+}
+
+impl<'a> Met<'a> {
+    fn add(&mut self, body: Body<'a>) {
+        self.times += 1;
+        self.body = Some(body);
+    }
+}
+
+#[derive(Default)]
+struct Messages<'a> {
+    total: u64,
+    spaces: Met<'a>,
+    datatypes: Met<'a>,
+    layouts: Met<'a>,
+    tables: Met<'a>,
+    /// Continuations in the order met: a queue.
+    continuations: Vec<(u64, u64)>,
+}
+
+/// "header block, then continuations in order met, each read whole before the next; kind"
+pub fn read<'a>(image: &'a [u8], blocks: &mut Blocks, address: u64) -> Walked<Header<'a>> {
+    // 16 bytes inside, then the length, whatever the version.
+    let place = blocks.prefix(address, 16)?;
+    let length = 16 + u64::from(u32_at(image, place + 8));
+    let block = blocks.enter(address, length)?;
+    ask(image[place] == 1, Refusal::NotRead)?;
+    let mut messages = Messages::default();
+    messages.read_block(&image[block.clone()], block.start, 16)?;
+    let mut turn = 0;
+    while let Some(&(address, length)) = messages.continuations.get(turn) {
+        let block = blocks.enter(address, length)?;
+        messages.read_block(&image[block.clone()], block.start, 0)?;
+        turn += 1;
+    }
+    // "their total over all blocks equals the message count, else 10"
+    let count = u64::from(u16_at(image, place + 2));
+    ask(messages.total == count, Refusal::BadHeader)?;
+    Ok(Header {
+        stored: u32_at(image, place + 4),
+        kind: messages.kind()?,
+    })
+}
+
+impl<'a> Messages<'a> {
+    /// "Messages fill each block exactly": from `at` on to the block's end.
+    fn read_block(&mut self, block: &'a [u8], place: usize, mut at: usize) -> Walked<()> {
+        while at < block.len() {
+            ask(block.len() - at >= 8, Refusal::BadHeader)?;
+            let kind = u16_at(block, at);
+            ask(read_here(kind), Refusal::NotRead)?;
+            let size = usize::from(u16_at(block, at + 2));
+            // "size a multiple of 8"
+            ask(size.is_multiple_of(8), Refusal::BadHeader)?;
+            ask(block.len() - at - 8 >= size, Refusal::BadHeader)?;
+            // "The shared flag (bit 1) is allowed on 0x0003 only, else 3."
+            let shared = block[at + 4] & 2 != 0;
+            ask(!shared || kind == 0x0003, Refusal::NotRead)?;
+            let body = Body {
+                bytes: &block[at + 8..at + 8 + size],
+                place: place + at + 8,
+                shared,
+            };
+            self.take(kind, body)?;
+            self.total += 1;
+            at += 8 + size;
+        }
+        Ok(())
+    }
+
+    fn take(&mut self, kind: u16, body: Body<'a>) -> Walked<()> {
+        match kind {
+            0x0001 => self.spaces.add(body),
+            0x0003 => self.datatypes.add(body),
+            0x0008 => self.layouts.add(body),
+            0x0010 => {
+                // "continuation (address, length of 8 or more)", "A 0x0010 or 0x0011 body too short gives 10"
+                ask(body.bytes.len() >= 16, Refusal::BadHeader)?;
+                let length = u64_at(body.bytes, 8);
+                ask(length >= 8, Refusal::BadHeader)?;
+                self.continuations.push((u64_at(body.bytes, 0), length));
+            }
+            0x0011 => {
+                ask(body.bytes.len() >= 16, Refusal::BadHeader)?;
+                self.tables.add(body);
+            }
+            _ => {}
+        }
+        Ok(())
+    }
+
+    /// "A group has one 0x0011 and none of 1, 3, 8; a dataset one each of 1, 3, 8 and no 0x0011; a committed datatype
+    /// one 3 alone of these, its body not read. Anything else gives 10."
+    fn kind(&self) -> Walked<Kind<'a>> {
+        let times = [
+            self.tables.times,
+            self.spaces.times,
+            self.datatypes.times,
+            self.layouts.times,
+        ];
+        let bodies = (self.spaces.body, self.datatypes.body, self.layouts.body);
+        match (times, self.tables.body, bodies) {
+            ([1, 0, 0, 0], Some(table), _) => Ok(Kind::Group {
+                tree: u64_at(table.bytes, 0),
+                heap: u64_at(table.bytes, 8),
+            }),
+            ([0, 1, 1, 1], _, (Some(space), Some(datatype), Some(layout))) => Ok(Kind::Dataset {
+                space,
+                datatype,
+                layout,
+            }),
+            ([0, 0, 1, 0], _, _) => Ok(Kind::Committed),
+            _ => Err(Refusal::BadHeader),
+        }
+    }
+}
+
+/// "0x0000, 0x0004, 0x0005, 0x000c, 0x000d, 0x000e, 0x0012 are stepped over; 0x0001 dataspace, 0x0003 datatype, 0x0008
+/// layout, 0x0010 continuation, 0x0011 symbol table are read; all others give 3."
+fn read_here(kind: u16) -> bool {
+    matches!(
+        kind,
+        0x0000 | 0x0001 | 0x0003..=0x0005 | 0x0008 | 0x000c..=0x000e | 0x0010..=0x0012
+    )
+}

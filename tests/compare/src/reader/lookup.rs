@@ -1,0 +1,110 @@
+//! Path lookup.
+
+use super::blocks::Blocks;
+use super::group::{self, Target};
+use super::header::{self, Header, Kind};
+use super::refusal::{ask, Refusal, Walked};
+use super::superblock::{self, Superblock};
+
+#[derive(Clone, PartialEq, Eq, Debug, Default)]
+pub struct LookupReply {
+    pub number: u32,
+    pub kind: u32,
+    pub address: u64,
+    pub block_count: u64,
+    pub list: Vec<u64>,
+}
+
+/// The last object of a path, with its header on a fresh list.
+pub enum Found<'a> {
+    Object {
+        address: u64,
+        header: Header<'a>,
+        blocks: Blocks,
+    },
+    SymbolicLink,
+}
+
+pub fn lookup(image: &[u8], path: &[u8], lent_words: usize) -> LookupReply {
+    // "At lookup's end the list is all zeros and the block count 0."
+    let mut reply = LookupReply {
+        list: vec![0; lent_words],
+        ..LookupReply::default()
+    };
+    match find(image, path, super::room(lent_words)) {
+        Ok(Found::Object {
+            address, header, ..
+        }) => {
+            reply.kind = header.kind.number();
+            reply.address = address;
+        }
+        // "For a final symbolic link the address is 0 and no header is read."
+        Ok(Found::SymbolicLink) => reply.kind = 4,
+        Err(refusal) => reply.number = refusal.number(),
+    }
+    reply
+}
+
+pub fn find<'a>(image: &'a [u8], path: &[u8], room: usize) -> Walked<Found<'a>> {
+    let components = components(path)?;
+    let superblock = superblock::read(image)?;
+    let mut address = superblock.root;
+    let count = components.len();
+    for (number, component) in components.into_iter().enumerate() {
+        match step(image, &superblock, room, address, component)? {
+            Target::Hard(next) => address = next,
+            // "symbolic link before the last component"
+            Target::Symbolic => {
+                ask(number + 1 == count, Refusal::SymbolicLink)?;
+                return Ok(Found::SymbolicLink);
+            }
+        }
+    }
+    // "the last object's header is then read on a fresh list"
+    let mut blocks = Blocks::start(&superblock, room)?;
+    let header = header::read(image, &mut blocks, address)?;
+    Ok(Found::Object {
+        address,
+        header,
+        blocks,
+    })
+}
+
+/// "Each component starts a fresh block list (superblock first), and its whole group must be sound".
+fn step(
+    image: &[u8],
+    superblock: &Superblock,
+    room: usize,
+    address: u64,
+    component: &[u8],
+) -> Walked<Target> {
+    let mut blocks = Blocks::start(superblock, room)?;
+    let header = header::read(image, &mut blocks, address)?;
+    let Kind::Group { tree, heap } = header.kind else {
+        return Err(Refusal::NoGroup);
+    };
+    let mut found = None;
+    group::walk(image, superblock, &mut blocks, (tree, heap), |link| {
+        if link.name == component {
+            found = Some(link.target);
+        }
+        Ok(())
+    })?;
+    found.ok_or(Refusal::NameAbsent)
+}
+
+/// "a path is "/" or '/' before each component; any other form, a length outside 1 to 1,024, or a component that is
+/// empty, ".", over 255 bytes or holds a NUL gives 14"
+fn components(path: &[u8]) -> Walked<Vec<&[u8]>> {
+    let formed = (1..=1024).contains(&path.len()) && path[0] == b'/';
+    ask(formed, Refusal::BadPath)?;
+    if path.len() == 1 {
+        return Ok(Vec::new());
+    }
+    let components: Vec<&[u8]> = path[1..].split(|byte| *byte == b'/').collect();
+    let sound = components.iter().all(|component| {
+        (1..=255).contains(&component.len()) && *component != b"." && !component.contains(&0)
+    });
+    ask(sound, Refusal::BadPath)?;
+    Ok(components)
+}

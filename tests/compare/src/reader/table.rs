@@ -1,0 +1,75 @@
+//! "Objects 256, kept in a table of 256 places that starts empty."
+
+use super::refusal::{ask, Refusal, Walked};
+
+#[derive(Clone, Copy, PartialEq, Eq, Debug)]
+pub struct Object {
+    pub address: u64,
+    pub stored: u32,
+    pub true_count: u32,
+}
+
+const PLACES: usize = 256;
+/// Twice the places, so that a search ends soon.
+const SLOTS: usize = 512;
+
+pub struct Table {
+    objects: Vec<Object>,
+    /// An object's number plus one, at the first slot free from its address's own; 0 where none is.
+    slots: [u16; SLOTS],
+}
+
+impl Table {
+    /// "the superblock's root entry counts as one for the root"
+    pub fn with_root(root: u64) -> Table {
+        let mut table = Table {
+            objects: Vec::with_capacity(16),
+            slots: [0; SLOTS],
+        };
+        let slot = own_slot(root);
+        table.add(root, slot);
+        table
+    }
+
+    fn add(&mut self, address: u64, slot: usize) {
+        self.objects.push(Object {
+            address,
+            stored: 0,
+            true_count: 1,
+        });
+        self.slots[slot] = self.objects.len() as u16;
+    }
+
+    /// "A hard link to a new address adds an object."
+    pub fn link(&mut self, address: u64) -> Walked<()> {
+        let mut slot = own_slot(address);
+        while self.slots[slot] != 0 {
+            let object = &mut self.objects[usize::from(self.slots[slot]) - 1];
+            if object.address == address {
+                object.true_count += 1;
+                return Ok(());
+            }
+            slot = (slot + 1) % SLOTS;
+        }
+        ask(self.objects.len() < PLACES, Refusal::TooManyObjects)?;
+        self.add(address, slot);
+        Ok(())
+    }
+
+    pub fn address(&self, number: usize) -> Option<u64> {
+        self.objects.get(number).map(|object| object.address)
+    }
+
+    pub fn store(&mut self, number: usize, stored: u32) {
+        self.objects[number].stored = stored;
+    }
+
+    pub fn into_objects(self) -> Vec<Object> {
+        self.objects
+    }
+}
+
+/// The top nine bits of a product spread addresses well.
+fn own_slot(address: u64) -> usize {
+    (address.wrapping_mul(0x9e37_79b9_7f4a_7c15) >> 55) as usize
+}

@@ -1,0 +1,256 @@
+//! The reader alone over the images of the comparison: it never panics, reaches every answer of an audit, and what it
+//! says holds together.
+
+use compare::generate::corpus::{cases, each};
+use compare::generate::plan::{Content, Plan, Target};
+use compare::generate::random::Random;
+use compare::generate::write::{write, File};
+use compare::generate::{files, limits};
+use compare::reader::{audit, describe, lookup, mend, undo, AuditReply};
+use std::ops::Range;
+
+const FULL: usize = 2048;
+
+#[test]
+fn every_answer_is_reached_and_sound() {
+    let mut reached = [0u64; 21];
+    let mut images = 0;
+    each(cases(40_000), |case| {
+        let (name, image) = (case.file, case.image);
+        images += 1;
+        let full = audit(image, FULL);
+        reached[full.number as usize] += 1;
+        if full.number == 0 {
+            check_passed(name, image, &full);
+        } else {
+            assert_eq!(
+                full,
+                AuditReply {
+                    number: full.number,
+                    list: vec![0; FULL],
+                    ..AuditReply::default()
+                }
+            );
+        }
+        for pairs in 0..=12 {
+            let small = audit(image, 2 * pairs + pairs % 2);
+            reached[small.number as usize] += 1;
+            check_room(name, pairs as u64, &full, &small);
+        }
+    });
+    println!("{images} images; answers reached:");
+    for (number, times) in reached.iter().enumerate().take(14) {
+        println!("{number:4} {times:9}");
+    }
+    assert!(reached[..14].iter().all(|times| *times > 0));
+    assert!(reached[14..].iter().all(|times| *times == 0));
+}
+
+/// Less room gives 13 where the full walk needs more blocks, else the same.
+fn check_room(name: &str, pairs: u64, full: &AuditReply, small: &AuditReply) {
+    if full.number == 0 && full.block_count <= pairs {
+        assert_eq!(small.objects, full.objects, "{name}");
+        assert_eq!(small.number, 0, "{name}");
+        assert_eq!(
+            small.list[..2 * pairs as usize],
+            full.list[..2 * pairs as usize]
+        );
+    } else {
+        let same = full.number != 0 && small.number == full.number;
+        assert!(small.number == 13 || same, "{name}");
+    }
+}
+
+fn word(image: &[u8], at: usize, width: usize) -> u64 {
+    let bytes = &image[at..at + width];
+    bytes
+        .iter()
+        .rev()
+        .fold(0, |word, byte| word << 8 | u64::from(*byte))
+}
+
+/// Blocks are disjoint and inside, and true counts sum to the hard links and one.
+fn check_passed(name: &str, image: &[u8], reply: &AuditReply) {
+    let mut blocks: Vec<Range<u64>> = reply.list[..2 * reply.block_count as usize]
+        .chunks(2)
+        .map(|pair| pair[0]..pair[0] + pair[1])
+        .collect();
+    let shift = usize::from(image[8]) * 4;
+    let end = word(image, 40 + shift, 8);
+    let leaf_length = 8 + 80 * word(image, 16, 2);
+    let mut links = 0;
+    for block in &blocks {
+        let at = block.start as usize;
+        assert!(block.start < block.end && block.end <= end, "{name}");
+        if block.end - block.start == leaf_length && image[at..at + 4] == *b"SNOD" {
+            let count = word(image, at + 6, 2) as usize;
+            links += (0..count)
+                .filter(|entry| word(image, at + 8 + 40 * entry + 16, 4) < 2)
+                .count();
+        }
+    }
+    blocks.sort_by_key(|block| block.start);
+    assert!(
+        blocks.windows(2).all(|pair| pair[0].end <= pair[1].start),
+        "{name}"
+    );
+    let sum: u64 = reply
+        .objects
+        .iter()
+        .map(|object| u64::from(object.true_count))
+        .sum();
+    assert_eq!(sum, links as u64 + 1, "{name}");
+    for object in &reply.objects {
+        let stored = word(image, object.address as usize + 4, 4);
+        assert_eq!(u64::from(object.stored), stored, "{name}");
+    }
+}
+
+/// Files as they were planned: objects in order of discovery with their counts, and every path found.
+#[test]
+fn plans_are_read_back() {
+    for seed in 1000..2500 {
+        let plan = files::plan(seed);
+        let file = write(&plan, seed);
+        let reply = audit(&file.sheet.bytes, FULL);
+        assert_eq!(reply.number, 0, "file {seed}");
+        let walk = plan.walk();
+        assert_eq!(reply.objects.len(), walk.len(), "file {seed}");
+        for (object, (number, count)) in reply.objects.iter().zip(walk) {
+            assert_eq!(object.address, file.places[number], "file {seed}");
+            assert_eq!(object.stored, file.stored[number], "file {seed}");
+            assert_eq!(object.true_count, count, "file {seed}");
+        }
+        check_paths(&plan, &file, 0, b"", 1);
+        check_mending(&file.sheet.bytes);
+    }
+}
+
+fn check_paths(plan: &Plan, file: &File, number: usize, path: &[u8], depth: usize) {
+    let Content::Group(group) = &plan.objects[number].content else {
+        return;
+    };
+    for link in &group.links {
+        let path = [path, b"/", &link.name].concat();
+        let reply = lookup(&file.sheet.bytes, &path, FULL);
+        if path.len() > 1024 {
+            assert_eq!(reply.number, 14);
+            continue;
+        }
+        assert_eq!(reply.number, 0);
+        match &link.target {
+            Target::Object(target) => {
+                assert_eq!(reply.address, file.places[*target]);
+                check_object(plan, file, *target, &path, reply.kind);
+                if depth > 0 {
+                    check_paths(plan, file, *target, &path, depth - 1);
+                }
+            }
+            _ => {
+                assert_eq!((reply.kind, reply.address), (4, 0));
+                let beyond = [path.as_slice(), b"/x"].concat();
+                assert!([14, 16].contains(&lookup(&file.sheet.bytes, &beyond, FULL).number));
+            }
+        }
+    }
+    let absent = [path, b"/absent"].concat();
+    assert!([14, 15].contains(&lookup(&file.sheet.bytes, &absent, FULL).number));
+}
+
+fn check_object(plan: &Plan, file: &File, number: usize, path: &[u8], kind: u32) {
+    let described = describe(&file.sheet.bytes, path, FULL);
+    match &plan.objects[number].content {
+        Content::Group(_) => assert_eq!((kind, described.number), (1, 20)),
+        Content::Committed => assert_eq!((kind, described.number), (3, 20)),
+        Content::Dataset(dataset) => {
+            assert_eq!((kind, described.number), (2, 0));
+            let fields = described.description;
+            assert_eq!(fields.rank, dataset.sizes.len() as u64);
+            assert_eq!(fields.sizes[..dataset.sizes.len()], dataset.sizes);
+            let maxima = dataset.maxima.as_ref().unwrap_or(&dataset.sizes);
+            assert_eq!(fields.maxima[..maxima.len()], *maxima);
+        }
+    }
+}
+
+/// Mended in any two steps and undone in any two steps, a file is as before.
+fn check_mending(image: &[u8]) {
+    let before = audit(image, FULL);
+    let wrong = before
+        .objects
+        .iter()
+        .filter(|object| object.stored != object.true_count)
+        .count();
+    let mut changed = image.to_vec();
+    if wrong > 0 {
+        assert_eq!(mend(&mut changed, FULL, 2 * wrong - 1, 99).number, 18);
+        assert_eq!(changed, image);
+    }
+    let reply = mend(&mut changed, FULL, 2 * wrong + 3, wrong as u64 / 2);
+    assert_eq!((reply.number, reply.entries), (0, wrong as u64));
+    assert_eq!(reply.list, before.list);
+    let log = reply.log;
+    let mut whole = image.to_vec();
+    mend(&mut whole, FULL, 2 * wrong, u64::MAX);
+    let after = audit(&whole, FULL);
+    assert!(after
+        .objects
+        .iter()
+        .all(|object| object.stored == object.true_count));
+    for image_now in [&mut changed, &mut whole] {
+        assert_eq!(
+            undo(image_now, &log, wrong as u64, 1).writes,
+            1.min(wrong as u64)
+        );
+        assert_eq!(
+            undo(image_now, &log, wrong as u64, u64::MAX).writes,
+            wrong as u64
+        );
+        assert_eq!(image_now, image);
+    }
+}
+
+/// Lookup, description and undo over damaged images: no panic, and no change by a refusal.
+#[test]
+fn damaged_images_never_panic() {
+    let mut random = Random::new(5);
+    let mut reached = [0u64; 21];
+    each(cases(40_000) / 4, |case| {
+        let image = case.image;
+        for path in case.paths(&mut random) {
+            let lent = random.pick(&[0, 4, 9, 10, 16, FULL, FULL, FULL]);
+            let found = lookup(image, &path, lent);
+            let described = describe(image, &path, lent);
+            reached[described.number as usize] += 1;
+            assert_eq!(found.list, vec![0; lent]);
+            if found.number != 0 {
+                assert_eq!(described.number, found.number);
+            } else if found.kind != 2 {
+                assert_eq!(described.number, 20);
+            }
+        }
+        let mut changed = image.to_vec();
+        let reply = mend(&mut changed, FULL, 512, u64::MAX);
+        if reply.number != 0 {
+            assert_eq!(changed, image);
+        }
+        let undone = undo(&mut changed, &reply.log, reply.entries, u64::MAX);
+        assert_eq!(changed, image);
+        assert_eq!(undone.number == 0, (96..=1_048_576).contains(&image.len()));
+    });
+    println!("answers of descriptions: {reached:?}");
+    for number in [0, 1, 2, 3, 4, 5, 6, 7, 8, 9, 10, 11, 13, 14, 15, 16, 17, 20] {
+        assert!(reached[number] > 0, "{number} was never reached");
+    }
+}
+
+#[test]
+fn files_at_the_limits() {
+    for (name, image) in limits::all() {
+        let reply = audit(&image, FULL);
+        assert_eq!(image.len(), 1_048_576, "{name}");
+        assert_eq!((reply.number, reply.block_count), (0, 1024), "{name}");
+        check_passed(name, &image, &reply);
+        assert_eq!(audit(&image, FULL - 1).number, 13, "{name}");
+    }
+}
