@@ -1,3 +1,4 @@
 pub mod Node
 pub mod Tree
 pub mod Group
+pub mod Entries

@@ -13,3 +13,4 @@ pub mod Agreement
 pub mod Blank
 pub mod CountFields
 pub mod Simulation
+pub mod Follows
