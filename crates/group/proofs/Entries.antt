@@ -17,8 +17,9 @@ use Rattle.format.specs.Ledger.{Linked, linked, inLedger, countLink, discover}
 use Rattle.format.specs.Lookup.{Link, absent, hard, soft, compareName}
 use Rattle.walk.proofs.Bind.{bind-ret, bind-assoc, ret-bind}
 use Rattle.heap.proofs.OrderLaws.{below-irreflexive, below-transitive, same-refl, same-equal}
+use Rattle.symbol.specs.Visit.{Both, visitBoth}
 use Rattle.group.specs.Entries.{keepEntry, entriesWalk, countEntries, linkTo, remembered, AllAbove, AllBelow, Rising, NoneNamed}
-use Rattle.walk.proofs.Follows.{Follows, Ends, ends-if, follows-ret, follows-value, Ran, follows-run}
+use Rattle.walk.proofs.Follows.{Follows, Ends, ends-if, follows-ret, follows-value, follows-map, Ran, follows-run}
 use Rattle.group.proofs.Visits.{group-follows}
 
 -- an entry at the end is counted last, and remembered last
@@ -55,29 +56,46 @@ below-last (x ∷ es) e n h b = (below-transitive (x .name) (e .name) n (h .0) b
 module _ (im : List ℕ) (eof room leafK internalK tree heap : ℕ) (bs : List Block) where
   -- the audit: its group's entries are these, and the ledger after it is the one before with exactly their hard links counted
   pub audit-entries : (os : List Linked) →
-      Ran (λ os′ es. (last : List ℕ) × (countEntries es os ≡ ret os′)) (run im eof room (groupWalk leafK internalK tree heap discover os) bs) (run im eof room (entriesWalk leafK internalK tree heap) bs)
+      Ran false (λ os′ es. (last : List ℕ) × (countEntries es os ≡ ret os′)) (run im eof room (groupWalk leafK internalK tree heap discover os) bs) (run im eof room (entriesWalk leafK internalK tree heap) bs)
   unfolding entriesWalk keepEntry countEntries
   audit-entries os =
-      follows-run _ im eof room _ _ bs
-      (group-follows leafK internalK discover keepEntry (λ last x es. countEntries es os ≡ ret x)
+      follows-run _ false im eof room _ _ bs
+      (group-follows false leafK internalK discover keepEntry (λ last x es. countEntries es os ≡ ret x)
       (λ e last x es b r. follows-value _ (discover e x) (es ++ (e ∷ [])) (discover-ends e x) λ y d. count-last es e os ∙ ap (λ (w : Walk (List Linked)). w >>= discover e) r ∙ ret-bind x (discover e) ∙ d) tree heap os [] refl)
 
   -- a lookup, from the group's entries: it is sound with the same blocks, and remembers what they say of the name
   pub entries-lookup : (name : List ℕ) →
-      Ran (λ es l. (last : List ℕ) × (l ≡ remembered name es absent)) (run im eof room (entriesWalk leafK internalK tree heap) bs) (run im eof room (groupWalk leafK internalK tree heap (compareName name) absent) bs)
+      Ran false (λ es l. (last : List ℕ) × (l ≡ remembered name es absent)) (run im eof room (entriesWalk leafK internalK tree heap) bs) (run im eof room (groupWalk leafK internalK tree heap (compareName name) absent) bs)
   unfolding entriesWalk keepEntry remembered compareName
   entries-lookup name =
-      follows-run _ im eof room _ _ bs
-      (group-follows leafK internalK keepEntry (compareName name) (λ last es l. l ≡ remembered name es absent)
-      (λ e last es l b r. follows-ret _ _ _ (rw r (sym (remembered-last name es e absent)))) tree heap [] absent refl)
+      follows-run _ false im eof room _ _ bs
+      (group-follows false leafK internalK keepEntry (compareName name) (λ last es l. l ≡ remembered name es absent)
+      (λ e last es l b r. follows-ret false _ _ _ (rw r (sym (remembered-last name es e absent)))) tree heap [] absent refl)
+
+  -- the code's visit, with which the audit's part of what is found is the audit's, and a lookup's part the lookup's
+  pub audit-part : (wanted : List ℕ) (l : Link) (os : List Linked) →
+      Ran true (λ x b. (last : List ℕ) × (b ≡ record { ledger = x; link = l })) (run im eof room (groupWalk leafK internalK tree heap discover os) bs) (run im eof room (groupWalk leafK internalK tree heap (visitBoth true wanted) (record { ledger = os; link = l })) bs)
+  unfolding visitBoth
+  audit-part wanted l os =
+      follows-run _ true im eof room _ _ bs
+      (group-follows true leafK internalK discover (visitBoth true wanted) (λ last x b. b ≡ record { ledger = x; link = l })
+      (λ e last x b c r. rw r (follows-map true (λ (y : List Linked). record { ledger = y; link = l }) (discover e x))) tree heap os _ refl)
+
+  pub lookup-part : (wanted : List ℕ) (l : Link) (os : List Linked) →
+      Ran true (λ x b. (last : List ℕ) × (b ≡ record { ledger = os; link = x })) (run im eof room (groupWalk leafK internalK tree heap (compareName wanted) l) bs) (run im eof room (groupWalk leafK internalK tree heap (visitBoth false wanted) (record { ledger = os; link = l })) bs)
+  unfolding visitBoth
+  lookup-part wanted l os =
+      follows-run _ true im eof room _ _ bs
+      (group-follows true leafK internalK (compareName wanted) (visitBoth false wanted) (λ last x b. b ≡ record { ledger = os; link = x })
+      (λ e last x b c r. rw r (follows-map true (λ (y : Link). record { ledger = os; link = y }) (compareName wanted e x))) tree heap l _ refl)
 
   -- the names of a sound group rise strictly
-  pub entries-rise : Ran (λ es l. (last : List ℕ) × (Rising es × ((n : List ℕ) → below last n ≡ true → AllBelow es n))) (run im eof room (entriesWalk leafK internalK tree heap) bs) (run im eof room (entriesWalk leafK internalK tree heap) bs)
+  pub entries-rise : Ran false (λ es l. (last : List ℕ) × (Rising es × ((n : List ℕ) → below last n ≡ true → AllBelow es n))) (run im eof room (entriesWalk leafK internalK tree heap) bs) (run im eof room (entriesWalk leafK internalK tree heap) bs)
   unfolding entriesWalk keepEntry Rising AllBelow
   entries-rise =
-      follows-run _ im eof room _ _ bs
-      (group-follows leafK internalK keepEntry keepEntry (λ last es l. Rising es × ((n : List ℕ) → below last n ≡ true → AllBelow es n))
-      (λ e last es l b r. follows-ret _ _ _ (rising-last es e (r .0) (r .1 (e .name) b), λ n c. below-last es e n (r .1 (e .name) b) c)) tree heap [] [] (tt, λ n c. tt))
+      follows-run _ false im eof room _ _ bs
+      (group-follows false leafK internalK keepEntry keepEntry (λ last es l. Rising es × ((n : List ℕ) → below last n ≡ true → AllBelow es n))
+      (λ e last es l b r. follows-ret false _ _ _ (rising-last es e (r .0) (r .1 (e .name) b), λ n c. below-last es e n (r .1 (e .name) b) c)) tree heap [] [] (tt, λ n c. tt))
 
 -- a name that no entry has isn't remembered
 pub not-remembered : (name : List ℕ) (es : List Entry) (l : Link) → NoneNamed name es → remembered name es l ≡ l
