@@ -1,8 +1,9 @@
-// The starred small files of document 01, held against the definitions.
+// The starred small files of document 01, and one of them with single bytes changed, held against the definitions.
 ghost use mathlib.Core.List.{map};
 ghost use mathlib.Core.Path.{_≡_};
 ghost use lib.ListN.{length};
 ghost use Rattle.cases.specs.Table.{Case, table};
+ghost use Rattle.cases.specs.Damaged.{damagedTable};
 
 // The number of rows of the table. In every row the definitions give the reply that document 01 gives.
 pub fn rows() -> usize
@@ -10,4 +11,12 @@ pub fn rows() -> usize
     ensures answered { λ r. ⌜ map (λ (c : Case). c .actual) table ≡ map (λ (c : Case). c .expected) table ⌝ }
 {
     17
+}
+
+// The number of rows of the table of changed bytes. In every row the definitions give the answer beside it.
+pub fn damaged_rows() -> usize
+    ensures all { λ r. ⌜ r ≡ length damagedTable ⌝ }
+    ensures answered { λ r. ⌜ map (λ (c : Case). c .actual) damagedTable ≡ map (λ (c : Case). c .expected) damagedTable ⌝ }
+{
+    8
 }
