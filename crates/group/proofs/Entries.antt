@@ -6,7 +6,7 @@ use native.Mathlib.Omega.{arith}
 use mathlib.Core.Path.{_≡_, refl, ap, sym, _∙_, fun-ext}
 use Rattle.format.specs.Bytes.{if_then_else_, sameBytes}
 use Rattle.format.specs.Blocks.{Block}
-use Rattle.format.specs.Walk.{Walk, ret, refuse, _>>=_, Outcome, done, refused, run}
+use Rattle.format.specs.Walk.{Walk, ret, refuse, _>>=_, run}
 use Rattle.format.specs.Names.{below}
 use Rattle.format.specs.Symbols.{Entry, isHard}
 use Rattle.format.specs.Tree.{groupWalk}
@@ -14,12 +14,12 @@ use Rattle.format.specs.Limits.{objectsMost}
 use lib.ListN.{length}
 use lib.Dec.{ltb}
 use Rattle.format.specs.Ledger.{Linked, linked, inLedger, countLink, discover}
-use Rattle.format.specs.Lookup.{Link, absent, hard, soft, compareName}
+use Rattle.format.specs.Lookup.{Link, absent, compareName}
 use Rattle.walk.proofs.Bind.{bind-ret, bind-assoc, ret-bind}
 use Rattle.heap.proofs.OrderLaws.{below-irreflexive, below-transitive, same-refl, same-equal}
-use Rattle.symbol.specs.Visit.{Both, visitBoth}
+use Rattle.symbol.specs.Visit.{visitBoth}
 use Rattle.group.specs.Entries.{keepEntry, entriesWalk, countEntries, linkTo, remembered, AllAbove, AllBelow, Rising, NoneNamed}
-use Rattle.walk.proofs.Follows.{Follows, Ends, ends-if, follows-ret, follows-value, follows-map, Ran, follows-run}
+use Rattle.walk.proofs.Follows.{Ends, ends-if, follows-ret, follows-value, follows-map, Ran, follows-run}
 use Rattle.group.proofs.Visits.{group-follows}
 
 -- an entry at the end is counted last, and remembered last

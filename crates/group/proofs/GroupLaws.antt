@@ -1,8 +1,7 @@
 -- The steps of the code that reads a group against the steps of its walk.
-use Prim.Native.Nat.{ℕ, _+_, _≤_}
+use Prim.Native.Nat.{ℕ}
 use mathlib.Core.List.{List, []}
-use mathlib.Core.Path.{_≡_, refl, ap}
-use native.Mathlib.Omega.{arith}
+use mathlib.Core.Path.{_≡_}
 use lib.ListN.{length}
 use mathlib.Core.Bool.{Bool}
 use Rattle.format.specs.Walk.{Walk, ret, _>>=_, run}
@@ -21,7 +20,7 @@ use Rattle.symbol.specs.declared.entry.Step.{Step}
 use Rattle.symbol.specs.declared.entry.Step.the-variants.{Done, Stopped}
 use Rattle.group.specs.Tree.{stepEnd, SoundIf}
 use Rattle.group.specs.Group.{groupEnd, ReadyIf}
-use Rattle.walk.proofs.Simulation.{Simulation, start, same-walk, returned, callee-done, callee-stopped}
+use Rattle.walk.proofs.Simulation.{Simulation, start, returned, callee-done, callee-stopped}
 
 module _ {S : Type 0} (im : List ℕ) (eof room : ℕ) (ws : List ℕ) (count : ℕ) (l : Lent ws count room) (leafK internalK tree heap : ℕ) (visit : Entry → S → Walk S) (found : S) (ws₁ : List ℕ) where
   abbrev w : Walk S

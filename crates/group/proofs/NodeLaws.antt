@@ -1,16 +1,14 @@
 -- The steps of the code that reads a tree node against the steps of its walk.
 use Prim.Native.Nat.{ℕ, _+_, _-_, _*_, _≤_, _<_}
-use mathlib.Core.Bool.{Bool, true, false}
 use mathlib.Core.List.{List}
 use mathlib.Core.Path.{_≡_, refl, ap, sym, _∙_}
 use native.Mathlib.Omega.{arith}
-use borrow.Author.Tests.{eq-eqb, ne-eqb, le-leb, lt-leb}
 use lib.Dec.{eqb, leb}
 use lib.ListN.{length, getD, drop}
 use Rattle.format.specs.Limits.{levelMost}
-use Rattle.format.specs.Bytes.{part, littleEndian, u8, u16, u32}
+use Rattle.format.specs.Bytes.{part, u8, u16, u32}
 use Rattle.format.specs.Blocks.{entryAnswer}
-use Rattle.format.specs.Walk.{Walk, ret, refuse, enterBlock, treeBlock, shown, check, _>>=_, _>>_, run}
+use Rattle.format.specs.Walk.{ret, refuse, shown, check, _>>=_, _>>_, run}
 use Rattle.format.specs.Heap.{Heap}
 use Rattle.format.specs.Tree.{TREE, nodeWalk, keysWalk}
 use Rattle.walk.specs.Lent.{blocksOf, Lent, Walked, ended, stopped, entering, entered}
@@ -18,7 +16,7 @@ use Rattle.walk.specs.Numbers.{Number}
 use Rattle.walk.specs.declared.blocks.Entry.the-variants.{Entered, Refused}
 use Rattle.walk.proofs.BlockList.{entered-zero}
 use Rattle.walk.proofs.Parts.{part-byte, part-number, part-first-number, drop-part}
-use Rattle.walk.proofs.Simulation.{Simulation, start, same-walk, returned, refusal, passed, failed, block-entered, block-refused, entered-inside, callee-done, callee-stopped, callee-value, callee-refusal}
+use Rattle.walk.proofs.Simulation.{Simulation, start, same-walk, returned, passed, failed, block-entered, block-refused, entered-inside, callee-done, callee-stopped, callee-value, callee-refusal}
 use Rattle.walk.proofs.Tests.{field-equal, field-unequal, field-most, field-above, field-least, field-below}
 use Rattle.group.specs.Node.{branchWalk}
 

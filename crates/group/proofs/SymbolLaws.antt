@@ -1,15 +1,14 @@
 -- The steps of the code that reads a symbol table node against the steps of its walk.
-use Prim.Native.Nat.{ℕ, _+_, _-_, _*_, _^_, _≤_, _<_}
-use mathlib.Core.Bool.{Bool, true, false}
+use Prim.Native.Nat.{ℕ, _+_, _-_, _*_, _≤_, _<_}
 use mathlib.Core.List.{List}
 use mathlib.Core.Path.{_≡_, refl, ap, sym, _∙_}
 use native.Mathlib.Omega.{arith}
-use lib.Dec.{eqb, leb, lit<}
-use lib.ListN.{length, getD, drop}
+use lib.Dec.{eqb, lit<}
+use lib.ListN.{getD, drop}
 use Rattle.format.specs.Limits.{blocksMost}
-use Rattle.format.specs.Bytes.{inRange, part, littleEndian, u8, u16, u32}
+use Rattle.format.specs.Bytes.{inRange, part, u8, u16, u32}
 use Rattle.format.specs.Blocks.{entryAnswer}
-use Rattle.format.specs.Walk.{Walk, ret, refuse, symbolBlock, shown, check, _>>=_, _>>_, run}
+use Rattle.format.specs.Walk.{Walk, ret, refuse, shown, check, _>>=_, _>>_, run}
 use Rattle.format.specs.Names.{Bound}
 use Rattle.format.specs.Symbols.{SNOD, GroupState, entries, symbolWalk}
 use Rattle.walk.specs.Lent.{blocksOf, Lent, Walked, stopped, entering, entered}
@@ -22,8 +21,8 @@ use Rattle.walk.proofs.Tests.{field-equal, field-unequal, range-below, range-ab
 use Rattle.ledger.specs.Links.{linkSum}
 use Rattle.ledger.specs.Table.{linkedOf}
 use Rattle.symbol.specs.Visit.{Both}
-use Rattle.symbol.specs.Entry.{stateOf, stepOf, Kept, KeptIf}
-use Rattle.group.specs.Tree.{stepEnd, Sound, SoundIf}
+use Rattle.symbol.specs.Entry.{stateOf, stepOf, KeptIf}
+use Rattle.group.specs.Tree.{stepEnd, SoundIf}
 use Rattle.symbol.specs.declared.entry.Group.{Group}
 use Rattle.symbol.specs.declared.entry.State.{State}
 use Rattle.symbol.specs.declared.entry.Step.{Step}

@@ -1,5 +1,5 @@
 -- Laws of the tree below a node: its keys and children, one after the other.
-use Prim.Native.Nat.{ℕ, zero, suc, _+_, _-_, _*_, _≤_, _<_}
+use Prim.Native.Nat.{ℕ, suc, _+_, _-_, _*_, _≤_, _<_}
 use mathlib.Core.List.{List, [], _∷_}
 use lib.Dec.{eqb, leb}
 use Rattle.format.specs.Limits.{levelMost}
@@ -7,18 +7,18 @@ use Rattle.format.specs.Blocks.{Block}
 use mathlib.Core.Path.{_≡_, refl, ap, sym, _∙_}
 use native.Mathlib.Omega.{arith}
 use lib.ListN.{length, drop}
-use Rattle.format.specs.Bytes.{if_then_else_, part, littleEndian, u8, u16, u32, u64}
-use Rattle.format.specs.Walk.{Kind, shown, treeBlock, Walk, ret, refuse, enterBlock, check, _>>=_, _>>_, run}
+use Rattle.format.specs.Bytes.{if_then_else_, part, u8, u16, u32, u64}
+use Rattle.format.specs.Walk.{Kind, shown, treeBlock, Walk, ret, enterBlock, check, _>>=_, _>>_, run}
 use Rattle.format.specs.Heap.{Heap}
 use Rattle.format.specs.Names.{Bound, within, stringAt}
 use Rattle.format.specs.Symbols.{GroupState, symbolWalk}
-use Rattle.format.specs.Tree.{TREE, treeWalk, nodeWalk, keysWalk, children, branches, subtree}
+use Rattle.format.specs.Tree.{TREE, treeWalk, nodeWalk, children, branches, subtree}
 use Rattle.walk.specs.Lent.{blocksOf, Lent, Ended, ended, stopped, Walked}
 use Rattle.walk.proofs.Bind.{bind-assoc, ret-bind}
 use Rattle.walk.proofs.Parts.{part-byte, part-number, part-first-number, drop-part}
-use mathlib.Core.Bool.{Bool, true, false}
+use mathlib.Core.Bool.{true, false}
 use Rattle.walk.proofs.Tests.{field-equal, field-unequal, field-least}
-use Rattle.walk.proofs.Simulation.{passed, failed, chosen-then, Simulation, start, same-walk, returned, callee-done, callee-stopped, callee-last}
+use Rattle.walk.proofs.Simulation.{passed, failed, chosen-then, Simulation, start, same-walk, returned, callee-done, callee-stopped}
 use Rattle.symbol.specs.Range.{Tight}
 use Rattle.symbol.specs.declared.range.Range.{Range}
 use Rattle.symbol.specs.Visit.{Both}

@@ -1,14 +1,14 @@
 -- Two visits of the same group. They meet the same entries in the same blocks; what holds between their findings at one entry holds at the end.
 use Prim.Native.Nat.{ℕ, zero, suc, _+_, _*_}
-use mathlib.Core.Bool.{Bool, true, false}
-use mathlib.Core.List.{List, [], _∷_}
+use mathlib.Core.Bool.{Bool, true}
+use mathlib.Core.List.{List, []}
 use mathlib.Core.Path.{_≡_, refl}
 use lib.ListN.{drop}
 use lib.Dec.{leb, eqb}
-use Rattle.format.specs.Bytes.{if_then_else_, inRange, littleEndian, u8, u16, u32, u64}
-use Rattle.format.specs.Walk.{Walk, ret, enterBlock, symbolBlock, check, _>>=_, _>>_}
+use Rattle.format.specs.Bytes.{inRange, u8, u16, u32, u64}
+use Rattle.format.specs.Walk.{Walk, ret, enterBlock, symbolBlock}
 use Rattle.format.specs.Heap.{Heap, heapWalk}
-use Rattle.format.specs.Names.{Bound, textWalk, nameText, below, within, stringAt}
+use Rattle.format.specs.Names.{Bound, textWalk, nameText, below, within}
 use Rattle.format.specs.Symbols.{Entry, Group, GroupState, SNOD, valueWalk, entryWalk, entries, symbolWalk}
 use Rattle.format.specs.Tree.{nodeWalk, keysWalk, children, branches, subtree, treeWalk, groupWalk}
 use Rattle.walk.proofs.Follows.{Follows, follows-bind, follows-then, follows-check, follows-if, follows-ret}

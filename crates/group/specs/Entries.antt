@@ -1,15 +1,15 @@
 -- The entries of a group, what the audit makes of them and what a lookup makes of them.
 use Prim.Native.Nat.{ℕ}
-use mathlib.Core.Bool.{Bool, true, false}
+use mathlib.Core.Bool.{true, false}
 use mathlib.Core.List.{List, [], _∷_, _++_}
 use mathlib.Core.Path.{_≡_}
 use Rattle.format.specs.Bytes.{if_then_else_, sameBytes}
-use Rattle.format.specs.Walk.{Walk, ret, refuse, _>>=_}
+use Rattle.format.specs.Walk.{Walk, ret, _>>=_}
 use Rattle.format.specs.Names.{below}
 use Rattle.format.specs.Symbols.{Entry, isHard}
 use Rattle.format.specs.Tree.{groupWalk}
 use Rattle.format.specs.Ledger.{Linked, discover}
-use Rattle.format.specs.Lookup.{Link, absent, hard, soft}
+use Rattle.format.specs.Lookup.{Link, hard, soft}
 
 -- a visit that keeps the entries, in the order in which they are met
 unfoldable pub keepEntry : Entry → List Entry → Walk (List Entry)

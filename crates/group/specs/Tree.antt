@@ -1,11 +1,11 @@
 -- What the descent over a group's tree returns.
-use Prim.Native.Nat.{ℕ, suc, _+_, _*_, _^_, _≤_, _<_}
-use mathlib.Core.List.{List, [], _∷_}
+use Prim.Native.Nat.{ℕ, suc, _+_, _*_, _≤_, _<_}
+use mathlib.Core.List.{List, _∷_}
 use mathlib.Core.Path.{_≡_}
 use lib.ListN.{length}
 use Rattle.format.specs.Limits.{blocksMost}
-use Rattle.format.specs.Bytes.{part, littleEndian, u8, u16, u64}
-use Rattle.format.specs.Walk.{Walk, run}
+use Rattle.format.specs.Bytes.{u8, u16, u64}
+use Rattle.format.specs.Walk.{run}
 use Rattle.format.specs.Names.{Bound, stringAt}
 use Rattle.format.specs.Symbols.{GroupState, symbolWalk}
 use Rattle.format.specs.Tree.{subtree, treeWalk}

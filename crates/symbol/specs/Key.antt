@@ -3,7 +3,7 @@ use Prim.Native.Nat.{ℕ, _+_, _*_, _≤_}
 use mathlib.Core.List.{List, []}
 use mathlib.Core.Path.{_≡_}
 use lib.ListN.{length}
-use Rattle.format.specs.Bytes.{part, littleEndian, u64}
+use Rattle.format.specs.Bytes.{part, u64}
 use Rattle.format.specs.Walk.{Walk, ret, refuse}
 use Rattle.format.specs.Heap.{Heap}
 use Rattle.format.specs.Names.{stringAt, keyText, text}

@@ -1,6 +1,6 @@
 -- The heap, then the tree in its segment.
 use denote.Ref.{now}
-use mathlib.Core.Path.{_≡_, refl, sym, subst}
+use mathlib.Core.Path.{_≡_, subst}
 use Prim.Native.Nat.{_+_, _-_}
 use Rattle.format.specs.Bytes.{part}
 use Rattle.format.specs.Walk.{run}

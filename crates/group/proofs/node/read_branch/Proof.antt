@@ -3,7 +3,6 @@ use denote.Ref.{now}
 use mathlib.Core.List.{[]}
 use mathlib.Core.Path.{_≡_, refl, sym, ap, _∙_, subst}
 use Prim.Native.Nat.{_+_, _*_}
-use lib.ListN.{length}
 use Rattle.format.specs.Bytes.{part}
 use Rattle.format.specs.Walk.{run}
 use Rattle.format.specs.Heap.{Heap}

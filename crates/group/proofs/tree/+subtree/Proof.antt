@@ -11,16 +11,15 @@ use mathlib.Core.Path.{_≡_, refl, sym, ap, _∙_, subst}
 use lib.ListN.{length}
 use Rattle.format.specs.Names.{Bound, stringAt}
 use Rattle.format.specs.Tree as walk
-use Rattle.walk.proofs.Simulation.{Simulation, start, come-from, same-walk, returned, callee-done, callee-stopped, callee-last}
+use Rattle.walk.proofs.Simulation.{Simulation, start, come-from, same-walk, returned, callee-done, callee-stopped}
 use Rattle.symbol.specs.Range.{Tight}
 use Rattle.symbol.specs.Key.{KeyAt}
 use Rattle.symbol.specs.Entry.{groupOf, stateOf}
 use Rattle.group.specs.Node.{BranchIs}
-use Rattle.group.specs.Tree.{Sound, SubtreeIs, stepEnd}
+use Rattle.group.specs.Tree.{Sound}
 use Rattle.group.specs.declared.node.BranchRead
 use Rattle.group.specs.declared.node.BranchRead.{BranchRead}
 use Rattle.symbol.specs.declared.entry.Step
-use Rattle.symbol.specs.declared.entry.Step.{Step}
 use Rattle.group.proofs.TreeLaws.{childrenFrom, children-end, children-turn, node-stopped, node-done, leaf-walked}
 use borrow.Fn.Kinds.{In}
 use borrow.Fn.PlainCycle.{Measures, is, falls, and}

@@ -1,5 +1,4 @@
 -- The keys on both sides narrow the range.
-use native.Mathlib.Omega.{arith}
 use borrow.Author.Needs.{needs}
 use Rattle.group.proofs.tree.child_range.Statement.{statement}
 use Rattle.group.proofs.tree.child_range.Tie as tie
