@@ -1,7 +1,7 @@
 -- Laws of the lent list of words, of the blocks that it holds, and of entering one.
 use mathlib.Core.Path.{_≡_, refl, ap, sym, _∙_}
 use mathlib.Core.Bool.{Bool, true, false, and-false}
-use mathlib.Core.List.{List, [], _∷_, _++_}
+use mathlib.Core.List.{List, [], _∷_, _++_, append-assoc}
 use Prim.Native.Nat.{ℕ, suc, zero, _+_, _-_, _/_, _≤_, _<_}
 use native.Mathlib.Omega.{arith}
 use native.Mathlib.Nat.{add-zero}
@@ -12,13 +12,14 @@ use lib.Seq.{drop-drop, getD-drop, take-suc-set}
 use lib.Dec.{leb, ltb}
 use Rattle.format.specs.Limits.{blocksMost}
 use Rattle.format.specs.Bytes.{if_then_else_}
-use Rattle.format.specs.Blocks.{Block, block, overlaps, overlapsAny, entryAnswer, roomOf}
+use Rattle.format.specs.Blocks.{Block, block, blockWords, overlaps, overlapsAny, entryAnswer, roomOf}
 use Rattle.walk.specs.Lent.{blocksOf, Lent, entering}
 use Rattle.walk.specs.declared.blocks.Entry.the-variants.{Entered, Refused}
 
--- the words cleared so far, and one more
-pub zeros-more : (ws : List ℕ) (i : ℕ) → i < length ws → take i ws ≡ replicate i 0 → take (i + 1) (set ws i 0) ≡ replicate (i + 1) 0
-zeros-more ws i h e = rw (add-one i, take-suc-set ws i 0 h, e) (replicate-append-replicate i 1 0 ∙ rw add-one)
+-- the words cleared so far, behind those that stay, and one more
+pub zeros-more : (p ws : List ℕ) (i n : ℕ) → i < length ws → take i ws ≡ p ++ replicate n 0 → take (i + 1) (set ws i 0) ≡ p ++ replicate (n + 1) 0
+zeros-more p ws i n h e =
+    rw (add-one i, take-suc-set ws i 0 h, e, append-assoc p (replicate n 0) (0 ∷ [])) (ap (λ (z : List ℕ). p ++ z) (replicate-append-replicate n 1 0))
 
 -- the room that so many words give, by the lesser of the two
 pub roomOf-most : (words : ℕ) → blocksMost ≤ words / 2 → roomOf words ≡ blocksMost
@@ -33,6 +34,16 @@ roomOf-pairs words h = omega arith
 pub lent-none : (ws : List ℕ) → Lent ws 0 (roomOf (length ws))
 unfolding roomOf
 lent-none ws = record { counted = omega arith; lent = omega arith }
+
+-- the words of the first c blocks
+pub words-blocksOf : (c : ℕ) (ws : List ℕ) → c + c ≤ length ws → blockWords (blocksOf c ws) ≡ take (c + c) ws
+unfolding blocksOf blockWords
+words-blocksOf zero ws h = refl
+words-blocksOf (suc c) [] h = absurd (omega arith)
+words-blocksOf (suc c) (x ∷ []) h = absurd (omega arith)
+words-blocksOf (suc c) (x ∷ y ∷ ws) h =
+    let e : suc c + suc c ≡ suc (suc (c + c)) = omega arith in
+    rw (e, words-blocksOf c ws (omega arith))
 
 pub length-blocksOf : (c : ℕ) (ws : List ℕ) → length (blocksOf c ws) ≡ c
 unfolding blocksOf

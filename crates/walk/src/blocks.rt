@@ -1,15 +1,17 @@
 // The blocks entered, in a list of words that the caller lends: two words a block, its address and its length.
 ghost use mathlib.Core.Path.{_≡_};
-ghost use Prim.Native.Nat.{_+_, _^_, _<_, _≤_};
-ghost use lib.ListN.{length, replicate};
+ghost use mathlib.Core.List.{_++_};
+ghost use Prim.Native.Nat.{_+_, _-_, _^_, _<_, _≤_};
+ghost use lib.ListN.{length, take, replicate};
 ghost use Rattle.format.specs.Blocks.{overlapsAny, entryAnswer, roomOf};
 ghost use Rattle.walk.specs.Lent.{Lent, blocksOf, entering, entered};
 
-// Fills the words with zeros.
-pub fn clear(words: &mut [u64])
-    ensures { λ _. ⌜ now (words .exit) ≡ replicate (length (now (words .entry))) 0 ⌝ }
+// Sets the words from a place on to zero.
+pub fn clear_from(words: &mut [u64], from: usize)
+    requires { ⌜ from ≤ length (now words) ⌝ }
+    ensures { λ _. ⌜ now (words .exit) ≡ take from (now (words .entry)) ++ replicate (length (now (words .entry)) - from) 0 ⌝ }
 {
-    let mut i: usize = 0;
+    let mut i = from;
     while i < words.len() {
         words[i] = 0;
         i += 1;

@@ -1,0 +1,146 @@
+-- From the walk of an image to the reply.
+use Prim.Native.Nat.{ℕ, zero, suc, _+_, _-_, _≤_, _<_}
+use mathlib.Core.List.{List, [], _∷_, _++_}
+use mathlib.Core.Path.{_≡_, refl, _∙_}
+use native.Mathlib.Omega.{arith}
+use lib.ListN.{length, getD, take, drop, replicate, length-replicate}
+use lib.Seq.{length-take-le}
+use Rattle.format.specs.Limits.{objectsMost, blocksMost}
+use Rattle.format.specs.Blocks.{Block, roomOf, blockList}
+use Rattle.format.specs.Walk.{Outcome, done, refused, run}
+use Rattle.format.specs.Superblock as definitions
+use Rattle.format.specs.Superblock.{opened, notOpened, openImage}
+use Rattle.format.specs.Ledger.{Linked}
+use Rattle.format.specs.Audit.{auditWalk, auditRun}
+use Rattle.format.specs.Answers.{audit}
+use Rattle.walk.specs.Lent.{blocksOf, stopped, Walked}
+use Rattle.walk.proofs.BlockList.{words-blocksOf, length-blocksOf}
+use Rattle.walk.proofs.Simulation.{walked-done}
+use Rattle.ledger.specs.Links.{addressesOf}
+use Rattle.ledger.specs.Table.{linkedOf, Table}
+use Rattle.ledger.specs.Report.{countedPlaces, Empty, Readable, StoredRead}
+use Rattle.ledger.specs.declared.report.Ledger.{Ledger}
+use Rattle.ledger.proofs.TableLaws.{length-linkedOf, table-none}
+use Rattle.ledger.proofs.ReportLaws.{counted-law, empty-law}
+use Rattle.image.specs.Superblock.{superblockOf}
+use Rattle.image.specs.declared.superblock.Superblock.{Superblock}
+use Rattle.object.specs.declared.object.ObjectRead.the-variants.{Done, Stopped}
+use Rattle.links.proofs.HeadersInside.{headers-inside}
+use Rattle.audit.specs.Audit.{refusedWith, Bounded, Lists, ImageWalked, AuditedIs, AuditIs}
+use Rattle.audit.specs.declared.Audited.{Audited}
+
+pub sub-zero : (n : ℕ) → n - 0 ≡ n
+sub-zero n = omega arith
+
+-- the audit's run, by what opening the image gave
+run-not-opened : (im : List ℕ) (lent n : ℕ) → notOpened n ≡ openImage im → auditRun im lent ≡ refused n []
+unfolding auditRun
+run-not-opened im lent n e = rw (← e)
+
+run-opened : (im : List ℕ) (lent : ℕ) (s : definitions.Superblock) → opened s ≡ openImage im → auditRun im lent ≡ run im (s .endOfFile) (roomOf lent) (auditWalk s) []
+unfolding auditRun
+run-opened im lent s e = rw (← e)
+
+walked-refused : {A : Type 0} (ws ws′ : List ℕ) (x : ℕ) (o : Outcome A) → Walked ws ws′ (stopped x) o → (bs : List Block) × (o ≡ refused x bs)
+walked-refused ws ws′ x (done a bs) w = let z : _≡_ {A = ℕ} 0 1 = cc (w .answer) in absurd (omega arith)
+walked-refused ws ws′ x (refused n bs) w = let e : n ≡ x = cc (w .answer) in (bs, rw e refl)
+
+-- a refusal
+module _ (im : List ℕ) (lent n : ℕ) (ws addresses stored counts : List ℕ) (zeros : ws ≡ replicate lent 0) where
+  refused-is : (bs : List Block) → auditRun im lent ≡ refused n bs → AuditedIs im lent ws addresses stored counts (refusedWith n)
+  unfolding audit countedPlaces
+  refused-is bs e = record {
+    reply = rw (e, zeros);
+    fits = omega arith;
+    addressesRest = λ h. absurd (omega arith);
+    storedRest = λ h. absurd (omega arith);
+    countsRest = λ h. absurd (omega arith);
+  }
+
+  -- the image can't be opened
+  pub not-opened-is : notOpened n ≡ openImage im → AuditedIs im lent ws addresses stored counts (refusedWith n)
+  not-opened-is e = refused-is [] (run-not-opened im lent n e)
+
+-- the walk was refused
+pub stopped-is : (im ws : List ℕ) (s : Superblock) (x : ℕ) (ws₁ addresses₁ counts₁ ws₂ addresses stored counts : List ℕ) → opened (superblockOf s) ≡ openImage im →
+    ImageWalked im ws s ws₁ addresses₁ counts₁ (Stopped x) → ws₂ ≡ replicate (length ws) 0 → AuditedIs im (length ws) ws₂ addresses stored counts (refusedWith x)
+stopped-is im ws s x ws₁ addresses₁ counts₁ ws₂ addresses stored counts e w zeros =
+    let o = walked-refused ws ws₁ x _ (w .walked) in
+    refused-is im (length ws) x ws₂ addresses stored counts zeros (o .0) (run-opened im (length ws) (superblockOf s) e ∙ o .1)
+
+getD-addresses : (n k : ℕ) (xs ts : List ℕ) → k < n → getD (addressesOf (linkedOf n xs ts)) k 0 ≡ getD xs k 0
+unfolding addressesOf linkedOf
+getD-addresses zero k xs ts h = absurd (omega arith)
+getD-addresses (suc n) zero xs ts h = refl
+getD-addresses (suc n) (suc k) [] ts h = getD-addresses n k [] (drop 1 ts) (omega arith) ∙ refl
+getD-addresses (suc n) (suc k) (x ∷ xs) ts h = getD-addresses n k xs (drop 1 ts) (omega arith)
+
+getD-zeros : (n k : ℕ) → _≡_ {A = ℕ} (getD (replicate n 0) k 0) 0
+getD-zeros zero k = refl
+getD-zeros (suc n) zero = refl
+getD-zeros (suc n) (suc k) = getD-zeros n k
+
+-- the walk is done
+module _ (im ws : List ℕ) (s : Superblock) (count objects : ℕ) (ws₁ addresses counts : List ℕ) (same : length ws₁ ≡ length ws) (w : ImageWalked im ws s ws₁ addresses counts (Done count objects)) where
+  abbrev os : List Linked
+  os = linkedOf objects addresses counts
+
+  ran : run im (s .«end_of_file») (roomOf (length ws)) (auditWalk (superblockOf s)) [] ≡ done os (blocksOf count ws₁)
+  ran = walked-done ws ws₁ os count _ (w .walked)
+
+  -- the stored counts lie inside the image
+  pub readable : Bounded im s → Readable im addresses objects
+  readable b = record {
+    listed = omega (arith, w .ready .table .fits, w .ready .table .addressesLong);
+    inside = λ k h.
+        let i = headers-inside im (roomOf (length ws)) (superblockOf s) os (blocksOf count ws₁) ran k (rw length-linkedOf h) in
+        omega (arith, rw (getD-addresses objects k addresses counts h) at i, b .2);
+  }
+
+  pub count-fits : count + count ≤ length ws₁
+  count-fits = omega (arith, w .ready .lent .counted, w .ready .lent .lent)
+
+  pub count-small : count + count ≤ 2048
+  unfolding roomOf blocksMost
+  count-small = omega (arith, w .ready .lent .counted)
+
+  list-is : take (count + count) ws₁ ++ replicate (length ws₁ - (count + count)) 0 ≡ blockList (length ws) (blocksOf count ws₁)
+  list-is = rw (words-blocksOf count ws₁ count-fits, length-take-le (count + count) ws₁ count-fits, same)
+
+  pub done-is : opened (superblockOf s) ≡ openImage im → (stored₀ stored : List ℕ) → stored₀ ≡ replicate objectsMost 0 → StoredRead im addresses objects stored₀ stored → (ws₂ : List ℕ) →
+      ws₂ ≡ take (count + count) ws₁ ++ replicate (length ws₁ - (count + count)) 0 → AuditedIs im (length ws) ws₂ addresses stored counts (record { number = 0; «block_count» = count; objects = objects })
+  unfolding audit
+  done-is e stored₀ stored z r ws₂ l =
+      let o = run-opened im (length ws) (superblockOf s) e ∙ ran in
+      record {
+        reply = rw (o, length-blocksOf, counted-law im objects addresses stored counts (r .read), l, list-is);
+        fits = w .ready .table .fits;
+        addressesRest = λ h k m. w .ready .table .addressesZero k m;
+        storedRest = λ h k m. r .rest k m ∙ rw z (getD-zeros objectsMost k);
+        countsRest = λ h k m. w .ready .table .countsZero k m;
+      }
+
+-- lists of zeros are an empty table, with room for every object's stored count
+module _ (addresses stored counts : List ℕ) (l : Lists addresses stored counts) where
+  pub lists-table : Table addresses counts 0
+  lists-table = rw (l .addressesEmpty, l .countsEmpty) (table-none objectsMost objectsMost (omega arith) (omega arith))
+
+pub stored-room : (addresses stored counts : List ℕ) (n : ℕ) → Lists addresses stored counts → n ≤ objectsMost → n ≤ length stored
+stored-room addresses stored counts n l h = rw (l .storedEmpty, length-replicate) h
+
+-- the reply with its ledger: an empty one where there are no objects, else the lists
+module _ (im : List ℕ) (lent : ℕ) (ws addresses stored counts : List ℕ) (r : Audited) (h : AuditedIs im lent ws addresses stored counts r) where
+  pub empty-reply : (l : Ledger) → r .objects ≡ 0 → Empty l → AuditIs im lent ws (record { number = r .number; «block_count» = r .«block_count»; ledger = l })
+  unfolding countedPlaces
+  empty-reply l z e =
+      let p = h .reply in
+      record {
+        reply = rw (empty-law l e) (rw z at p);
+        fits = omega (arith, e .none);
+        addressesRest = λ k m. rw (e .addressesZero) (getD-zeros objectsMost k);
+        storedRest = λ k m. rw (e .storedZero) (getD-zeros objectsMost k);
+        countsRest = λ k m. rw (e .countsZero) (getD-zeros objectsMost k);
+      }
+
+  pub full-reply : 0 < r .objects → AuditIs im lent ws (record { number = r .number; «block_count» = r .«block_count»; ledger = record { objects = r .objects; addresses = addresses; stored = stored; «true_counts» = counts } })
+  full-reply z = record { reply = h .reply; fits = h .fits; addressesRest = h .addressesRest z; storedRest = h .storedRest z; countsRest = h .countsRest z }

@@ -1,0 +1,63 @@
+-- What the audit returns and leaves, as document 01's reply.
+use Prim.Native.Nat.{ℕ, _≤_, _<_}
+use mathlib.Core.List.{List, []}
+use mathlib.Core.Path.{_≡_}
+use lib.ListN.{length, getD, replicate}
+use Rattle.format.specs.Limits.{objectsMost}
+use Rattle.format.specs.Blocks.{roomOf}
+use Rattle.format.specs.Walk.{run}
+use Rattle.format.specs.Audit.{auditWalk}
+use Rattle.format.specs.Answers.{AuditReply, audit}
+use Rattle.walk.specs.Lent.{Walked}
+use Rattle.image.specs.Superblock.{superblockOf, FieldsBounded}
+use Rattle.image.specs.declared.superblock.Superblock.{Superblock}
+use Rattle.image.specs.declared.superblock.Opening.the-variants.{Opened}
+use Rattle.object.specs.Object.{objectEnd, ReadyIf}
+use Rattle.object.specs.declared.object.ObjectRead.{ObjectRead}
+use Rattle.ledger.specs.Report.{countedPlaces, countedOf}
+use Rattle.ledger.specs.declared.report.Ledger.{Ledger}
+use Rattle.audit.specs.declared.Audited.{Audited}
+use Rattle.audit.specs.declared.Reply.{Reply}
+
+-- what is returned with a refusal
+abbrev pub refusedWith : ℕ → Audited
+refusedWith n = record { number = n; «block_count» = 0; objects = 0 }
+
+-- what is known of an opened image's superblock
+abbrev pub Bounded : List ℕ → Superblock → Type 0
+Bounded im s = FieldsBounded im (Opened s)
+
+-- the walk of an opened image was walked, in the whole of the list lent
+pub record ImageWalked (im ws : List ℕ) (s : Superblock) (ws′ addresses′ counts′ : List ℕ) (r : ObjectRead) : Type 0 where
+  pub walked : Walked ws ws′ (objectEnd addresses′ counts′ r) (run im (s .«end_of_file») (roomOf (length ws)) (auditWalk (superblockOf s)) [])
+  pub ready : ReadyIf ws′ addresses′ counts′ (roomOf (length ws)) r
+
+-- "kept in a table of 256 places that starts empty"
+pub record Lists (addresses stored counts : List ℕ) : Type 0 where
+  pub addressesEmpty : addresses ≡ replicate objectsMost 0
+  pub storedEmpty : stored ≡ replicate objectsMost 0
+  pub countsEmpty : counts ≡ replicate objectsMost 0
+
+-- from the n-th on the places are zeros
+abbrev pub ZerosFrom : ℕ → List ℕ → Type 0
+ZerosFrom n l = (k : ℕ) → n ≤ k → getD l k 0 ≡ 0
+
+-- the reply of document 01, by what was returned and left
+abbrev pub replyOf : List ℕ → List ℕ → List ℕ → List ℕ → Audited → AuditReply
+replyOf ws addresses stored counts r = record { number = r .number; blockCount = r .«block_count»; objects = countedPlaces (r .objects) addresses stored counts; list = ws }
+
+-- The reply is the definition's, and its objects have places. Where there are objects, all other places are zeros; no reply shows what a refusal leaves there.
+pub record AuditedIs (im : List ℕ) (lent : ℕ) (ws addresses stored counts : List ℕ) (r : Audited) : Type 0 where
+  pub reply : replyOf ws addresses stored counts r ≡ audit im lent
+  pub fits : r .objects ≤ objectsMost
+  pub addressesRest : 0 < r .objects → ZerosFrom (r .objects) addresses
+  pub storedRest : 0 < r .objects → ZerosFrom (r .objects) stored
+  pub countsRest : 0 < r .objects → ZerosFrom (r .objects) counts
+
+-- the reply is the definition's, its objects have places, and all other places are zeros
+pub record AuditIs (im : List ℕ) (lent : ℕ) (ws : List ℕ) (r : Reply) : Type 0 where
+  pub reply : _≡_ {A = AuditReply} (record { number = r .number; blockCount = r .«block_count»; objects = countedOf (r .ledger); list = ws }) (audit im lent)
+  pub fits : r .ledger .objects ≤ objectsMost
+  pub addressesRest : ZerosFrom (r .ledger .objects) (r .ledger .addresses)
+  pub storedRest : ZerosFrom (r .ledger .objects) (r .ledger .stored)
+  pub countsRest : ZerosFrom (r .ledger .objects) (r .ledger .«true_counts»)

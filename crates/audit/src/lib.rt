@@ -1,0 +1,123 @@
+// The link audit: counts the hard links that reach each object of a file.
+use format::OBJECTS_MOST;
+use image::superblock;
+use image::superblock::Opening;
+use image::superblock::Superblock;
+use ledger::report;
+use ledger::report::Ledger;
+use ledger::table;
+use object::object::ObjectRead;
+use object::objects;
+use walk::blocks;
+use walk::blocks::Entry;
+ghost use mathlib.Core.Path.{_≡_};
+ghost use lib.ListN.{length, replicate};
+ghost use Rattle.ledger.specs.Table.{Table};
+ghost use Rattle.audit.specs.Audit.{refusedWith, Bounded, ImageWalked, Lists, AuditedIs, AuditIs};
+
+// The answer, and the numbers of blocks entered and of objects found, 0 where the answer isn't.
+pub struct Audited {
+    pub number: u8,
+    pub block_count: usize,
+    pub objects: usize,
+}
+
+// A refusal: the list is all zeros, and so are the numbers.
+fn refused(list: &mut [u64], number: u8) -> Audited
+    ensures { λ r. ⌜ (r ≡ refusedWith number) × (now (list .exit) ≡ replicate (length (now (list .entry))) 0) ⌝ }
+{
+    blocks::clear_from(list, 0);
+    Audited {
+        number,
+        block_count: 0,
+        objects: 0,
+    }
+}
+
+// The audit's walk: the superblock, then all objects from the root on. The superblock's root entry is the root's first link.
+fn walk_image(
+    image: &[u8],
+    list: &mut [u64],
+    addresses: &mut [u64],
+    true_counts: &mut [u32],
+    superblock: Superblock,
+) -> ObjectRead
+    requires { ⌜ Bounded (now image) superblock ⌝ }
+    requires { ⌜ Table (now addresses) (now «true_counts») 0 ⌝ }
+    ensures { λ r. ⌜ ImageWalked (now (image .entry)) (now (list .entry)) superblock (now (list .exit)) (now (addresses .exit)) (now («true_counts» .exit)) r ⌝ }
+{
+    let room = blocks::room(list.len());
+    match superblock::enter_superblock(superblock, list, room) {
+        Entry::Refused(x) => ObjectRead::Stopped(x),
+        Entry::Entered(n) => {
+            let root = superblock.root;
+            table::start(addresses, true_counts, root);
+            objects::read(image, list, addresses, true_counts, superblock, room, n, 1)
+        }
+    }
+}
+
+// The audit with the ledger's arrays lent: its objects stand in them. A refusal leaves in the arrays what it came to.
+pub fn audit_into(
+    image: &[u8],
+    list: &mut [u64],
+    addresses: &mut [u64],
+    stored: &mut [u32],
+    true_counts: &mut [u32],
+) -> Audited
+    requires { ⌜ Lists (now addresses) (now stored) (now «true_counts») ⌝ }
+    ensures { λ r. ⌜ AuditedIs (now (image .entry)) (length (now (list .entry))) (now (list .exit)) (now (addresses .exit)) (now (stored .exit)) (now («true_counts» .exit)) r ⌝ }
+{
+    match superblock::open(image) {
+        Opening::NotOpened(x) => refused(list, x),
+        Opening::Opened(s) => match walk_image(image, list, addresses, true_counts, s) {
+            ObjectRead::Stopped(x) => refused(list, x),
+            ObjectRead::Done { count, objects } => {
+                report::read_stored(image, addresses, stored, objects);
+                blocks::clear_from(list, count + count);
+                Audited {
+                    number: 0,
+                    block_count: count,
+                    objects,
+                }
+            }
+        },
+    }
+}
+
+// The answer, the number of blocks entered, and the ledger; zeros and an empty ledger where the answer isn't 0.
+pub struct Reply {
+    pub number: u8,
+    pub block_count: usize,
+    pub ledger: Ledger,
+}
+
+// The audit of an image. The list is lent for the blocks, two words a block.
+pub fn audit(image: &[u8], list: &mut [u64]) -> Reply
+    ensures { λ r. ⌜ AuditIs (now (image .entry)) (length (now (list .entry))) (now (list .exit)) r ⌝ }
+{
+    let mut addresses = [0u64; OBJECTS_MOST];
+    let mut stored = [0u32; OBJECTS_MOST];
+    let mut true_counts = [0u32; OBJECTS_MOST];
+    let r = audit_into(image, list, &mut addresses, &mut stored, &mut true_counts);
+    let number = r.number;
+    let block_count = r.block_count;
+    let objects = r.objects;
+    if objects == 0 {
+        return Reply {
+            number,
+            block_count,
+            ledger: report::empty(),
+        };
+    }
+    Reply {
+        number,
+        block_count,
+        ledger: Ledger {
+            objects,
+            addresses,
+            stored,
+            true_counts,
+        },
+    }
+}

@@ -1,0 +1,3 @@
+pub mod OverwriteLaws
+pub mod LineLaws
+pub mod ReportLaws

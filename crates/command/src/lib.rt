@@ -1,0 +1,89 @@
+// The audit command: what it prints for an input, and the reading and writing around that.
+mod input;
+pub mod text;
+
+ghost use Prim.Native.Nat.{_≤_};
+ghost use lib.ListN.{length};
+ghost use Rattle.command.specs.Text.{outputMost, Printed};
+use format::BLOCKS_MOST;
+use format::INPUT_MOST;
+use format::OBJECTS_MOST;
+use input::Input;
+use libc::STDERR_FILENO;
+use libc::STDIN_FILENO;
+use libc::STDOUT_FILENO;
+use text::FIRST_LINE;
+use text::OBJECT_LINE;
+
+// The first line, and one for each of the most objects.
+pub const OUTPUT_MOST: usize = FIRST_LINE + OBJECT_LINE * OBJECTS_MOST;
+
+const LIST_WORDS: usize = 2 * BLOCKS_MOST;
+
+// One byte more than is answered for, so that a longer input is known as longer.
+const BUFFER: usize = INPUT_MOST + 1;
+
+// Writes what the command prints for an input, and returns how many bytes that is.
+pub fn report(input: &[u8], out: &mut [u8]) -> usize
+    requires { ⌜ outputMost ≤ length (now out) ⌝ }
+    ensures { λ r. ⌜ Printed (now (input .entry)) (now (out .entry)) (now (out .exit)) r ⌝ }
+{
+    let limits = format::the_limits();
+    if limits.input_most < input.len() {
+        text::put_first(out, 1, 0);
+        return FIRST_LINE;
+    }
+    let mut list = [0u64; LIST_WORDS];
+    let reply = audit::audit(input, &mut list);
+    let ledger = reply.ledger;
+    text::put_first(out, reply.number, ledger.objects);
+    text::put_objects(out, FIRST_LINE, ledger)
+}
+
+// Answers on standard output.
+fn answer(input: &[u8]) {
+    let mut out = [0u8; OUTPUT_MOST];
+    let n = report(input, &mut out);
+    if !io::write_all(STDOUT_FILENO, &out[..n]) {
+        os::fail(b"standard output");
+    }
+}
+
+// Reads the input to its end, and answers. An input that can't be read is named on standard error.
+fn run(fd: i32, name: &[u8]) {
+    let mut buffer = [0u8; BUFFER];
+    match input::read_input(fd, &mut buffer) {
+        Input::Read(n) => answer(&buffer[..n]),
+        Input::Failed => os::fail(name),
+    }
+}
+
+fn run_file() {
+    let mut path = io::buffer();
+    let n = os::arg(1, &mut path);
+    if os::errno() != 0 {
+        os::fail(b"the argument");
+        return;
+    }
+    let fd = os::open_read(&path[..n]);
+    if fd < 0 {
+        os::fail(&path[..n]);
+        return;
+    }
+    run(fd, &path[..n]);
+    libc::close(fd);
+}
+
+// The command: audits the file that its one argument names, or standard input.
+pub fn start() {
+    let words = os::arg_count();
+    if words < 2 {
+        run(STDIN_FILENO, b"standard input");
+        return;
+    }
+    if 2 < words {
+        io::write_all(STDERR_FILENO, b"usage: h5audit [FILE]\n");
+        return;
+    }
+    run_file();
+}

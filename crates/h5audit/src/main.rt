@@ -1,0 +1,4 @@
+// The audit command.
+fn main() {
+    command::start();
+}

@@ -1,0 +1,88 @@
+-- "gives one of the numbered answers": the audit's number is one of 0 to 13, for every image and every number of words lent.
+use Prim.Native.Nat.{ℕ, zero, suc, _+_, _≤_}
+use mathlib.Core.Bool.{Bool, true, false, not}
+use mathlib.Core.List.{List, [], _∷_}
+use mathlib.Core.Path.{_≡_, refl}
+use native.Mathlib.Omega.{arith}
+use lib.ListN.{drop, length}
+use lib.Dec.{eqb}
+use Rattle.format.specs.Limits.{imageLeast, imageMost}
+use Rattle.format.specs.Bytes.{if_then_else_, withFirst, inRange, u64}
+use Rattle.format.specs.Blocks.{Block, roomOf}
+use Rattle.format.specs.Walk.{ret, Outcome, done, refused, run, _>>=_}
+use Rattle.format.specs.Superblock.{Superblock, Opening, opened, notOpened, openImage, runOpened, signature, superblockRead, superblockSound, superblockFields, superblockWalk}
+use Rattle.format.specs.Header.{Object, group, dataset, committed}
+use Rattle.format.specs.Symbols.{Entry}
+use Rattle.format.specs.Ledger.{Linked, countLink, discover}
+use Rattle.format.specs.Object.{contentWalk, objectWalk}
+use Rattle.format.specs.Audit.{objectsWalk, auditWalk, auditRun}
+use Rattle.format.specs.Answers.{auditEnd, audit}
+use Rattle.links.proofs.Numbered.{Refusal, Numbered, numbers, run-number}
+use Rattle.links.proofs.NumberedHeader.{header-numbered}
+use Rattle.links.proofs.NumberedDataset.{dataset-numbered}
+use Rattle.links.proofs.NumberedGroup.{group-numbered}
+
+discover-numbered : (e : Entry) (os : List Linked) → Numbered (discover e os)
+unfolding discover countLink
+discover-numbered e os = search numbers depth 8
+
+content-numbered : (s : Superblock) (o : Object) (os : List Linked) → Numbered (contentWalk s o os)
+unfolding contentWalk
+content-numbered s (group tree heap) os = group-numbered (s .leafK) (s .internalK) tree heap discover os discover-numbered
+content-numbered s (dataset space type layout) os = search (numbers, dataset-numbered)
+content-numbered s committed os = search numbers
+
+object-numbered : (s : Superblock) (at : ℕ) (os : List Linked) → Numbered (objectWalk s at os)
+unfolding objectWalk
+object-numbered s at os = search (numbers, header-numbered, content-numbered)
+
+objects-numbered : (s : Superblock) (fuel i : ℕ) (os : List Linked) → Numbered (objectsWalk s fuel i os)
+unfolding objectsWalk
+objects-numbered s zero i os = search numbers
+objects-numbered s (suc fuel) i os = go (drop i os) (objects-numbered s fuel (i + 1))
+  where
+    go : (left : List Linked) → ((ps : List Linked) → Numbered (objectsWalk s fuel (i + 1) ps)) → Numbered (withFirst left (ret os) (λ o. objectWalk s (o .address) os >>= λ ps. objectsWalk s fuel (i + 1) ps))
+    go [] rest = search numbers
+    go (o ∷ later) rest = search (numbers, object-numbered)
+
+audit-numbered : (s : Superblock) → Numbered (auditWalk s)
+unfolding auditWalk superblockWalk
+audit-numbered s = search (numbers, objects-numbered) depth 8
+
+-- an image that can't be opened gives 1, 2, 3 or 4
+not-opened-number : (im : List ℕ) (n : ℕ) → openImage im ≡ notOpened n → Refusal n
+unfolding openImage
+not-opened-number im n e = go (not (inRange imageLeast imageMost (length im))) (not (eqb (u64 im 0) signature)) (not (superblockRead im)) (not (superblockSound im)) e
+  where
+    go : (t u v w : Bool) → (if t then notOpened 1 else if u then notOpened 2 else if v then notOpened 3 else if w then notOpened 4 else opened (superblockFields im)) ≡ notOpened n → Refusal n
+    go true u v w q = let same : 1 ≡ n = cc in (omega arith, omega arith)
+    go false true v w q = let same : 2 ≡ n = cc in (omega arith, omega arith)
+    go false false true w q = let same : 3 ≡ n = cc in (omega arith, omega arith)
+    go false false false true q = let same : 4 ≡ n = cc in (omega arith, omega arith)
+    go false false false false q = let z : _≡_ {A = ℕ} 0 1 = cc in absurd (omega arith)
+
+-- an audit that is refused has one of the numbers 1 to 13
+pub audit-refusal : (im : List ℕ) (lent n : ℕ) (bs : List Block) → auditRun im lent ≡ refused n bs → (1 ≤ n) × (n ≤ 13)
+unfolding auditRun
+audit-refusal im lent n bs e = go (openImage im) refl e
+  where
+    go : (o : Opening) → openImage im ≡ o → runOpened o (λ s. run im (s .endOfFile) (roomOf lent) (auditWalk s) []) ≡ refused n bs → Refusal n
+    go (opened s) p r = run-number im (s .endOfFile) (roomOf lent) (auditWalk s) [] n bs (audit-numbered s) r
+    go (notOpened m) p r = let same : m ≡ n = cc in rw same at (not-opened-number im m p)
+
+pub audit-answers : (im : List ℕ) (lent : ℕ) → audit im lent .number ≤ 13
+unfolding audit
+audit-answers im lent = go (auditRun im lent) refl
+  where
+    go : (o : Outcome (List Linked)) → auditRun im lent ≡ o → auditEnd im lent o .number ≤ 13
+    go (done os bs) e = omega arith
+    go (refused n bs) e = audit-refusal im lent n bs e .1
+
+-- 0 is "done"
+pub audit-zero : (im : List ℕ) (lent : ℕ) → audit im lent .number ≡ 0 → (os : List Linked) × (bs : List Block) × (auditRun im lent ≡ done os bs)
+unfolding audit
+audit-zero im lent = go (auditRun im lent) refl
+  where
+    go : (o : Outcome (List Linked)) → auditRun im lent ≡ o → auditEnd im lent o .number ≡ 0 → (os : List Linked) × (bs : List Block) × (auditRun im lent ≡ done os bs)
+    go (done os bs) e z = (os, bs, e)
+    go (refused n bs) e z = absurd (omega (arith, audit-refusal im lent n bs e .0))

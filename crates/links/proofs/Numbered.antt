@@ -1,0 +1,86 @@
+-- Walks that refuse with a number of the audit's only, whatever the image.
+use Prim.Native.Nat.{ℕ, zero, suc, _+_, _≤_}
+use mathlib.Core.Bool.{Bool, true, false}
+use mathlib.Core.List.{List, [], _∷_, _++_}
+use mathlib.Core.Path.{_≡_}
+use native.Mathlib.Omega.{arith}
+use lib.Dec.{leb, ltb, lit≤}
+use lib.ListN.{length}
+use Rattle.format.specs.Bytes.{if_then_else_, part}
+use Rattle.format.specs.Blocks.{Block, block, overlapsAny, entryAnswer}
+use Rattle.format.specs.Walk.{Kind, Length, shown, lengthIn, Walk, ret, refuse, enter, check, _>>=_, Outcome, refused, ifEntered, run}
+use Rattle.format.specs.Names.{Text, text, fault, outside, noNul, badForm, inFreeBlock, faultNumber, textWalk}
+
+-- the numbers with which an audit is refused
+abbrev pub Refusal : ℕ → Type 0
+Refusal n = (1 ≤ n) × (n ≤ 13)
+
+-- every refusal in the walk, whatever it is shown, has one of these numbers
+unfoldable pub Numbered : {A : Type 0} → Walk A → Type 0
+Numbered (ret a) = Unit {0}
+Numbered (refuse n) = Refusal n
+Numbered (enter v a l k) = (b : List ℕ) → Numbered (k b)
+
+-- one walk after another
+pub numbered-bind : {A B : Type 0} (w : Walk A) (f : A → Walk B) → Numbered w → ((a : A) → Numbered (f a)) → Numbered (w >>= f)
+unfolding Numbered _>>=_
+numbered-bind (ret a) f h c = c a
+numbered-bind (refuse n) f h c = h
+numbered-bind (enter v a l k) f h c = λ b. numbered-bind (k b) f (h b) c
+
+pub numbered-ret : {A : Type 0} (a : A) → Numbered (ret a)
+unfolding Numbered
+numbered-ret a = tt
+
+pub numbered-refuse : (A : Type 0) (n : ℕ) → 1 ≤ n → n ≤ 13 → Numbered {A = A} (refuse n)
+unfolding Numbered
+numbered-refuse A n l m = (l, m)
+
+pub numbered-enter : {A : Type 0} (v : Kind) (a : ℕ) (l : Length) (k : List ℕ → Walk A) → ((b : List ℕ) → Numbered (k b)) → Numbered (enter v a l k)
+unfolding Numbered
+numbered-enter v a l k h = h
+
+-- a test, and what follows
+pub numbered-check : {A : Type 0} (t : Bool) (n : ℕ) (w : Walk A) → 1 ≤ n → n ≤ 13 → Numbered w → Numbered (check t n >>= λ _. w)
+unfolding Numbered _>>=_
+numbered-check true n w l m h = h
+numbered-check false n w l m h = (l, m)
+
+pub numbered-if : {A : Type 0} (t : Bool) (x y : Walk A) → Numbered x → Numbered y → Numbered (if t then x else y)
+numbered-if true x y h k = h
+numbered-if false x y h k = k
+
+pub numbered-text : (t : Text) → Numbered (textWalk t)
+unfolding Numbered faultNumber
+numbered-text (text t) = tt
+numbered-text (fault outside) = (omega arith, omega arith)
+numbered-text (fault noNul) = (omega arith, omega arith)
+numbered-text (fault badForm) = (omega arith, omega arith)
+numbered-text (fault inFreeBlock) = (omega arith, omega arith)
+
+-- a block's entry is answered with 5, 6, 13 or 0
+entry-number : (eof room : ℕ) (bs : List Block) (a n : ℕ) → entryAnswer eof room bs a n ≤ 13
+unfolding entryAnswer
+entry-number eof room bs a n = go (leb (a + n) eof) (overlapsAny bs a n) (ltb (length bs) room)
+  where
+    go : (t u v : Bool) → _≤_ (if t then if u then 6 else if v then 0 else 13 else 5) 13
+    go true true v = omega arith
+    go true false true = omega arith
+    go true false false = omega arith
+    go false u v = omega arith
+
+entered-number : {A : Type 0} (g : ℕ) (o : Outcome A) (bs : List Block) (n : ℕ) (ms : List Block) → g ≤ 13 → (o ≡ refused n ms → Refusal n) → ifEntered g o (λ m. refused m bs) ≡ refused n ms → Refusal n
+entered-number zero o bs n ms l c e = c e
+entered-number (suc g) o bs n ms l c e = let same : suc g ≡ n = cc in (omega arith, omega arith)
+
+-- a run of such a walk is refused with one of these numbers
+pub run-number : (im : List ℕ) (eof room : ℕ) {A : Type 0} (w : Walk A) (bs : List Block) (n : ℕ) (ms : List Block) → Numbered w → run im eof room w bs ≡ refused n ms → Refusal n
+unfolding Numbered run
+run-number im eof room (ret a) bs n ms h e = let z : _≡_ {A = ℕ} 0 1 = cc in absurd (omega arith)
+run-number im eof room (refuse m) bs n ms h e = let same : m ≡ n = cc in rw same at h
+run-number im eof room (enter v a l k) bs n ms h e =
+    let b = shown v (part im a (lengthIn im v a l)) in
+    entered-number _ _ bs n ms (entry-number eof room bs a (lengthIn im v a l)) (run-number im eof room (k b) (bs ++ (block a (lengthIn im v a l) ∷ [])) n ms (h b)) e
+
+-- the laws of such walks, for `search`
+pub ruleset numbers = (numbered-bind, numbered-ret, numbered-refuse, numbered-enter, numbered-check, numbered-if, numbered-text, tt, lit≤)

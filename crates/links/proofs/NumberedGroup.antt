@@ -1,0 +1,80 @@
+-- The numbers with which reading a group is refused.
+use Prim.Native.Nat.{ℕ, zero, suc, _+_}
+use mathlib.Core.List.{List, [], _∷_, _++_}
+use native.Mathlib.Omega.{arith}
+use lib.Dec.{leb, eqb}
+use lib.ListN.{drop}
+use Rattle.format.specs.Bytes.{u8, u16, u64}
+use Rattle.format.specs.Blocks.{Block, block}
+use Rattle.format.specs.Walk.{Walk}
+use Rattle.format.specs.Heap.{Heap, freeBlocks, freeList, heapWalk}
+use Rattle.format.specs.Names.{Bound}
+use Rattle.format.specs.Symbols.{Entry, Group, GroupState, valueWalk, entryWalk, entries, symbolWalk}
+use Rattle.format.specs.Tree.{keysWalk, children, nodeWalk, branches, subtree, treeWalk, groupWalk}
+use Rattle.links.proofs.Numbered.{Numbered, numbered-bind, numbered-check, numbers}
+
+free-numbered : (fuel : ℕ) (seg : List ℕ) (off : ℕ) (met : List Block) → Numbered (freeBlocks fuel seg off met)
+unfolding freeBlocks
+free-numbered zero seg off met = search numbers
+free-numbered (suc fuel) seg off met =
+    let rest = free-numbered fuel seg (u64 seg off) (met ++ (block off (u64 seg (off + 8)) ∷ [])) in
+    search numbers depth 12
+
+heap-numbered : (at : ℕ) → Numbered (heapWalk at)
+unfolding heapWalk freeList
+heap-numbered at = search (numbers, free-numbered) depth 12
+
+keys-numbered : (h : Heap) (n : ℕ) (b : List ℕ) → Numbered (keysWalk h n b)
+unfolding keysWalk
+keys-numbered h zero b = search numbers
+keys-numbered h (suc n) b = let rest = keys-numbered h n (drop 16 b) in search numbers
+
+value-numbered : (h : Heap) (b : List ℕ) → Numbered (valueWalk h b)
+unfolding valueWalk
+value-numbered h b = search numbers
+
+node-numbered : (k at : ℕ) → Numbered (nodeWalk k at)
+unfolding nodeWalk
+node-numbered k at = search numbers depth 12
+
+-- a group whose visits have such numbers only
+module _ {S : Type 0} (g : Group S) (visited : (e : Entry) (s : S) → Numbered (g .visit e s)) where
+  entry-numbered : (bounds : List Bound) (b : List ℕ) (s : GroupState S) → Numbered (entryWalk g bounds b s)
+  unfolding entryWalk
+  entry-numbered bounds b s = search (numbers, value-numbered) depth 12
+
+  entries-numbered : (bounds : List Bound) (n : ℕ) (b : List ℕ) (s : GroupState S) → Numbered (entries g bounds n b s)
+  unfolding entries
+  entries-numbered bounds zero b s = search numbers
+  entries-numbered bounds (suc n) b s = let rest = entries-numbered bounds n (drop 40 b) in search (numbers, entry-numbered)
+
+  symbol-numbered : (at : ℕ) (bounds : List Bound) (s : GroupState S) → Numbered (symbolWalk g at bounds s)
+  unfolding symbolWalk
+  symbol-numbered at bounds s = search (numbers, entries-numbered) depth 12
+
+  module _ (h : Heap) (walk : ℕ → List Bound → GroupState S → Walk (GroupState S)) (below : (at : ℕ) (bounds : List Bound) (s : GroupState S) → Numbered (walk at bounds s)) where
+    children-numbered : (n : ℕ) (b : List ℕ) (bounds : List Bound) (s : GroupState S) → Numbered (children h walk n b bounds s)
+    unfolding children
+    children-numbered zero b bounds s = search numbers
+    children-numbered (suc n) b bounds s = let rest = children-numbered n (drop 16 b) bounds in search numbers
+
+    branches-numbered : (b : List ℕ) (bounds : List Bound) (s : GroupState S) → Numbered (branches h walk b bounds s)
+    unfolding branches
+    branches-numbered b bounds s = search (numbers, keys-numbered, children-numbered)
+
+  subtree-numbered : (height at : ℕ) (bounds : List Bound) (s : GroupState S) → Numbered (subtree g height at bounds s)
+  unfolding subtree
+  subtree-numbered zero at bounds s = symbol-numbered at bounds s
+  subtree-numbered (suc level) at bounds s =
+      numbered-bind (nodeWalk (g .internalK) at) _ (node-numbered (g .internalK) at) λ b.
+      numbered-check (eqb (u8 b 5) level) 8 _ (omega arith) (omega arith) (numbered-check (leb 1 (u16 b 6)) 8 _ (omega arith) (omega arith) (branches-numbered (g .heap) (subtree g level) (subtree-numbered level) b bounds s))
+
+  tree-numbered : (at : ℕ) (s : GroupState S) → Numbered (treeWalk g at s)
+  unfolding treeWalk
+  tree-numbered at s =
+      let rest : (level : ℕ) (b : List ℕ) → Numbered (branches (g .heap) (subtree g level) b [] s) = λ level b. branches-numbered (g .heap) (subtree g level) (subtree-numbered level) b [] s in
+      search (numbers, node-numbered) depth 8
+
+pub group-numbered : {S : Type 0} (leafK internalK tree heap : ℕ) (visit : Entry → S → Walk S) (found : S) → ((e : Entry) (s : S) → Numbered (visit e s)) → Numbered (groupWalk leafK internalK tree heap visit found)
+unfolding groupWalk
+group-numbered leafK internalK tree heap visit found visited = search (numbers, heap-numbered, tree-numbered) depth 8

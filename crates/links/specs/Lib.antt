@@ -1,0 +1,4 @@
+pub mod Reached
+pub mod Trace
+pub mod Sound
+pub mod Fault

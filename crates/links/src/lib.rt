@@ -1,0 +1,1 @@
+// Theorems about the audit's definition. There is no code here.

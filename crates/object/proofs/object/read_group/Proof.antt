@@ -1,0 +1,55 @@
+-- The code's visit ends as the audit's own.
+use borrow.Author.Needs.{needs}
+use Rattle.object.proofs.object.read_group.Statement.{statement}
+use Rattle.object.proofs.object.read_group.Tie as tie
+use denote.Ref.{now}
+use Rattle.object.proofs.ObjectLaws.{group-is}
+
+read-requires : tie.Need-read-requires
+read-requires c κs = search needs
+
+enum-known-x : tie.Need-enum-known-x
+enum-known-x c = search needs
+
+enum-known-s : tie.Need-enum-known-s
+enum-known-s c = search needs
+
+same-length : tie.Need-same-length
+same-length c = search needs
+
+same-length-2 : tie.Need-same-length-2
+same-length-2 c = search needs
+
+same-length-3 : tie.Need-same-length-3
+same-length-3 c = search needs
+
+returns : tie.Need-returns
+returns c = group-is (now (c .before .before .before .before .before .before .before .before .before .before .before .before .before .before .before .before .before .args .image)) (c .before .before .before .before .before .before .before .before .before .before .before .before .before .before .before .before .before .args .superblock) _ (now (c .before .before .before .before .before .before .before .before .before .before .before .before .before .before .before .before .before .args .list)) _ _ _ (now (c .before .before .before .before .before .before .before .before .before .before .before .before .before .before .before .before .before .args .image)) (now (c .before .before .before .before .before .before .before .before .before .before .before .before .before .before .before .before .before .args .addresses)) (now (c .before .before .before .before .before .before .before .before .before .before .before .before .before .before .before .before .before .args .counts)) _ _ _ _ _ (rw (c .before .x .given .1) at (c .before .before .before .before .before .before .before .before .before .read .ensures))
+
+same-length-4 : tie.Need-same-length-4
+same-length-4 c = search needs
+
+same-length-5 : tie.Need-same-length-5
+same-length-5 c = search needs
+
+same-length-6 : tie.Need-same-length-6
+same-length-6 c = search needs
+
+returns-2 : tie.Need-returns-2
+returns-2 c = group-is (now (c .before .before .before .before .before .before .before .before .before .before .before .before .before .before .before .before .before .args .image)) (c .before .before .before .before .before .before .before .before .before .before .before .before .before .before .before .before .before .args .superblock) _ (now (c .before .before .before .before .before .before .before .before .before .before .before .before .before .before .before .before .before .args .list)) _ _ _ (now (c .before .before .before .before .before .before .before .before .before .before .before .before .before .before .before .before .before .args .image)) (now (c .before .before .before .before .before .before .before .before .before .before .before .before .before .before .before .before .before .args .addresses)) (now (c .before .before .before .before .before .before .before .before .before .before .before .before .before .before .before .before .before .args .counts)) _ _ _ _ _ (rw (c .before .s .given .1) at (c .before .before .before .before .before .before .before .before .before .read .ensures))
+
+pub read-group-spec : {M : Type 1} → statement M
+read-group-spec =
+    tie.close
+    (tie.spec
+    read-requires
+    enum-known-x
+    enum-known-s
+    same-length
+    same-length-2
+    same-length-3
+    returns
+    same-length-4
+    same-length-5
+    same-length-6
+    returns-2)

@@ -1,0 +1,3 @@
+// The objects of an audit, each walked once.
+pub mod object;
+pub mod objects;

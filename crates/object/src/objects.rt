@@ -1,0 +1,57 @@
+// All objects of the audit, in order of discovery.
+use crate::object;
+use crate::object::ObjectRead;
+use image::superblock::Superblock;
+ghost use Rattle.format.specs.Limits.{objectsMost};
+ghost use Rattle.format.specs.Audit.{objectsWalk};
+ghost use Rattle.image.specs.Superblock.{superblockOf};
+ghost use Rattle.group.specs.Group.{Ready};
+ghost use Rattle.object.specs.Object.{Opened, LedgerWalked};
+
+// Walks each object of the table once, and those that are found on the way, from the first one on.
+pub fn read(
+    image: &[u8],
+    list: &mut [u64],
+    addresses: &mut [u64],
+    counts: &mut [u32],
+    superblock: Superblock,
+    room: usize,
+    count: usize,
+    objects: usize,
+) -> ObjectRead
+    requires { ⌜ Opened (now image) superblock room ⌝ }
+    requires { ⌜ Ready (now list) (now addresses) (now counts) room count objects ⌝ }
+    ensures { λ r. ⌜ LedgerWalked (now (image .entry)) (now (list .entry)) (now (addresses .entry)) (now (counts .entry)) superblock room (objectsWalk (superblockOf superblock) objectsMost 0) count objects (now (list .exit)) (now (addresses .exit)) (now (counts .exit)) r ⌝ }
+{
+    let mut entered = count;
+    let mut found = objects;
+    let mut i: usize = 0;
+    while i < found {
+        let at = addresses[i];
+        match object::read(
+            image,
+            list,
+            addresses,
+            counts,
+            superblock,
+            room,
+            at,
+            entered,
+            found,
+        ) {
+            ObjectRead::Stopped(x) => return ObjectRead::Stopped(x),
+            ObjectRead::Done {
+                count: c,
+                objects: o,
+            } => {
+                entered = c;
+                found = o;
+                i += 1;
+            }
+        }
+    }
+    ObjectRead::Done {
+        count: entered,
+        objects: found,
+    }
+}
