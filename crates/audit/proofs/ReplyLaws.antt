@@ -29,8 +29,9 @@ use Rattle.links.proofs.HeadersInside.{headers-inside}
 use Rattle.audit.specs.Audit.{refusedWith, Bounded, Lists, ImageWalked, AuditedIs, AuditIs}
 use Rattle.audit.specs.declared.Audited.{Audited}
 
-pub sub-zero : (n : ℕ) → n - 0 ≡ n
-sub-zero n = omega arith
+-- a list cleared from its first word on
+pub all-cleared : (ws ws′ : List ℕ) → ws′ ≡ take 0 ws ++ replicate (length ws - 0) 0 → ws′ ≡ replicate (length ws) 0
+all-cleared ws ws′ e = let z : length ws - 0 ≡ length ws = omega arith in rw z at e
 
 -- the audit's run, by what opening the image gave
 run-not-opened : (im : List ℕ) (lent n : ℕ) → notOpened n ≡ openImage im → auditRun im lent ≡ refused n []

@@ -3,9 +3,8 @@ use borrow.Author.Needs.{needs}
 use Rattle.audit.proofs.refused.Statement.{statement}
 use Rattle.audit.proofs.refused.Tie as tie
 use denote.Ref.{now}
-use mathlib.Core.Path.{refl, _∙_}
-use lib.ListN.{length}
-use Rattle.audit.proofs.ReplyLaws.{sub-zero}
+use mathlib.Core.Path.{refl}
+use Rattle.audit.proofs.ReplyLaws.{all-cleared}
 
 clear-from-requires : tie.Need-clear-from-requires
 clear-from-requires c κs = search needs
@@ -14,7 +13,7 @@ same-length : tie.Need-same-length
 same-length c = search needs
 
 returns : tie.Need-returns
-returns c = (refl, c .before .before .clear-from .ensures ∙ rw (sub-zero (length (now (c .before .before .before .before .before .args .list)))))
+returns c = (refl, all-cleared (now (c .before .before .before .before .before .args .list)) _ (c .before .before .clear-from .ensures))
 
 pub refused-spec : {M : Type 1} → statement M
 refused-spec = tie.close (tie.spec clear-from-requires same-length returns)

@@ -1,0 +1,2 @@
+mod Reply
+mod Audited
