@@ -7,15 +7,15 @@ use lib.ListN.{length, getD, take, drop, replicate, length-replicate}
 use lib.Seq.{length-take-le}
 use Rattle.format.specs.Limits.{objectsMost, blocksMost}
 use Rattle.format.specs.Blocks.{Block, roomOf, blockList}
-use Rattle.format.specs.Walk.{Outcome, done, refused, run}
+use Rattle.format.specs.Walk.{done, refused, run}
 use Rattle.format.specs.Superblock as definitions
 use Rattle.format.specs.Superblock.{opened, notOpened, openImage}
 use Rattle.format.specs.Ledger.{Linked}
 use Rattle.format.specs.Audit.{auditWalk, auditRun}
 use Rattle.format.specs.Answers.{audit}
-use Rattle.walk.specs.Lent.{blocksOf, stopped, Walked}
+use Rattle.walk.specs.Lent.{blocksOf}
 use Rattle.walk.proofs.BlockList.{words-blocksOf, length-blocksOf}
-use Rattle.walk.proofs.Simulation.{walked-done}
+use Rattle.walk.proofs.Simulation.{walked-done, walked-refused}
 use Rattle.ledger.specs.Links.{addressesOf}
 use Rattle.ledger.specs.Table.{linkedOf, Table}
 use Rattle.ledger.specs.Report.{countedPlaces, Empty, Readable, StoredRead}
@@ -24,14 +24,11 @@ use Rattle.ledger.proofs.TableLaws.{length-linkedOf, table-none}
 use Rattle.ledger.proofs.ReportLaws.{counted-law, empty-law}
 use Rattle.image.specs.Superblock.{superblockOf}
 use Rattle.image.specs.declared.superblock.Superblock.{Superblock}
+use Rattle.object.specs.Object.{Bounded}
 use Rattle.object.specs.declared.object.ObjectRead.the-variants.{Done, Stopped}
 use Rattle.links.proofs.HeadersInside.{headers-inside}
-use Rattle.audit.specs.Audit.{refusedWith, Bounded, Lists, ImageWalked, AuditedIs, AuditIs}
+use Rattle.audit.specs.Audit.{refusedWith, Lists, ImageWalked, AuditedIs, AuditIs}
 use Rattle.audit.specs.declared.Audited.{Audited}
-
--- a list cleared from its first word on
-pub all-cleared : (ws ws′ : List ℕ) → ws′ ≡ take 0 ws ++ replicate (length ws - 0) 0 → ws′ ≡ replicate (length ws) 0
-all-cleared ws ws′ e = let z : length ws - 0 ≡ length ws = omega arith in rw z at e
 
 -- the audit's run, by what opening the image gave
 run-not-opened : (im : List ℕ) (lent n : ℕ) → notOpened n ≡ openImage im → auditRun im lent ≡ refused n []
@@ -41,10 +38,6 @@ run-not-opened im lent n e = rw (← e)
 run-opened : (im : List ℕ) (lent : ℕ) (s : definitions.Superblock) → opened s ≡ openImage im → auditRun im lent ≡ run im (s .endOfFile) (roomOf lent) (auditWalk s) []
 unfolding auditRun
 run-opened im lent s e = rw (← e)
-
-walked-refused : {A : Type 0} (ws ws′ : List ℕ) (x : ℕ) (o : Outcome A) → Walked ws ws′ (stopped x) o → (bs : List Block) × (o ≡ refused x bs)
-walked-refused ws ws′ x (done a bs) w = let z : _≡_ {A = ℕ} 0 1 = cc (w .answer) in absurd (omega arith)
-walked-refused ws ws′ x (refused n bs) w = let e : n ≡ x = cc (w .answer) in (bs, rw e refl)
 
 -- a refusal
 module _ (im : List ℕ) (lent n : ℕ) (ws addresses stored counts : List ℕ) (zeros : ws ≡ replicate lent 0) where

@@ -1,17 +1,16 @@
 -- The audit's walk: the superblock, then all objects.
-use Prim.Native.Nat.{ℕ, zero, suc, _≤_}
+use Prim.Native.Nat.{ℕ, zero, suc}
 use mathlib.Core.List.{List, [], _∷_}
 use mathlib.Core.Path.{_≡_, ap, _∙_}
 use native.Mathlib.Omega.{arith}
 use lib.ListN.{length}
-use Rattle.format.specs.Limits.{objectsMost, blocksMost}
+use Rattle.format.specs.Limits.{objectsMost}
 use Rattle.format.specs.Blocks.{Block, block, roomOf, entryAnswer}
 use Rattle.format.specs.Walk.{Walk, _>>=_, _>>_, done, refused, ifEntered, run}
 use Rattle.format.specs.Superblock.{superblockWalk}
 use Rattle.format.specs.Ledger.{Linked, linked}
 use Rattle.format.specs.Audit.{objectsWalk, auditWalk}
 use Rattle.walk.specs.Lent.{blocksOf, Lent, Ended, ended, stopped, endOf, Walked}
-use Rattle.walk.proofs.BlockList.{lent-none}
 use Rattle.walk.proofs.Simulation.{Simulation, start, callee-done, callee-stopped, callee-last}
 use Rattle.ledger.specs.Links.{linkSum}
 use Rattle.ledger.specs.Table.{linkedOf, Started}
@@ -19,14 +18,11 @@ use Rattle.ledger.proofs.LedgerLaws.{sum-first}
 use Rattle.image.specs.Superblock.{superblockOf}
 use Rattle.image.specs.declared.superblock.Superblock.{Superblock}
 use Rattle.group.specs.Group.{Ready}
-use Rattle.object.specs.Object.{Opened, LedgerWalked}
+use Rattle.object.proofs.ObjectLaws.{room-lent}
+use Rattle.object.specs.Object.{LedgerWalked}
 use Rattle.object.specs.declared.object.ObjectRead.{ObjectRead}
 use Rattle.object.specs.declared.object.ObjectRead.the-variants.{Stopped}
-use Rattle.audit.specs.Audit.{Bounded, ImageWalked}
-
-room-most : (lent : ℕ) → roomOf lent ≤ blocksMost
-unfolding roomOf
-room-most lent = omega arith
+use Rattle.audit.specs.Audit.{ImageWalked}
 
 -- the superblock, where it was entered, is one block
 one-entered : (answer : ℕ) (b : Block) (n : ℕ) → _≡_ {A = Ended (Unit {0})} (ended tt n) (endOf {A = Unit {0}} (ifEntered answer (done tt (b ∷ [])) (λ m. refused m []))) → n ≡ 1
@@ -40,11 +36,8 @@ module _ (im ws : List ℕ) (s : Superblock) (room : ℕ) (is : room ≡ roomOf 
   abbrev w : Walk (List Linked)
   w = auditWalk (superblockOf s)
 
-  pub opened : Bounded im s → Opened im s room
-  opened b = record { file = b .2; most = rw is (room-most (length ws)); leaf = b .0; internal = b .1 }
-
-  pub list-lent : Lent ws 0 room
-  list-lent = rw is (lent-none ws)
+  abbrev list-lent : Lent ws 0 room
+  list-lent = room-lent ws room is
 
   -- the superblock can't be entered
   pub superblock-stopped : (addresses counts : List ℕ) (x : ℕ) → Walked ws ws₁ (stopped x) (run im eof room (superblockWalk (superblockOf s)) []) → ImageWalked im ws s ws₁ addresses counts (Stopped x)

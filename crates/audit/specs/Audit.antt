@@ -9,9 +9,8 @@ use Rattle.format.specs.Walk.{run}
 use Rattle.format.specs.Audit.{auditWalk}
 use Rattle.format.specs.Answers.{AuditReply, audit}
 use Rattle.walk.specs.Lent.{Walked}
-use Rattle.image.specs.Superblock.{superblockOf, FieldsBounded}
+use Rattle.image.specs.Superblock.{superblockOf}
 use Rattle.image.specs.declared.superblock.Superblock.{Superblock}
-use Rattle.image.specs.declared.superblock.Opening.the-variants.{Opened}
 use Rattle.object.specs.Object.{objectEnd, ReadyIf}
 use Rattle.object.specs.declared.object.ObjectRead.{ObjectRead}
 use Rattle.ledger.specs.Report.{countedPlaces, countedOf}
@@ -22,10 +21,6 @@ use Rattle.audit.specs.declared.Reply.{Reply}
 -- what is returned with a refusal
 abbrev pub refusedWith : ℕ → Audited
 refusedWith n = record { number = n; «block_count» = 0; objects = 0 }
-
--- what is known of an opened image's superblock
-abbrev pub Bounded : List ℕ → Superblock → Type 0
-Bounded im s = FieldsBounded im (Opened s)
 
 -- the walk of an opened image was walked, in the whole of the list lent
 pub record ImageWalked (im ws : List ℕ) (s : Superblock) (ws′ addresses′ counts′ : List ℕ) (r : ObjectRead) : Type 0 where

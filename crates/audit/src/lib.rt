@@ -13,7 +13,8 @@ use walk::blocks::Entry;
 ghost use mathlib.Core.Path.{_≡_};
 ghost use lib.ListN.{length, replicate};
 ghost use Rattle.ledger.specs.Table.{Table};
-ghost use Rattle.audit.specs.Audit.{refusedWith, Bounded, ImageWalked, Lists, AuditedIs, AuditIs};
+ghost use Rattle.object.specs.Object.{Bounded};
+ghost use Rattle.audit.specs.Audit.{refusedWith, ImageWalked, Lists, AuditedIs, AuditIs};
 
 // The answer, and the numbers of blocks entered and of objects found, 0 where the answer isn't.
 pub struct Audited {

@@ -12,7 +12,8 @@ use Rattle.format.specs.Dataset.{fills}
 use Rattle.format.specs.Walk.{Walk, ret, refuse, check, _>>=_, _>>_}
 use Rattle.walk.specs.Lent.{Ended, ended, stopped}
 use Rattle.image.specs.declared.message.Body.{Body}
-use Rattle.dataset.specs.Dataspace.{spaceOf}
+use Rattle.dataset.specs.Dataspace.{spaceOf, SpaceInside}
+use Rattle.dataset.specs.declared.dataspace.DataspaceRead.the-variants.{Read}
 use Rattle.dataset.specs.Datatype.{typeOf}
 use Rattle.dataset.specs.Layout.{layoutOf}
 use Rattle.dataset.specs.declared.dataset.Dataset.{Dataset}
@@ -60,6 +61,18 @@ messagesWalk space type layout = do
   l ← layoutWalk (layout .place) (layout .body)
   check (fills d t l) 11
   ret (record { space = d; type = t; layout = l })
+
+-- the sizes and maxima of a dataset stand in the body b of its dataspace message
+abbrev pub Shaped : List ℕ → Dataset → Type 0
+Shaped b d = SpaceInside b (Read (d .rank) (d .«maxima_stored»))
+
+abbrev pub MessagesShaped : List ℕ → MessagesRead → Type 0
+MessagesShaped b (messages.Read d) = Shaped b d
+MessagesShaped b (messages.Refused n) = Unit {0}
+
+abbrev pub DatasetShaped : List ℕ → DatasetRead → Type 0
+DatasetShaped b (dataset.Read d count) = Shaped b d
+DatasetShaped b (dataset.Stopped n) = Unit {0}
 
 -- the messages' answer as the end of their walk
 abbrev pub messagesRead : List ℕ → MessagesRead → Walk Rattle.format.specs.Dataset.Dataset

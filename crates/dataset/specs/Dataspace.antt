@@ -38,6 +38,10 @@ maximaEnd (Read rank true) = 8 + 16 * rank
 maximaEnd (Read rank false) = 8 + 8 * rank
 maximaEnd (Refused n) = 0
 
+-- what was read has so many dimensions at most, and its sizes and maxima lie in the body b
+abbrev pub SpaceInside : List ℕ → DataspaceRead → Type 0
+SpaceInside b r = (rankOf r ≤ rankMost) × (sizesEnd r ≤ length b) × (maximaEnd r ≤ length b)
+
 -- r was read from the body b, and what it names lies inside
 pub record SpaceRead (b : List ℕ) (r : DataspaceRead) : Type 0 where
   pub walk : spaceWalk b r ≡ dataspaceWalk b

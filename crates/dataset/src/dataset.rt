@@ -24,7 +24,7 @@ ghost use Rattle.image.specs.Message.{messageOf};
 ghost use Rattle.dataset.specs.Dataspace.{SpaceRead};
 ghost use Rattle.dataset.specs.Datatype.{typeOf, typeWalk};
 ghost use Rattle.dataset.specs.Layout.{layoutOf, layoutRead};
-ghost use Rattle.dataset.specs.Dataset.{Inside, BodiesInside, SizesInside, bodyOf, datasetOf, dataFills, typeMessage, messagesWalk, messagesRead, datasetEnd};
+ghost use Rattle.dataset.specs.Dataset.{Inside, BodiesInside, SizesInside, bodyOf, datasetOf, dataFills, typeMessage, messagesWalk, messagesRead, MessagesShaped, datasetEnd, DatasetShaped};
 
 // What the messages say. The sizes and maxima themselves stay in the body of the dataspace message.
 pub struct Dataset {
@@ -112,6 +112,7 @@ fn filled(image: &[u8], space: Body, dataset: Dataset) -> bool
 fn messages(image: &[u8], space: Body, datatype: Body, layout: Body) -> MessagesRead
     requires { ⌜ BodiesInside (now image) space datatype layout ⌝ }
     ensures { λ r. ⌜ messagesRead (bodyOf (now (image .entry)) space) r ≡ messagesWalk (messageOf (now (image .entry)) 0x0001 space) (messageOf (now (image .entry)) 0x0003 datatype) (messageOf (now (image .entry)) 0x0008 layout) ⌝ }
+    ensures { λ r. ⌜ MessagesShaped (bodyOf (now (image .entry)) space) r ⌝ }
 {
     match read_space(image, space) {
         DataspaceRead::Refused(n) => MessagesRead::Refused(n),
@@ -182,6 +183,7 @@ pub fn read(
     requires { ⌜ Lent (now blocks) count room ⌝ }
     requires { ⌜ BodiesInside (now image) space datatype layout ⌝ }
     ensures { λ r. ⌜ Walked (now (blocks .entry)) (now (blocks .exit)) (datasetEnd (bodyOf (now (image .entry)) space) r) (run (now (image .entry)) «end_of_file» room (datasetWalk (messageOf (now (image .entry)) 0x0001 space) (messageOf (now (image .entry)) 0x0003 datatype) (messageOf (now (image .entry)) 0x0008 layout)) (blocksOf count (now (blocks .entry)))) ⌝ }
+    ensures { λ r. ⌜ DatasetShaped (bodyOf (now (image .entry)) space) r ⌝ }
 {
     match messages(image, space, datatype, layout) {
         MessagesRead::Refused(n) => DatasetRead::Stopped(n),

@@ -13,7 +13,7 @@ use Rattle.format.specs.Superblock.{Opening, opened, notOpened, openImage, runO
 use Rattle.format.specs.Ledger.{Linked}
 use Rattle.format.specs.Audit.{auditRun, auditWalk}
 use Rattle.format.specs.Answers.{AuditReply, auditEnd, audit}
-use Rattle.format.specs.Front.{paddedBytes, objectWords, CAudit, cAuditEnd, cAudit}
+use Rattle.format.specs.Front.{paddedBytes, objectWords, CReply, cAuditEnd, cAudit}
 use Rattle.ledger.specs.Report.{countedPlaces}
 use Rattle.walk.specs.Lent.{left}
 use Rattle.walk.proofs.Growth.{run-grown}
@@ -79,7 +79,7 @@ module _ (im : List ℕ) (l r : ℕ) where
 
   -- the fields of an answer 0
   done-end : (o : Outcome (List Linked)) → length (left o) ≤ roomOf (l / 8) → (a : AuditReply) → a ≡ auditEnd im (2 * roomOf (l / 8)) o → a .number ≡ 0 →
-      _≡_ {A = CAudit}
+      _≡_ {A = CReply}
       (record {
         number = 0;
         list = paddedBytes l (take (2 * a .blockCount) (a .list));
@@ -99,7 +99,7 @@ module _ (im : List ℕ) (l r : ℕ) where
 
   -- any other answer leaves zeros
   refused-end : (o : Outcome (List Linked)) (a : AuditReply) → a ≡ auditEnd im (2 * roomOf (l / 8)) o → (a .number ≡ 0 → ⊥) →
-      _≡_ {A = CAudit} (record { number = a .number; list = replicate l 0; reply = replicate r 0 }) (cAuditEnd l r (auditEnd im (l / 8) o))
+      _≡_ {A = CReply} (record { number = a .number; list = replicate l 0; reply = replicate r 0 }) (cAuditEnd l r (auditEnd im (l / 8) o))
   refused-end (done os bs) a e z = absurd (z (rw e refl))
   refused-end (refused zero bs) a e z = absurd (z (rw e refl))
   refused-end (refused (suc n) bs) a e z = rw (e, padded-zeros l (l / 8) (omega arith), padded-zeros r 0 (omega arith))
@@ -110,7 +110,7 @@ module _ (im : List ℕ) (l r : ℕ) where
   audit-long h = rw (le-leb (2 + 3 * objectsMost) (r / 8) h)
 
   pub short-reply : (list reply : List ℕ) → r / 8 < 2 + 3 * objectsMost → list ≡ replicate l 0 → reply ≡ replicate r 0 →
-      _≡_ {A = CAudit} (record { number = 13; list = list; reply = reply }) (cAudit im l r)
+      _≡_ {A = CReply} (record { number = 13; list = list; reply = reply }) (cAudit im l r)
   unfolding cAudit
   short-reply list reply h e f = rw (e, f, lt-leb (2 + 3 * objectsMost) (r / 8) h)
 
@@ -128,7 +128,7 @@ module _ (im : List ℕ) (l r : ℕ) where
 
     pub done-reply : (list reply : List ℕ) → 2 + 3 * objectsMost ≤ r / 8 → a .number ≡ 0 → list ≡ paddedBytes l (take (2 * a .«block_count») ws) →
         reply ≡ paddedBytes r (a .«block_count» ∷ a .objects ∷ objectWords (countedPlaces (a .objects) xs ss ts)) →
-        _≡_ {A = CAudit} (record { number = 0; list = list; reply = reply }) (cAudit im l r)
+        _≡_ {A = CReply} (record { number = 0; list = list; reply = reply }) (cAudit im l r)
     unfolding audit
     done-reply list reply h z e f =
         let n : length (countedPlaces (a .objects) xs ss ts) ≡ a .objects = length-places (a .objects) xs ss ts in
@@ -136,6 +136,6 @@ module _ (im : List ℕ) (l r : ℕ) where
         rw (e, f, ← (audit-long h)) (rw n at b)
 
     pub refused-reply : (list reply : List ℕ) → 2 + 3 * objectsMost ≤ r / 8 → (a .number ≡ 0 → ⊥) → list ≡ replicate l 0 → reply ≡ replicate r 0 →
-        _≡_ {A = CAudit} (record { number = a .number; list = list; reply = reply }) (cAudit im l r)
+        _≡_ {A = CReply} (record { number = a .number; list = list; reply = reply }) (cAudit im l r)
     unfolding audit
     refused-reply list reply h z e f = rw (e, f, ← (audit-long h)) (refused-end (auditRun im (l / 8)) (replyOf ws xs ss ts a) replied z)

@@ -6,7 +6,7 @@ ghost use mathlib.Core.List.{[], _∷_};
 ghost use Prim.Native.Nat.{_+_, _≤_};
 ghost use lib.ListN.{length, replicate};
 ghost use Rattle.format.specs.Bytes.{overwrite};
-ghost use Rattle.format.specs.Front.{wordBytes, paddedBytes, objectWords, CAudit, cAudit};
+ghost use Rattle.format.specs.Front.{wordBytes, paddedBytes, objectWords, CReply, cAudit};
 ghost use Rattle.ledger.specs.Report.{countedPlaces};
 ghost use Rattle.ebikwotula.specs.Room.{Roomy};
 
@@ -57,7 +57,7 @@ fn write_reply(
 // The audit of an image. `blocks` gets the block list, `reply` the other fields; the number is returned.
 #[no_mangle]
 pub extern "C" fn ebikwotula_audit(image: &[u8], blocks: &mut [u8], reply: &mut [u8]) -> u32
-    ensures { λ r. ⌜ _≡_ {A = CAudit} (record { number = r; list = now (blocks .exit); reply = now (reply .exit) }) (cAudit (now (image .entry)) (length (now (blocks .entry))) (length (now (reply .entry)))) ⌝ }
+    ensures { λ r. ⌜ _≡_ {A = CReply} (record { number = r; list = now (blocks .exit); reply = now (reply .exit) }) (cAudit (now (image .entry)) (length (now (blocks .entry))) (length (now (reply .entry)))) ⌝ }
 {
     let limits = format::the_limits();
     if reply.len() / 8 < 2 + 3 * limits.objects_most {

@@ -10,6 +10,7 @@ use Rattle.format.specs.Walk.{Outcome, done, run}
 use Rattle.format.specs.Superblock.{Superblock, Opening, opened, notOpened, openImage, runOpened}
 use Rattle.format.specs.Ledger.{Linked}
 use Rattle.format.specs.Audit.{auditWalk, auditRun}
+use Rattle.walk.proofs.BlockList.{room-most}
 use Rattle.walk.proofs.Disjoint.{Fresh}
 use Rattle.walk.proofs.Growth.{Inside}
 use Rattle.links.specs.Sound.{Sound}
@@ -38,10 +39,6 @@ walk-sound im room s os bs most e =
       found = reached-objects im room s most os bs e;
       headers = headers-inside im room s os bs e;
     }
-
-pub room-most : (lent : ℕ) → roomOf lent ≤ blocksMost
-unfolding roomOf
-room-most lent = omega arith
 
 opened-done : {A : Type 0} (o : Opening) (f : Superblock → Outcome A) (a : A) (bs : List Block) → runOpened o f ≡ done a bs → (s : Superblock) × (o ≡ opened s) × (f s ≡ done a bs)
 opened-done (opened s) f a bs e = (s, refl, e)

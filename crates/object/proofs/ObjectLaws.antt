@@ -5,6 +5,7 @@ use mathlib.Core.List.{List}
 use mathlib.Core.Path.{_≡_, refl, ap, _∙_}
 use native.Mathlib.Omega.{arith}
 use lib.ListN.{length}
+use Rattle.format.specs.Blocks.{roomOf}
 use Rattle.format.specs.Walk.{Walk, ret, _>>_, Outcome, done, refused, run}
 use Rattle.format.specs.Message.{Message}
 use Rattle.format.specs.Header.{Object, group, dataset, committed, headerWalk}
@@ -13,6 +14,7 @@ use Rattle.format.specs.Ledger.{Linked}
 use Rattle.format.specs.Lookup as lookup
 use Rattle.format.specs.Object.{contentWalk, objectWalk}
 use Rattle.walk.specs.Lent.{blocksOf, Lent, ended, stopped, Walked}
+use Rattle.walk.proofs.BlockList.{room-most, lent-none}
 use Rattle.walk.proofs.Follows.{Ran}
 use Rattle.walk.proofs.Simulation.{Simulation, start, returned, callee-done, callee-stopped, callee-last}
 use Rattle.ledger.specs.Table.{linkedOf}
@@ -25,9 +27,17 @@ use Rattle.group.specs.Group.{Ready, groupEnd, GroupIs}
 use Rattle.group.proofs.Entries.{audit-part}
 use Rattle.image.specs.Superblock.{superblockOf}
 use Rattle.image.specs.declared.superblock.Superblock as superblocks
-use Rattle.object.specs.Object.{objectEnd, ReadyIf, LedgerWalked}
+use Rattle.object.specs.Object.{Opened, Bounded, objectEnd, ReadyIf, LedgerWalked}
 use Rattle.object.specs.declared.object.ObjectRead.{ObjectRead}
 use Rattle.object.specs.declared.object.ObjectRead.the-variants.{Done, Stopped}
+
+-- an image that was opened, with the room that a list of so many words gives
+pub opened : (im : List ℕ) (s : superblocks.Superblock) (room lent : ℕ) → room ≡ roomOf lent → Bounded im s → Opened im s room
+opened im s room lent is b = record { file = b .2; most = rw is (room-most lent); leaf = b .0; internal = b .1 }
+
+-- the whole list is lent, with no block entered
+pub room-lent : (ws : List ℕ) (room : ℕ) → room ≡ roomOf (length ws) → Lent ws 0 room
+room-lent ws room is = rw is (lent-none ws)
 
 -- what the group reader returns, as the object's
 abbrev pub objectRead : steps.Step → ObjectRead

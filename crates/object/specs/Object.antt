@@ -6,13 +6,19 @@ use Rattle.format.specs.Ledger.{Linked}
 use Rattle.walk.specs.Lent.{blocksOf, Ended, ended, stopped, Walked}
 use Rattle.ledger.specs.Table.{linkedOf}
 use Rattle.group.specs.Group.{Settings, Ready}
+use Rattle.image.specs.Superblock.{FieldsBounded}
 use Rattle.image.specs.declared.superblock.Superblock.{Superblock}
+use Rattle.image.specs.declared.superblock.Opening.the-variants as openings
 use Rattle.object.specs.declared.object.ObjectRead.{ObjectRead}
 use Rattle.object.specs.declared.object.ObjectRead.the-variants.{Done, Stopped}
 
 -- what is known of an image with this superblock
 abbrev pub Opened : List ℕ → Superblock → ℕ → Type 0
 Opened im s room = Settings im (s .«end_of_file») room (s .«leaf_k») (s .«internal_k»)
+
+-- what is known of the superblock of an image that was opened
+abbrev pub Bounded : List ℕ → Superblock → Type 0
+Bounded im s = FieldsBounded im (openings.Opened s)
 
 -- the ledger, with the number of blocks then entered, or the answer
 abbrev pub objectEnd : List ℕ → List ℕ → ObjectRead → Ended (List Linked)

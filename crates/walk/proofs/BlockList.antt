@@ -30,6 +30,14 @@ pub roomOf-pairs : (words : ℕ) → words / 2 < blocksMost → roomOf words ≡
 unfolding roomOf
 roomOf-pairs words h = omega arith
 
+pub room-most : (words : ℕ) → roomOf words ≤ blocksMost
+unfolding roomOf
+room-most words = omega arith
+
+-- a list cleared from its first word on
+pub all-cleared : (ws ws′ : List ℕ) → ws′ ≡ take 0 ws ++ replicate (length ws - 0) 0 → ws′ ≡ replicate (length ws) 0
+all-cleared ws ws′ e = let z : length ws - 0 ≡ length ws = omega arith in rw z at e
+
 -- a whole list is lent with no block entered
 pub lent-none : (ws : List ℕ) → Lent ws 0 (roomOf (length ws))
 unfolding roomOf

@@ -36,6 +36,11 @@ walked-done ws ws′ a c (done b bs) w =
     rw f (ap (done a) (rw e at (sym (w .held))))
 walked-done ws ws′ a c (refused n bs) w = let z : _≡_ {A = ℕ} 0 1 = cc (w .answer) in absurd (omega arith)
 
+-- a function that stopped: the outcome is its answer
+pub walked-refused : {A : Type 0} (ws ws′ : List ℕ) (x : ℕ) (o : Outcome A) → Walked ws ws′ (stopped x) o → (bs : List Block) × (o ≡ refused x bs)
+walked-refused ws ws′ x (done a bs) w = let z : _≡_ {A = ℕ} 0 1 = cc (w .answer) in absurd (omega arith)
+walked-refused ws ws′ x (refused n bs) w = let e : n ≡ x = cc (w .answer) in (bs, rw e refl)
+
 -- a function that stopped has stopped what follows it too
 walked-stopped : {A B : Type 0} (ws ws′ : List ℕ) (n : ℕ) (o : Outcome A) (f : A → List Block → Outcome B) → Walked ws ws′ (stopped n) o → Walked ws ws′ (stopped n) (andThen o f)
 walked-stopped ws ws′ n (done b bs) f w = let z : _≡_ {A = ℕ} 0 1 = cc (w .answer) in absurd (omega arith)

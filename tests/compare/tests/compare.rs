@@ -1,117 +1,73 @@
 //! The proved library against the separate reader: the number and every byte lent.
 
+use compare::agree::{lent_bytes, Pair};
 use compare::generate::corpus::{cases, each};
 use compare::generate::{limits, small, special};
-use compare::library;
-use compare::reader::front::{audit_bytes, REPLY_WORDS};
+use compare::reader::front::REPLY_WORDS;
+use std::collections::hash_map::DefaultHasher;
+use std::collections::{BTreeMap, HashSet};
+use std::hash::{Hash, Hasher};
 
-/// What lay in the slices before a call.
-const BEFORE: u8 = 0xa5;
-
-#[derive(PartialEq, Eq)]
-struct Lent {
-    blocks: Vec<u8>,
-    reply: Vec<u8>,
-}
-
-impl Lent {
-    fn new() -> Lent {
-        Lent {
-            blocks: Vec::new(),
-            reply: Vec::new(),
-        }
-    }
-
-    fn prepare(&mut self, blocks: usize, reply: usize) {
-        self.blocks.clear();
-        self.blocks.resize(blocks, BEFORE);
-        self.reply.clear();
-        self.reply.resize(reply, BEFORE);
-    }
-}
-
-struct Pair {
-    library: Lent,
-    reader: Lent,
-}
-
-impl Pair {
-    fn new() -> Pair {
-        Pair {
-            library: Lent::new(),
-            reader: Lent::new(),
-        }
-    }
-
-    /// Both audits of an image, with so many bytes lent for blocks and for the reply; gives the number.
-    fn agree(&mut self, name: &str, image: &[u8], blocks: usize, reply: usize) -> u32 {
-        self.library.prepare(blocks, reply);
-        self.reader.prepare(blocks, reply);
-        let mine = audit_bytes(image, &mut self.reader.blocks, &mut self.reader.reply);
-        let copy = image.to_vec();
-        let number = library::audit(&copy, &mut self.library.blocks, &mut self.library.reply);
-        assert_eq!(number, mine, "{name}, {blocks} bytes for blocks");
-        assert!(copy == image, "{name}: the image changed");
-        if self.library != self.reader {
-            self.show(name, blocks);
-        }
-        number
-    }
-
-    fn show(&self, name: &str, blocks: usize) -> ! {
-        let slices = [
-            ("list", &self.library.blocks, &self.reader.blocks),
-            ("reply", &self.library.reply, &self.reader.reply),
-        ];
-        for (slice, library, reader) in slices {
-            if let Some(at) = (0..library.len()).find(|at| library[*at] != reader[*at]) {
-                let from = at / 8 * 8;
-                let until = (from + 8).min(library.len());
-                eprintln!(
-                    "{slice}, word {}: {:02x?} and {:02x?}",
-                    at / 8,
-                    &library[from..until],
-                    &reader[from..until]
-                );
-            }
-        }
-        panic!("{name}, {blocks} bytes for blocks: other bytes in library and reader");
-    }
-}
-
-/// Room for 0 to 12 pairs and for 1,024, with 0 to 15 bytes more.
-fn lent_bytes(turn: usize) -> impl Iterator<Item = usize> {
-    (0..=12)
-        .chain([1024])
-        .map(move |pairs| 16 * pairs + (turn + pairs) % 16)
-}
+/// How often each answer was given, by room.
+type Reached = BTreeMap<usize, [u64; 14]>;
 
 #[test]
 fn audits_agree() {
-    let mut pair = Pair::new();
-    let mut reached = [0u64; 14];
+    let mut pair = Pair::default();
+    let mut reached = Reached::new();
+    let mut different = HashSet::new();
+    let wanted = cases(40_000);
     let mut images = 0;
-    each(cases(40_000), |case| {
+    each(wanted, |case| {
         let name = format!("{}, copy {}", case.file, case.copy);
         let reply = 8 * REPLY_WORDS + images % 17;
         for blocks in lent_bytes(images) {
             let number = pair.agree(&name, case.image, blocks, reply);
-            reached[number as usize] += 1;
+            reached.entry(blocks / 16).or_default()[number as usize] += 1;
         }
+        different.insert(sum(case.image));
         images += 1;
     });
-    println!("{images} images; answers reached:");
-    for (number, times) in reached.iter().enumerate() {
-        println!("{number:4} {times:9}");
+    print(images, different.len(), &reached);
+    // Some damage leaves a file as it was.
+    assert!(images as u64 >= wanted && different.len() as u64 >= wanted / 10 * 9);
+    rooms_and_answers_are_complete(images as u64, &reached);
+}
+
+fn sum(image: &[u8]) -> u64 {
+    let mut hasher = DefaultHasher::new();
+    image.hash(&mut hasher);
+    hasher.finish()
+}
+
+fn print(images: usize, different: usize, reached: &Reached) {
+    println!("{images} images, {different} of them different; answers by room:");
+    print!("room  ");
+    (0..14).for_each(|answer| print!("{answer:8}"));
+    println!();
+    for (room, times) in reached {
+        print!("{room:4}  ");
+        times.iter().for_each(|times| print!("{times:8}"));
+        println!();
     }
-    for (number, times) in reached.iter().enumerate() {
-        assert!(*times > 0, "answer {number} was never reached");
+}
+
+/// Every image at every room from 0 to 12 and at 1,024, and each answer at one of them.
+fn rooms_and_answers_are_complete(images: u64, reached: &Reached) {
+    let rooms: Vec<usize> = reached.keys().copied().collect();
+    assert_eq!(rooms, (0..=12).chain([1024]).collect::<Vec<usize>>());
+    for (room, times) in reached {
+        assert_eq!(times.iter().sum::<u64>(), images, "room {room}");
+    }
+    for answer in 0..14 {
+        let times: u64 = reached.values().map(|times| times[answer]).sum();
+        assert!(times > 0, "answer {answer} was never reached");
     }
 }
 
 #[test]
 fn audits_agree_at_the_limits() {
-    let mut pair = Pair::new();
+    let mut pair = Pair::default();
     for (name, image) in limits::all() {
         for pairs in [0, 1, 500, 1022, 1023, 1024, 1025, 3000] {
             let number = pair.agree(name, &image, 16 * pairs + pairs % 16, 8 * REPLY_WORDS);
@@ -136,7 +92,7 @@ fn audits_agree_at_the_limits() {
 
 #[test]
 fn short_replies_give_13_first() {
-    let mut pair = Pair::new();
+    let mut pair = Pair::default();
     let sound = small::h().bytes;
     let too_short = vec![0; 95];
     for reply in [0, 1, 7, 8, 24, 769 * 8, 770 * 8 - 1, 770 * 8, 770 * 8 + 9] {

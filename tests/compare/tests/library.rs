@@ -1,10 +1,11 @@
-//! The separate reader on files that the HDF5 library wrote, against `tests/library/manifest.txt`: what that reader is to
-//! answer, and what the library itself reports about each object. `tests/library/README.md` describes the lines.
+//! The separate reader, and with the feature `proved` the proved library, on files that the HDF5 library wrote, against
+//! `tests/library/manifest.txt`: what an audit is to answer, and what the HDF5 library itself reports about each
+//! object. `tests/library/README.md` describes the lines.
 
-use compare::reader::{audit, lookup};
-use std::collections::HashMap;
+use compare::reader::{audit, lookup, AuditReply};
+use std::collections::{BTreeSet, HashMap};
 use std::fs;
-use std::path::PathBuf;
+use std::path::{Path, PathBuf};
 
 /// Room for every block that an audit may enter.
 const WORDS: usize = 2048;
@@ -108,68 +109,101 @@ fn manifest() -> Vec<Recorded> {
     files
 }
 
+/// Every file of the folder and of those in it, as the manifest writes their names.
+fn stored_files() -> BTreeSet<String> {
+    let mut names = BTreeSet::new();
+    for release in entries(&folder().join("files")) {
+        for file in entries(&release) {
+            let parts = [&release, &file].map(|path| path.file_name().expect("a name"));
+            names.insert(parts.map(|part| part.to_string_lossy()).join("/"));
+        }
+    }
+    names
+}
+
+fn entries(folder: &Path) -> Vec<PathBuf> {
+    fs::read_dir(folder)
+        .expect("a folder")
+        .map(|entry| entry.expect("an entry").path())
+        .collect()
+}
+
+/// A file that the manifest doesn't name would never be read.
+#[test]
+fn every_file_is_in_the_manifest() {
+    let named: BTreeSet<String> = manifest().into_iter().map(|file| file.name).collect();
+    assert_eq!(stored_files(), named);
+}
+
 #[test]
 fn audits_answer_as_recorded() {
+    answers_are_recorded(|_, image| audit(image, WORDS));
+}
+
+/// An audit of every file against the lines `answer`, `expected`, `blocks` and `count`.
+fn answers_are_recorded(mut audited: impl FnMut(&str, &[u8]) -> AuditReply) {
     let mut answers: HashMap<u32, usize> = HashMap::new();
     for file in manifest() {
-        let reply = audit(&file.image(), WORDS);
-        let recorded: Vec<u64> = file
-            .one("answer")
-            .iter()
-            .map(|field| number(field))
-            .collect();
-        let blocks = reply.block_count;
-        assert_eq!(
-            vec![u64::from(reply.number), reply.objects.len() as u64, blocks],
-            recorded,
-            "{}",
-            file.name
-        );
-        let expected: Vec<String> = file.one("expected")[0]
-            .split('|')
-            .map(str::to_string)
-            .collect();
-        assert!(
-            expected.contains(&reply.number.to_string()),
-            "{}",
-            file.name
-        );
-        if reply.number == 0 {
-            let entered = reply.list[..2 * blocks as usize].iter();
-            assert_eq!(
-                sum(entered.flat_map(|word| word.to_le_bytes())),
-                file.one("blocks")[0],
-                "{}",
-                file.name
-            );
-        }
-        let counts: Vec<Vec<u64>> = file
-            .all("count")
-            .map(|line| line.iter().map(|field| number(field)).collect())
-            .collect();
-        let found: Vec<Vec<u64>> = reply
-            .objects
-            .iter()
-            .map(|object| {
-                vec![
-                    object.address,
-                    u64::from(object.stored),
-                    u64::from(object.true_count),
-                ]
-            })
-            .collect();
-        assert_eq!(found, counts, "{}", file.name);
+        let reply = audited(&file.name, &file.image());
+        answer_is_recorded(&file, &reply);
+        counts_are_recorded(&file, &reply);
         *answers.entry(reply.number).or_default() += 1;
     }
     assert!(answers[&0] > 50 && answers[&3] > 20, "{answers:?}");
 }
 
+fn answer_is_recorded(file: &Recorded, reply: &AuditReply) {
+    let name = &file.name;
+    let numbers = [
+        u64::from(reply.number),
+        reply.objects.len() as u64,
+        reply.block_count,
+    ];
+    assert_eq!(numbers.to_vec(), numbers_of(file.one("answer")), "{name}");
+    let mut expected = file.one("expected")[0].split('|');
+    assert!(
+        expected.any(|answer| number(answer) == numbers[0]),
+        "{name}"
+    );
+    if reply.number == 0 {
+        let entered = reply.list[..2 * reply.block_count as usize].iter();
+        let blocks = sum(entered.flat_map(|word| word.to_le_bytes()));
+        assert_eq!(blocks, file.one("blocks")[0], "{name}");
+    }
+}
+
+fn counts_are_recorded(file: &Recorded, reply: &AuditReply) {
+    let counts: Vec<Vec<u64>> = file.all("count").map(|line| numbers_of(line)).collect();
+    let found: Vec<Vec<u64>> = reply
+        .objects
+        .iter()
+        .map(|object| {
+            vec![
+                object.address,
+                u64::from(object.stored),
+                u64::from(object.true_count),
+            ]
+        })
+        .collect();
+    assert_eq!(found, counts, "{}", file.name);
+}
+
+fn numbers_of(fields: &[String]) -> Vec<u64> {
+    fields.iter().map(|field| number(field)).collect()
+}
+
 #[test]
 fn objects_and_links_are_the_library_s() {
+    let paths = objects_are_reported(|_, image| audit(image, WORDS));
+    assert!(paths > 1000, "{paths} paths");
+}
+
+/// An audit of every file that it passes against the lines `object` and `path`: the same objects in the same order,
+/// each with its stored count and as many names as its true count. Returns the number of names.
+fn objects_are_reported(mut audited: impl FnMut(&str, &[u8]) -> AuditReply) -> usize {
     let mut paths = 0;
     for file in manifest() {
-        let image = file.image();
-        let reply = audit(&image, WORDS);
+        let reply = audited(&file.name, &file.image());
         if reply.number != 0 {
             continue;
         }
@@ -183,45 +217,138 @@ fn objects_and_links_are_the_library_s() {
             .map(|object| (object.address, u64::from(object.stored)))
             .collect();
         assert_eq!(found, reported, "{}", file.name);
-        paths += names_lead_to_their_objects(&file, &image, &reply.objects);
+        let counts: Vec<u32> = reply
+            .objects
+            .iter()
+            .map(|object| object.true_count)
+            .collect();
+        let names = names_of_objects(&file);
+        assert_eq!(names, counts, "{}", file.name);
+        paths += names.iter().sum::<u32>() as usize;
     }
-    assert!(paths > 1000, "{paths} paths");
+    paths
 }
 
-/// Each object has as many names as its true count, and a lookup of each gives its kind and address; a symbolic link is
-/// kind 4 with address 0. Returns the number of names.
-fn names_lead_to_their_objects(
-    file: &Recorded,
-    image: &[u8],
-    objects: &[compare::reader::Object],
-) -> usize {
-    let mut names = vec![0u32; objects.len()];
-    let mut object = Vec::new();
-    let mut place = 0;
-    for (word, fields) in &file.lines {
-        if word == "object" {
-            place += 1;
-            object = fields.iter().map(|field| number(field)).collect();
-        } else if word == "path" {
-            names[place - 1] += 1;
-            let reply = lookup(image, &path(&fields[0]), WORDS);
-            assert_eq!(
-                (reply.number, u64::from(reply.kind), reply.address),
-                (0, object[1], object[0]),
-                "{} {fields:?}",
-                file.name
-            );
-        } else if word == "soft" {
-            let reply = lookup(image, &path(&fields[0]), WORDS);
-            assert_eq!(
-                (reply.number, reply.kind, reply.address),
-                (0, 4, 0),
-                "{} {fields:?}",
-                file.name
-            );
+/// How many names each object has.
+fn names_of_objects(file: &Recorded) -> Vec<u32> {
+    let mut names = Vec::new();
+    for (word, _) in &file.lines {
+        match word.as_str() {
+            "object" => names.push(0),
+            "path" => *names.last_mut().expect("an object first") += 1,
+            _ => {}
         }
     }
-    let counts: Vec<u32> = objects.iter().map(|object| object.true_count).collect();
-    assert_eq!(names, counts, "{}", file.name);
-    names.iter().sum::<u32>() as usize
+    names
+}
+
+/// A lookup of each name gives the kind and address of its object; a symbolic link is kind 4 with address 0.
+#[test]
+fn names_lead_to_their_objects() {
+    let mut names = 0;
+    for file in manifest() {
+        let image = file.image();
+        if audit(&image, WORDS).number == 0 {
+            names += each_name_leads_to_its_object(&file, &image);
+        }
+    }
+    assert!(names > 1000, "{names} names");
+}
+
+/// Returns the number of names.
+fn each_name_leads_to_its_object(file: &Recorded, image: &[u8]) -> usize {
+    let mut names = 0;
+    let mut object = Vec::new();
+    for (word, fields) in &file.lines {
+        let expected = match word.as_str() {
+            "object" => {
+                object = numbers_of(fields);
+                continue;
+            }
+            "path" => (0, object[1], object[0]),
+            "soft" => (0, 4, 0),
+            _ => continue,
+        };
+        let reply = lookup(image, &path(&fields[0]), WORDS);
+        let found = (reply.number, u64::from(reply.kind), reply.address);
+        assert_eq!(found, expected, "{} {fields:?}", file.name);
+        names += 1;
+    }
+    names
+}
+
+/// The proved library on the same files.
+#[cfg(feature = "proved")]
+mod proved {
+    use super::*;
+    use compare::agree::{lent_bytes, Lent, Pair};
+    use compare::reader::front::REPLY_WORDS;
+    use compare::reader::Object;
+
+    fn words(bytes: &[u8]) -> Vec<u64> {
+        bytes
+            .chunks_exact(8)
+            .map(|word| u64::from_le_bytes(word.try_into().expect("8 bytes")))
+            .collect()
+    }
+
+    fn count(word: u64) -> u32 {
+        word.try_into().expect("a count of 32 bits")
+    }
+
+    /// A reply of the C front end as the checks take it.
+    fn decoded(number: u32, left: &Lent) -> AuditReply {
+        let reply = words(&left.reply);
+        let objects = reply[2..]
+            .chunks_exact(3)
+            .take(reply[1] as usize)
+            .map(|words| Object {
+                address: words[0],
+                stored: count(words[1]),
+                true_count: count(words[2]),
+            });
+        AuditReply {
+            number,
+            block_count: reply[0],
+            objects: objects.collect(),
+            list: words(&left.blocks),
+        }
+    }
+
+    /// The proved audit at full room, after a comparison with the separate reader.
+    fn proved(pair: &mut Pair, name: &str, image: &[u8]) -> AuditReply {
+        let number = pair.agree(name, image, 8 * WORDS, 8 * REPLY_WORDS);
+        decoded(number, pair.left())
+    }
+
+    #[test]
+    fn proved_audits_answer_as_recorded() {
+        let mut pair = Pair::default();
+        answers_are_recorded(|name, image| proved(&mut pair, name, image));
+    }
+
+    #[test]
+    fn proved_objects_and_links_are_the_library_s() {
+        let mut pair = Pair::default();
+        let paths = objects_are_reported(|name, image| proved(&mut pair, name, image));
+        assert!(paths > 1000, "{paths} paths");
+    }
+
+    /// A file is passed exactly where there is room for all its blocks.
+    #[test]
+    fn proved_audits_agree_at_every_room() {
+        let mut pair = Pair::default();
+        for (turn, file) in manifest().iter().enumerate() {
+            let image = file.image();
+            let recorded = numbers_of(file.one("answer"));
+            let (answer, blocks) = (recorded[0], recorded[2] as usize);
+            let around = [blocks.saturating_sub(1), blocks].map(|pairs| 16 * pairs);
+            for lent in lent_bytes(turn).chain(around) {
+                let number = pair.agree(&file.name, &image, lent, 8 * REPLY_WORDS + turn);
+                let passed = answer == 0 && lent / 16 >= blocks;
+                assert_eq!(number == 0, passed, "{}, {lent} bytes", file.name);
+                assert!(answer != 0 || passed || number == 13, "{}", file.name);
+            }
+        }
+    }
 }

@@ -10,7 +10,8 @@ use lib.ListN.{length, replicate}
 use Rattle.format.specs.Superblock.{opened, openImage}
 use Rattle.image.specs.Superblock.{superblockOf}
 use Rattle.object.specs.declared.object.ObjectRead.the-variants.{Done}
-use Rattle.audit.specs.Audit.{Bounded, ImageWalked}
+use Rattle.object.specs.Object.{Bounded}
+use Rattle.audit.specs.Audit.{ImageWalked}
 use Rattle.audit.proofs.ReplyLaws.{not-opened-is, stopped-is, readable, count-fits, count-small, done-is, lists-table, stored-room}
 
 -- the image was opened

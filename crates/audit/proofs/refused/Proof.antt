@@ -4,7 +4,7 @@ use Rattle.audit.proofs.refused.Statement.{statement}
 use Rattle.audit.proofs.refused.Tie as tie
 use denote.Ref.{now}
 use mathlib.Core.Path.{refl}
-use Rattle.audit.proofs.ReplyLaws.{all-cleared}
+use Rattle.walk.proofs.BlockList.{all-cleared}
 
 clear-from-requires : tie.Need-clear-from-requires
 clear-from-requires c κs = search needs

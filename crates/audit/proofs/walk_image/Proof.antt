@@ -3,13 +3,15 @@ use borrow.Author.Needs.{needs}
 use Rattle.audit.proofs.walk_image.Statement.{statement}
 use Rattle.audit.proofs.walk_image.Tie as tie
 use denote.Ref.{now}
-use Rattle.audit.proofs.WalkLaws.{opened, list-lent, superblock-stopped, root-ready, objects-read}
+use lib.ListN.{length}
+use Rattle.object.proofs.ObjectLaws.{opened, room-lent}
+use Rattle.audit.proofs.WalkLaws.{superblock-stopped, root-ready, objects-read}
 
 room-requires : tie.Need-room-requires
 room-requires c κs = search needs
 
 enter-superblock-requires : tie.Need-enter-superblock-requires
-enter-superblock-requires c κs = list-lent (now (c .before .before .before .before .before .before .args .image)) (now (c .before .before .before .before .before .before .args .list)) (c .before .before .before .before .before .before .args .superblock) _ (c .before .room .ensures) (now (c .before .before .before .before .before .before .args .list))
+enter-superblock-requires c κs = room-lent (now (c .before .before .before .before .before .before .args .list)) _ (c .before .room .ensures)
 
 enum-known-x : tie.Need-enum-known-x
 enum-known-x c = search needs
@@ -21,7 +23,7 @@ start-requires : tie.Need-start-requires
 start-requires c κs = search needs
 
 read-requires : tie.Need-read-requires
-read-requires c κs = (opened (now (c .before .before .before .before .before .before .before .before .before .before .before .before .before .before .before .before .before .before .before .before .before .before .args .image)) (now (c .before .before .before .before .before .before .before .before .before .before .before .before .before .before .before .before .before .before .before .before .before .before .args .list)) (c .before .before .before .before .before .before .before .before .before .before .before .before .before .before .before .before .before .before .before .before .before .before .args .superblock) _ (c .before .before .before .before .before .before .before .before .before .before .before .before .before .before .before .before .before .room .ensures) (now (c .before .before .before .before .before .before .before .before .before .before .before .before .before .before .before .before .before .before .before .before .before .before .args .list)) (c .before .before .before .before .before .before .before .before .before .before .before .before .before .before .before .before .before .before .before .before .before .before .pre .0), root-ready (now (c .before .before .before .before .before .before .before .before .before .before .before .before .before .before .before .before .before .before .before .before .before .before .args .image)) (now (c .before .before .before .before .before .before .before .before .before .before .before .before .before .before .before .before .before .before .before .before .before .before .args .list)) (c .before .before .before .before .before .before .before .before .before .before .before .before .before .before .before .before .before .before .before .before .before .before .args .superblock) _ (c .before .before .before .before .before .before .before .before .before .before .before .before .before .before .before .before .before .room .ensures) (c .before .before .before .before .before .before .before .before .before .before .before .before .before .before .before .enter-superblock .last .1 .0) (c .before .before .before .before .before .before .before .before .before .before .before .n .given .0 .0) (c .before .before .before .before .before .before .before .before .before .before .before .before .before .before .before .enter-superblock .kept .1 .0) ((rw (c .before .before .before .before .before .before .before .before .before .before .before .n .given .1) at (c .before .before .before .before .before .before .before .before .before .before .before .before .before .before .before .enter-superblock .ensures)) (now (c .before .before .before .before .before .before .before .before .before .before .before .before .before .before .before .before .before .before .before .before .before .before .args .image))) (now (c .before .before .before .before .before .before .before .before .before .before .before .before .before .before .before .before .before .before .before .before .before .before .args .addresses)) (now (c .before .before .before .before .before .before .before .before .before .before .before .before .before .before .before .before .before .before .before .before .before .before .args .true-counts)) (c .before .before .before .before .before .before .before .start .last .0) (c .before .before .before .before .before .before .before .start .last .1 .0) (c .before .before .before .before .before .before .before .start .ensures))
+read-requires c κs = (opened (now (c .before .before .before .before .before .before .before .before .before .before .before .before .before .before .before .before .before .before .before .before .before .before .args .image)) (c .before .before .before .before .before .before .before .before .before .before .before .before .before .before .before .before .before .before .before .before .before .before .args .superblock) _ (length (now (c .before .before .before .before .before .before .before .before .before .before .before .before .before .before .before .before .before .before .before .before .before .before .args .list))) (c .before .before .before .before .before .before .before .before .before .before .before .before .before .before .before .before .before .room .ensures) (c .before .before .before .before .before .before .before .before .before .before .before .before .before .before .before .before .before .before .before .before .before .before .pre .0), root-ready (now (c .before .before .before .before .before .before .before .before .before .before .before .before .before .before .before .before .before .before .before .before .before .before .args .image)) (now (c .before .before .before .before .before .before .before .before .before .before .before .before .before .before .before .before .before .before .before .before .before .before .args .list)) (c .before .before .before .before .before .before .before .before .before .before .before .before .before .before .before .before .before .before .before .before .before .before .args .superblock) _ (c .before .before .before .before .before .before .before .before .before .before .before .before .before .before .before .before .before .room .ensures) (c .before .before .before .before .before .before .before .before .before .before .before .before .before .before .before .enter-superblock .last .1 .0) (c .before .before .before .before .before .before .before .before .before .before .before .n .given .0 .0) (c .before .before .before .before .before .before .before .before .before .before .before .before .before .before .before .enter-superblock .kept .1 .0) ((rw (c .before .before .before .before .before .before .before .before .before .before .before .n .given .1) at (c .before .before .before .before .before .before .before .before .before .before .before .before .before .before .before .enter-superblock .ensures)) (now (c .before .before .before .before .before .before .before .before .before .before .before .before .before .before .before .before .before .before .before .before .before .before .args .image))) (now (c .before .before .before .before .before .before .before .before .before .before .before .before .before .before .before .before .before .before .before .before .before .before .args .addresses)) (now (c .before .before .before .before .before .before .before .before .before .before .before .before .before .before .before .before .before .before .before .before .before .before .args .true-counts)) (c .before .before .before .before .before .before .before .start .last .0) (c .before .before .before .before .before .before .before .start .last .1 .0) (c .before .before .before .before .before .before .before .start .ensures))
 
 same-length : tie.Need-same-length
 same-length c = search needs

@@ -85,6 +85,50 @@ pub fn h_with(links: &[(&[u8], u64)], root_stored: u32, stored: u32) -> Sheet {
     sheet
 }
 
+/// The root group of E with names for so many committed datatypes less one. A header's stored count is its number, so
+/// that each can be told from the others. In order: tree, heap, segment, symbol nodes, headers.
+pub fn objects(count: u64) -> Sheet {
+    let mut segment = Segment::new();
+    let names: Vec<u64> = (1..count)
+        .map(|number| segment.string(format!("{number:03}").as_bytes()))
+        .collect();
+    let nodes = 712 + segment.sheet.bytes.len() as u64;
+    let headers = nodes + 328 * names.len().div_ceil(8) as u64;
+    let mut sheet = Sheet::default();
+    write_heap(&mut sheet, 680, 1, 712, &segment.sheet);
+    let mut children = Vec::new();
+    for (number, some) in names.chunks(8).enumerate() {
+        let address = nodes + 328 * number as u64;
+        let first = headers + 40 * 8 * number as u64;
+        write_symbols(&mut sheet, address, &entries(some, first));
+        let key = some[some.len() - 1];
+        children.push(Child { address, key });
+    }
+    write_node(&mut sheet, 136, 0, 0, &children);
+    for number in 1..count {
+        let datatype = Message::step(3, 0, &[0x13, 0, 0, 0, 1, 0, 0, 0, 0, 0, 0, 0, 0, 0, 0, 0]);
+        let place = headers + 40 * (number - 1);
+        header::write(&mut sheet, &[place], number as u32, &[vec![datatype]]);
+    }
+    let end = sheet.reserve(0);
+    write_root(&mut sheet, end, 1);
+    sheet
+}
+
+/// Hard links of these names to headers of 40 bytes from `first` on.
+fn entries(names: &[u64], first: u64) -> Vec<Entry> {
+    (first..)
+        .step_by(40)
+        .zip(names)
+        .map(|(address, name)| Entry {
+            name: *name,
+            address,
+            kind: 0,
+            scratch: 0,
+        })
+        .collect()
+}
+
 /// Both files and their variants, by name.
 pub fn all() -> Vec<(&'static str, Sheet)> {
     let loop_links: [(&[u8], u64); 3] = [(b"a", DATASET), (b"b", DATASET), (b"loop", ROOT)];

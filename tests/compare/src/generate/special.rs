@@ -37,6 +37,8 @@ pub fn all() -> Vec<Special> {
     all.extend(orders::orders());
     all.extend(superblocks());
     all.extend(lengths());
+    all.extend(lengths_near_the_top());
+    all.extend(sums_of_bits());
     all
 }
 
@@ -244,6 +246,78 @@ fn far_ends() -> Vec<Special> {
         all.push(special(name, sheet.with(field, 0, value), number));
     }
     all
+}
+
+/// Lengths that are read, whose sum with the address is 2^64 or near it, or is 96 if what passes 2^64 is lost.
+fn lengths_near_the_top() -> Vec<Special> {
+    let mut continued = root(Vec::new());
+    continued.parents = vec![0];
+    let continued = write(&Plan::new(vec![continued]), 5).sheet;
+    let mut all = Vec::new();
+    for (sheet, address, length) in [
+        (small::h(), "heap segment", "heap segment size"),
+        (continued, "continuation address", "continuation length"),
+        (shared_data(), "layout address", "layout size"),
+    ] {
+        let from = sheet.value(sheet.field(address, 0));
+        for over in [UNDEFINED, 0, 1, 96] {
+            let value = 0u64.wrapping_sub(from).wrapping_add(over);
+            let name = format!("{length} {value:x}");
+            all.push(special(name, sheet.with(length, 0, value), 5));
+        }
+        for over in [0, 1, 96] {
+            let halves = sheet
+                .with(address, 0, 1 << 63)
+                .with(length, 0, (1 << 63) + over);
+            all.push(special(format!("{length} from 2^63, {over}"), halves, 5));
+        }
+    }
+    // 16 plus the size passes 2^32.
+    for size in [0xffff_ffef, 0xffff_fff0, 0xffff_fff8, 0xffff_ffff] {
+        let sheet = small::h().with("header size", 0, size);
+        all.push(special(format!("header size {size:x}"), sheet, 5));
+    }
+    all
+}
+
+/// Data whose size is compared with nothing, since the datatype is shared.
+fn shared_data() -> Sheet {
+    let shared = Datatype::Shared {
+        version: 2,
+        object: 0,
+    };
+    with_dataset(Vec::new(), shared, Layout::Stored(16))
+}
+
+/// Offset plus precision passes 2^16, and 8 times the size passes 2^32.
+fn sums_of_bits() -> Vec<Special> {
+    let cases = [
+        (1, 65_535, 1, 11),
+        (8191, 65_535, 1, 11),
+        (8192, 65_535, 1, 0),
+        (8192, 65_535, 2, 11),
+        (16_383, 65_535, 65_535, 11),
+        (16_384, 65_535, 65_535, 0),
+        (0x2000_0000, 65_535, 65_535, 0),
+        (0x2000_0001, 8, 1, 0),
+        (0xffff_ffff, 65_535, 65_535, 0),
+    ];
+    cases
+        .into_iter()
+        .map(|(size, offset, precision, number)| {
+            let datatype = Datatype::Own {
+                class: 0,
+                version: 1,
+                bits: 0,
+                size,
+                offset,
+                precision,
+            };
+            let layout = Layout::At(UNDEFINED, u64::from(size));
+            let name = format!("{precision} bits at {offset} of {size} bytes");
+            special(name, with_dataset(vec![1], datatype, layout), number)
+        })
+        .collect()
 }
 
 fn heaps() -> Vec<Special> {

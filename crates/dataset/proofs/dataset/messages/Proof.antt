@@ -10,7 +10,8 @@ use Rattle.format.specs.Walk.{ret}
 use Rattle.walk.proofs.Checks.{passes, fails, gives, refuses}
 use Rattle.image.specs.Message.{messageOf}
 use Rattle.dataset.specs.declared.dataspace.DataspaceRead.{DataspaceRead}
-use Rattle.dataset.specs.Dataspace.{spaceOf, spaceWalk, sizesEnd}
+use Rattle.dataset.specs.declared.dataspace.DataspaceRead.the-variants.{Read}
+use Rattle.dataset.specs.Dataspace.{spaceOf, spaceWalk, sizesEnd, SpaceInside}
 use Rattle.dataset.specs.Datatype.{typeOf, typeWalk}
 use Rattle.dataset.specs.Layout.{layoutOf, layoutRead}
 use Rattle.dataset.specs.Dataset.{bodyOf, typeMessage, messagesWalk}
@@ -23,6 +24,13 @@ space-read : (c : tie.After-rank) →
     let b = bodyOf (now (c .before .before .before .before .args .image)) (c .before .before .before .before .args .space) in
     ret (spaceOf b (c .rank .given .0 .0) (c .rank .given .0 .1 .0)) ≡ dataspaceWalk b
 space-read c = ap (spaceWalk _) (sym (c .rank .given .1)) ∙ c .before .before .read-space .ensures .walk
+
+shape-read : (c : tie.After-rank) →
+    let b = bodyOf (now (c .before .before .before .before .args .image)) (c .before .before .before .before .args .space) in
+    SpaceInside b (Read (c .rank .given .0 .0) (c .rank .given .0 .1 .0))
+shape-read c =
+    let s = c .before .before .read-space .ensures in
+    subst (SpaceInside (bodyOf (now (c .before .before .before .before .args .image)) (c .before .before .before .before .args .space))) (c .rank .given .1) (s .ranked, s .sizes, s .maxima)
 
 type-read : (c : tie.After-t) →
     let a = c .before .before .before .before .before .before .before .before .args in
@@ -76,25 +84,25 @@ returns c =
     let layout = c .before .before .before in
     let type = layout .before .before .before .before in
     let space = type .before .before .before .before in
-    gives _ (space-read space) (gives _ (type-read type) (gives _ (layout-read layout) (fails _ _ (sym (c .before .filled .ensures) ∙ not-true _ (c .if1 .taken)))))
+    (gives _ (space-read space) (gives _ (type-read type) (gives _ (layout-read layout) (fails _ _ (sym (c .before .filled .ensures) ∙ not-true _ (c .if1 .taken))))), tt)
 
 returns-2 : tie.Need-returns-2
 unfolding messagesWalk
 returns-2 c =
     let space = c .before .before .before .read-space .ensures .walk in
-    refuses _ (ap (spaceWalk _) (sym (c .before .n .given .1)) ∙ space)
+    (refuses _ (ap (spaceWalk _) (sym (c .before .n .given .1)) ∙ space), tt)
 
 returns-3 : tie.Need-returns-3
 unfolding messagesWalk
 returns-3 c =
-    gives _ (space-read (c .before .before .before .before .before)) (refuses _ (ap typeWalk (sym (c .before .n2 .given .1)) ∙ c .before .before .before .read-type .ensures))
+    (gives _ (space-read (c .before .before .before .before .before)) (refuses _ (ap typeWalk (sym (c .before .n2 .given .1)) ∙ c .before .before .before .read-type .ensures)), tt)
 
 returns-4 : tie.Need-returns-4
 unfolding messagesWalk
 returns-4 c =
     let type = c .before .before .before .before .before in
     let space = type .before .before .before .before in
-    gives _ (space-read space) (gives _ (type-read type) (refuses _ (ap layoutRead (sym (c .before .n3 .given .1)) ∙ c .before .before .before .read-layout .ensures)))
+    (gives _ (space-read space) (gives _ (type-read type) (refuses _ (ap layoutRead (sym (c .before .n3 .given .1)) ∙ c .before .before .before .read-layout .ensures))), tt)
 
 returns-5 : tie.Need-returns-5
 unfolding messagesWalk
@@ -102,7 +110,7 @@ returns-5 c =
     let layout = c .before .before .before in
     let type = layout .before .before .before .before in
     let space = type .before .before .before .before in
-    gives _ (space-read space) (gives _ (type-read type) (gives _ (layout-read layout) (passes _ _ (sym (c .before .filled .ensures) ∙ not-false _ (c .if1 .left)) refl)))
+    (gives _ (space-read space) (gives _ (type-read type) (gives _ (layout-read layout) (passes _ _ (sym (c .before .filled .ensures) ∙ not-false _ (c .if1 .left)) refl))), shape-read space)
 
 pub messages-spec : {M : Type 1} → statement M
 messages-spec =

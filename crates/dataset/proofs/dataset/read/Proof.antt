@@ -27,7 +27,7 @@ returns : tie.Need-returns
 returns c =
     let s = c .before .before .before .before .before .before in
     let a = s .args in
-    messages-refused (now (a .image)) (a .end-of-file) (a .room) (a .count) (now (a .blocks)) (s .pre .0) (a .space) (a .datatype) (a .layout) (c .before .before .before .messages .ensures) (c .before .n .given .1)
+    (messages-refused (now (a .image)) (a .end-of-file) (a .room) (a .count) (now (a .blocks)) (s .pre .0) (a .space) (a .datatype) (a .layout) (c .before .before .before .messages .ensures .0) (c .before .n .given .1), tt)
 
 same-length : tie.Need-same-length
 same-length c = search needs
@@ -37,9 +37,11 @@ returns-2 c =
     let entry = c .before .before .before .before .before in
     let arm = entry .before .before .before in
     let s = arm .before .before .before .before .before in
-    let a = s .args in
-    data-refused (now (a .image)) (a .end-of-file) (a .room) (a .count) (now (a .blocks)) (s .pre .0) (a .space) (a .datatype) (a .layout) (arm .before .before .messages .ensures) (arm .dataset .given .1)
-    (entry .enter-data .last .1 .0) (entry .enter-data .ensures (now (a .image))) (c .before .n2 .given .1)
+    let a = s .args in (
+      data-refused (now (a .image)) (a .end-of-file) (a .room) (a .count) (now (a .blocks)) (s .pre .0) (a .space) (a .datatype) (a .layout) (arm .before .before .messages .ensures .0) (arm .dataset .given .1)
+          (entry .enter-data .last .1 .0) (entry .enter-data .ensures (now (a .image))) (c .before .n2 .given .1),
+      tt,
+    )
 
 same-length-2 : tie.Need-same-length-2
 same-length-2 c = search needs
@@ -49,9 +51,11 @@ returns-3 c =
     let entry = c .before .before .before .before .before in
     let arm = entry .before .before .before in
     let s = arm .before .before .before .before .before in
-    let a = s .args in
-    data-entered (now (a .image)) (a .end-of-file) (a .room) (a .count) (now (a .blocks)) (s .pre .0) (a .space) (a .datatype) (a .layout) (arm .before .before .messages .ensures) (arm .dataset .given .1)
-    (entry .enter-data .last .1 .0) (entry .enter-data .ensures (now (a .image))) (c .before .entered .given .1) (entry .enter-data .kept .1 .0)
+    let a = s .args in (
+      data-entered (now (a .image)) (a .end-of-file) (a .room) (a .count) (now (a .blocks)) (s .pre .0) (a .space) (a .datatype) (a .layout) (arm .before .before .messages .ensures .0) (arm .dataset .given .1)
+          (entry .enter-data .last .1 .0) (entry .enter-data .ensures (now (a .image))) (c .before .entered .given .1) (entry .enter-data .kept .1 .0),
+      rw (arm .dataset .given .1) at (arm .before .before .messages .ensures .1),
+    )
 
 pub read-spec : {M : Type 1} → statement M
 read-spec =

@@ -1,0 +1,76 @@
+-- The index of a group: its names rise, and it is refused with a number of the audit's, or with 17.
+use Prim.Native.Nat.{ℕ, _≤_}
+use mathlib.Core.Bool.{false}
+use mathlib.Core.List.{List, []}
+use mathlib.Core.Logic.{_⊎_, inl, inr, ⊎-elim}
+use mathlib.Core.Path.{_≡_}
+use native.Mathlib.Omega.{arith}
+use Rattle.format.specs.Blocks.{Block}
+use Rattle.format.specs.Walk.{_>>=_, Outcome, done, refused, run}
+use Rattle.format.specs.Superblock.{Superblock, superblockWalk}
+use Rattle.format.specs.Header.{Object, group, dataset, committed, headerWalk}
+use Rattle.format.specs.Symbols.{Entry}
+use Rattle.walk.proofs.Follows.{Ran}
+use Rattle.group.specs.Entries.{keepEntry, entriesWalk, Rising}
+use Rattle.group.proofs.Entries.{entries-rise}
+use Rattle.links.proofs.Outcomes.{bind-done}
+use Rattle.links.proofs.Numbered.{Numbered, numbers, run-number}
+use Rattle.links.proofs.NumberedHeader.{header-numbered}
+use Rattle.links.proofs.NumberedGroup.{group-numbered}
+use Rattle.found.specs.Leads.{indexOf, indexWalk, IndexIs}
+use Rattle.found.proofs.Outcomes.{bind-refused}
+
+keep-numbered : (e : Entry) (es : List Entry) → Numbered (keepEntry e es)
+unfolding keepEntry
+keep-numbered e es = search numbers
+
+entries-numbered : (leafK internalK tree heap : ℕ) → Numbered (entriesWalk leafK internalK tree heap)
+unfolding entriesWalk
+entries-numbered leafK internalK tree heap = group-numbered leafK internalK tree heap keepEntry [] keep-numbered
+
+pub superblock-numbered : (s : Superblock) → Numbered (superblockWalk s)
+unfolding superblockWalk
+superblock-numbered s = search numbers depth 8
+
+ran-value : {S T : Type 0} (R : S → T → Type 0) (o : Outcome S) (p : Outcome T) (x : S) (ms : List Block) → o ≡ done x ms → Ran false R o p → (t : T) × R x t
+unfolding Ran
+ran-value R o p x ms e h = let r = rw e at h in (r .0, r .2)
+
+module _ (im : List ℕ) (s : Superblock) (room : ℕ) where
+  entries-rising : (o : Object) (bs : List Block) (es : List Entry) (ms : List Block) → run im (s .endOfFile) room (indexOf s o) bs ≡ done es ms → Rising es
+  unfolding indexOf run
+  entries-rising (group tree heap) bs es ms e =
+      let r = ran-value _ (run im (s .endOfFile) room (entriesWalk (s .leafK) (s .internalK) tree heap) bs) (run im (s .endOfFile) room (entriesWalk (s .leafK) (s .internalK) tree heap) bs) es ms e
+      (entries-rise im (s .endOfFile) room (s .leafK) (s .internalK) tree heap bs) in
+      r .1 .1 .0
+  entries-rising (dataset space type layout) bs es ms e = let z : _≡_ {A = ℕ} 0 1 = cc in absurd (omega arith)
+  entries-rising committed bs es ms e = let z : _≡_ {A = ℕ} 0 1 = cc in absurd (omega arith)
+
+  -- a sound index is that of a group
+  pub index-object : (at : ℕ) (es : List Entry) (bs : List Block) → IndexIs im s room at es bs →
+      (o : Object) × (cs ds : List Block) × (run im (s .endOfFile) room (superblockWalk s) [] ≡ done tt cs) × (run im (s .endOfFile) room (headerWalk at) cs ≡ done o ds) ×
+      (run im (s .endOfFile) room (indexOf s o) ds ≡ done es bs)
+  unfolding indexWalk
+  index-object at es bs i =
+      let b = bind-done im (s .endOfFile) room (superblockWalk s) (λ _. headerWalk at >>= indexOf s) [] es bs i in
+      let h = bind-done im (s .endOfFile) room (headerWalk at) (indexOf s) (b .1) es bs (b .3) in
+      (h .0, b .1, h .1, b .2, h .2, h .3)
+
+  pub index-rising : (at : ℕ) (es : List Entry) (bs : List Block) → IndexIs im s room at es bs → Rising es
+  index-rising at es bs i = let h = index-object at es bs i in entries-rising (h .0) (h .2) es bs (h .5)
+
+  of-number : (o : Object) (bs : List Block) (n : ℕ) (ms : List Block) → run im (s .endOfFile) room (indexOf s o) bs ≡ refused n ms → (n ≤ 13) ⊎ (n ≡ 17)
+  unfolding indexOf run
+  of-number (group tree heap) bs n ms e = inl (run-number im (s .endOfFile) room (entriesWalk (s .leafK) (s .internalK) tree heap) bs n ms (entries-numbered (s .leafK) (s .internalK) tree heap) e .1)
+  of-number (dataset space type layout) bs n ms e = inr (cc)
+  of-number committed bs n ms e = inr (cc)
+
+  -- no step of the index refuses with 15 or 16
+  pub index-number : (at : ℕ) (n : ℕ) (ms : List Block) → run im (s .endOfFile) room (indexWalk s at) [] ≡ refused n ms → (n ≤ 13) ⊎ (n ≡ 17)
+  unfolding indexWalk
+  index-number at n ms e =
+      ⊎-elim (λ r. inl (run-number im (s .endOfFile) room (superblockWalk s) [] n ms (superblock-numbered s) r .1))
+      (λ b.
+      ⊎-elim (λ r. inl (run-number im (s .endOfFile) room (headerWalk at) (b .1) n ms (header-numbered at) r .1)) (λ h. of-number (h .0) (h .1) n ms (h .3))
+      (bind-refused im (s .endOfFile) room (headerWalk at) (indexOf s) (b .1) n ms (b .3)))
+      (bind-refused im (s .endOfFile) room (superblockWalk s) (λ _. headerWalk at >>= indexOf s) [] n ms e)

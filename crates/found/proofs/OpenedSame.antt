@@ -1,0 +1,94 @@
+-- An image opens the same where it differs only behind the superblock.
+use Prim.Native.Nat.{ℕ, _+_, _≤_, _<_}
+use mathlib.Core.Bool.{Bool, true, false, not}
+use mathlib.Core.List.{List}
+use mathlib.Core.Logic.{inr}
+use mathlib.Core.Path.{_≡_, ap, _∙_}
+use native.Mathlib.Omega.{arith}
+use lib.ListN.{length, getD}
+use lib.Dec.{eqb}
+use Rattle.format.specs.Limits.{imageLeast, imageMost}
+use Rattle.format.specs.Bytes.{if_then_else_, inRange, part, u8, u64}
+use Rattle.format.specs.Walk.{superblockBlock, shown}
+use Rattle.format.specs.Superblock.{Superblock, opened, notOpened, signature, versionShift, versionsRead, sizesRead, addressesRead, superblockRead, superblockSound, superblockFields, openImage}
+use Rattle.walk.proofs.CountFields.{OnlyCounts, shown-same}
+
+-- what an image that can be opened says
+opened-fields : (im : List ℕ) (s : Superblock) → openImage im ≡ opened s → superblockFields im ≡ s
+unfolding openImage
+opened-fields im s e = go (not (inRange imageLeast imageMost (length im))) (not (eqb (u64 im 0) signature)) (not (superblockRead im)) (not (superblockSound im)) e
+  where
+    go : (t u v w : Bool) → (if t then notOpened 1 else if u then notOpened 2 else if v then notOpened 3 else if w then notOpened 4 else opened (superblockFields im)) ≡ opened s → superblockFields im ≡ s
+    go true u v w q = let z : _≡_ {A = ℕ} 0 1 = cc in absurd (omega arith)
+    go false true v w q = let z : _≡_ {A = ℕ} 0 1 = cc in absurd (omega arith)
+    go false false true w q = let z : _≡_ {A = ℕ} 0 1 = cc in absurd (omega arith)
+    go false false false true q = let z : _≡_ {A = ℕ} 0 1 = cc in absurd (omega arith)
+    go false false false false q = cc
+
+-- the superblock has 96 bytes or more
+pub opened-size : (im : List ℕ) (s : Superblock) → openImage im ≡ opened s → 96 ≤ s .size
+unfolding superblockFields
+opened-size im s e = omega (arith, ap (λ (t : Superblock). t .size) (opened-fields im s e))
+
+shift-most : (im : List ℕ) → versionShift im ≤ 4
+unfolding versionShift
+shift-most im = go (eqb (u8 im 8) 1)
+  where
+    go : (t : Bool) → (if t then 4 else 0) ≤ 4
+    go true = omega arith
+    go false = omega arith
+
+module _ (H : ℕ → Type 0) (im im′ : List ℕ) (d : OnlyCounts H im im′) (behind : (h : ℕ) → H h → 96 ≤ h) where
+  byte-same : (i : ℕ) → i < 96 → getD im i 0 ≡ getD im′ i 0
+  byte-same i l = d .elsewhere i (λ h m f. omega (arith, behind h m, f .0))
+
+  part-same : (a n : ℕ) → a + n ≤ 96 → part im a n ≡ part im′ a n
+  unfolding shown
+  part-same a n l = shown-same H im im′ d superblockBlock a n (λ h m. inr (inr (omega (arith, behind h m))))
+
+  shift-same : versionShift im ≡ versionShift im′
+  unfolding versionShift
+  shift-same = rw (byte-same 8 (omega arith))
+
+  -- a field whose place depends on the version
+  shifted-same : (a n : ℕ) → a + 4 + n ≤ 96 → part im (a + versionShift im) n ≡ part im′ (a + versionShift im′) n
+  shifted-same a n l = part-same (a + versionShift im) n (omega (arith, shift-most im)) ∙ ap (λ (v : ℕ). part im′ (a + v) n) shift-same
+
+  read-same : superblockRead im ≡ superblockRead im′
+  unfolding superblockRead versionsRead sizesRead addressesRead
+  read-same =
+      let b8 = byte-same 8 (omega arith) in
+      let b9 = byte-same 9 (omega arith) in
+      let b10 = byte-same 10 (omega arith) in
+      let b12 = byte-same 12 (omega arith) in
+      let b13 = byte-same 13 (omega arith) in
+      let b14 = byte-same 14 (omega arith) in
+      let base = shifted-same 24 8 (omega arith) in
+      let free = shifted-same 32 8 (omega arith) in
+      let driver = shifted-same 48 8 (omega arith) in
+      cc
+
+  sound-same : superblockSound im ≡ superblockSound im′
+  unfolding superblockSound
+  sound-same =
+      let long = d .sameLength in
+      let shift = shift-same in
+      let leaf = part-same 16 2 (omega arith) in
+      let internal = part-same 18 2 (omega arith) in
+      let link = shifted-same 72 4 (omega arith) in
+      let end = shifted-same 40 8 (omega arith) in
+      cc
+
+  fields-same : superblockFields im ≡ superblockFields im′
+  unfolding superblockFields
+  fields-same =
+      let shift = shift-same in
+      let leaf = part-same 16 2 (omega arith) in
+      let internal = part-same 18 2 (omega arith) in
+      let root = shifted-same 64 8 (omega arith) in
+      let end = shifted-same 40 8 (omega arith) in
+      cc
+
+  pub opened-same : openImage im ≡ openImage im′
+  unfolding openImage
+  opened-same = rw (d .sameLength, part-same 0 8 (omega arith), read-same, sound-same, fields-same)

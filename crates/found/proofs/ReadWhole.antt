@@ -1,0 +1,34 @@
+-- An object read whole behind the superblock, for its entries.
+use Prim.Native.Nat.{ℕ}
+use mathlib.Core.List.{List, [], _∷_, _++_, List·Memᴰ, List·Memᴰ·append-cases}
+use mathlib.Core.Logic.{⊎-elim}
+use mathlib.Core.Path.{_≡_, refl}
+use Rattle.format.specs.Blocks.{Block, overlapsAny}
+use Rattle.format.specs.Walk.{_>>_, done, run}
+use Rattle.format.specs.Superblock.{Superblock, superblockWalk}
+use Rattle.format.specs.Symbols.{Entry}
+use Rattle.walk.proofs.Disjoint.{Apart}
+use Rattle.walk.proofs.Agreement.{Shown}
+use Rattle.links.specs.Reached.{entriesAt}
+use Rattle.found.proofs.Whole.{whole}
+
+-- everything of the first is in the second
+abbrev pub Sub : List Shown → List Shown → Type 0
+Sub ss ts = (x : Shown) → List·Memᴰ x ss → List·Memᴰ x ts
+
+pub sub-append : (ss us ts : List Shown) → Sub ss ts → Sub us ts → Sub (ss ++ us) ts
+sub-append ss us ts f g x m = ⊎-elim (f x) (g x) (List·Memᴰ·append-cases ss m)
+
+-- the object at this address, read whole behind the superblock, with what it is then shown among ss
+pub record ReadWhole (im : List ℕ) (s : Superblock) (ss : List Shown) (at : ℕ) : Type 0 where
+  pub room : ℕ
+  pub entries : List Entry
+  pub left : List Block
+  pub ran : run im (s .endOfFile) room (superblockWalk s >> entriesAt s at) [] ≡ done entries left
+  pub among : Sub (whole im (s .endOfFile) (superblockWalk s >> entriesAt s at)) ss
+
+-- no block shares a byte with one of none
+pub apart-none : (cs : List Block) → Apart [] cs
+unfolding overlapsAny
+apart-none [] = tt
+apart-none (c ∷ cs) = (refl, apart-none cs)

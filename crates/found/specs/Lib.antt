@@ -1,0 +1,4 @@
+pub mod Leads
+pub mod Found
+pub mod Covered
+pub mod Accepted

@@ -1,0 +1,1 @@
+// Theorems about the definitions of lookup and description. There is no code here.

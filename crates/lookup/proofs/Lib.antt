@@ -1,0 +1,4 @@
+pub mod ComponentLaws
+pub mod FollowLaws
+pub mod LastLaws
+pub mod LookupLaws

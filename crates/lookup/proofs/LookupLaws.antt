@@ -1,0 +1,68 @@
+-- From where a path leads to the reply.
+use Prim.Native.Nat.{ℕ}
+use mathlib.Core.List.{List, []}
+use mathlib.Core.Path.{_≡_, refl, ap, sym, _∙_}
+use lib.ListN.{replicate}
+use Rattle.format.specs.Blocks.{roomOf}
+use Rattle.format.specs.Walk.{Outcome, done, run, _>>_}
+use Rattle.format.specs.Superblock.{superblockWalk, opened, notOpened, openImage}
+use Rattle.format.specs.Path.{components, badPath, parsePath}
+use Rattle.format.specs.Lookup as lookups
+use Rattle.format.specs.Lookup.{Target, follow, locateWalk, lookupRun}
+use Rattle.format.specs.Answers.{lookupEnd, lookup}
+use Rattle.image.specs.Superblock.{superblockOf}
+use Rattle.image.specs.declared.superblock.Superblock.{Superblock}
+use Rattle.path.specs.Form.{componentsOf}
+use Rattle.lookup.specs.Component.{EndsAs}
+use Rattle.lookup.specs.Follow.{targetRun}
+use Rattle.lookup.specs.Last.{KindIs}
+use Rattle.lookup.specs.Lookup.{replyOf, LocatedIs}
+use Rattle.lookup.specs.declared.component.Target as targets
+use Rattle.lookup.specs.declared.last.Kind as kinds
+use Rattle.lookup.specs.declared.lookup.Located.{Located}
+use Rattle.lookup.proofs.FollowLaws.{afterTarget, follow-target}
+
+-- a refusal has zeros for its fields
+abbrev pub refusedWith : ℕ → Located
+refusedWith n = record { number = n; kind = 0; address = 0 }
+
+module _ (im path : List ℕ) (lent : ℕ) (s : Superblock) where
+  abbrev target : Outcome Target
+  target = targetRun im (superblockOf s) (roomOf lent) (componentsOf path) (s .root)
+
+  abbrev last : ℕ → Outcome lookups.Located
+  last a = run im (s .«end_of_file») (roomOf lent) (superblockWalk (superblockOf s) >> locateWalk a) []
+
+  -- the path was followed, and this is where it leads
+  followed : (o : Outcome Target) → target ≡ o → follow im (superblockOf s) (roomOf lent) locateWalk (done (record { kind = 4; address = 0 }) []) (componentsOf path) (s .root) ≡ afterTarget o last (done (record { kind = 4; address = 0 }) [])
+  followed o e = follow-target im (superblockOf s) (roomOf lent) locateWalk _ (componentsOf path) (s .root) ∙ ap (λ (t : Outcome Target). afterTarget t last (done (record { kind = 4; address = 0 }) [])) e
+
+  ends : {r : Located} {o : Outcome lookups.Located} → follow im (superblockOf s) (roomOf lent) locateWalk (done (record { kind = 4; address = 0 }) []) (componentsOf path) (s .root) ≡ o → replyOf (replicate lent 0) r ≡ lookupEnd lent o → LocatedIs im path lent s r
+  ends e q = q ∙ ap (lookupEnd lent) (sym e)
+
+  pub stopped-is : (x : ℕ) → EndsAs (targets.the-variants.Stopped x) target → LocatedIs im path lent s (refusedWith x)
+  stopped-is x h = ends (followed _ (h .1)) refl
+
+  pub symbolic-is : EndsAs targets.the-variants.Symbolic target → LocatedIs im path lent s (record { number = 0; kind = 4; address = 0 })
+  symbolic-is h = ends (followed _ (h .1)) refl
+
+  module _ (a : ℕ) (h : EndsAs (targets.the-variants.Object a) target) where
+    pub last-stopped : (x : ℕ) → KindIs im s (roomOf lent) a (kinds.the-variants.Stopped x) → LocatedIs im path lent s (refusedWith x)
+    last-stopped x k = ends (followed _ (h .1) ∙ k .1) refl
+
+    pub last-known : (n : ℕ) → KindIs im s (roomOf lent) a (kinds.the-variants.Known n) → LocatedIs im path lent s (record { number = 0; kind = n; address = a })
+    last-known n k = ends (followed _ (h .1) ∙ k .1) refl
+
+module _ (im path : List ℕ) (lent : ℕ) (ws : List ℕ) (zeros : ws ≡ replicate lent 0) where
+  pub bad-path-is : parsePath path ≡ badPath → replyOf ws (refusedWith 14) ≡ lookup im path lent
+  unfolding lookup lookupRun
+  bad-path-is e = rw (e, zeros) refl
+
+  module _ (p : parsePath path ≡ components (componentsOf path)) where
+    pub not-opened-is : (x : ℕ) → notOpened x ≡ openImage im → replyOf ws (refusedWith x) ≡ lookup im path lent
+    unfolding lookup lookupRun
+    not-opened-is x o = rw (p, ← o, zeros) refl
+
+    pub opened-is : (s : Superblock) (r : Located) → opened (superblockOf s) ≡ openImage im → LocatedIs im path lent s r → replyOf ws r ≡ lookup im path lent
+    unfolding lookup lookupRun
+    opened-is s r o h = rw (p, ← o, zeros) h

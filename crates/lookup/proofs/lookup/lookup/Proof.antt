@@ -1,0 +1,79 @@
+-- The path, then the superblock, then the walk; the list is cleared in each case.
+use borrow.Author.Needs.{needs}
+use Rattle.lookup.proofs.lookup.lookup.Statement.{statement}
+use Rattle.lookup.proofs.lookup.lookup.Tie as tie
+use denote.Ref.{now}
+use Prim.Native.Nat.{ℕ}
+use mathlib.Core.Path.{ap, _∙_}
+use borrow.Author.Tests.{not-true, not-false}
+use lib.ListN.{length, replicate}
+use Rattle.lookup.proofs.LookupLaws.{bad-path-is, not-opened-is, opened-is}
+
+is-sound-requires : tie.Need-is-sound-requires
+is-sound-requires c κs = search needs
+
+refused-requires : tie.Need-refused-requires
+refused-requires c κs = search needs
+
+finish-requires : tie.Need-finish-requires
+finish-requires c κs = search needs
+
+same-length : tie.Need-same-length
+same-length c = search needs
+
+returns : tie.Need-returns
+returns c = rw (c .before .before .finish .ensures .0, c .before .before .before .refused .ensures) (bad-path-is (now (c .before .before .before .before .before .before .before .before .before .before .args .image)) (now (c .before .before .before .before .before .before .before .before .before .before .args .path)) (length (now (c .before .before .before .before .before .before .before .before .before .before .args .list))) _ (c .before .before .finish .ensures .1) (c .before .before .before .before .before .before .is-sound .ensures .bad (not-true _ (c .before .before .before .before .before .if1 .taken))))
+
+open-requires : tie.Need-open-requires
+open-requires c κs = search needs
+
+enum-known-x : tie.Need-enum-known-x
+enum-known-x c = search needs
+
+refused-requires-2 : tie.Need-refused-requires-2
+refused-requires-2 c κs = search needs
+
+finish-requires-2 : tie.Need-finish-requires-2
+finish-requires-2 c κs = search needs
+
+enum-known-s : tie.Need-enum-known-s
+enum-known-s c = search needs
+
+locate-requires : tie.Need-locate-requires
+locate-requires c κs = ((rw (c .before .before .s .given .1) at (c .before .before .before .before .open .ensures)) .1, c .before .before .before .before .before .before .is-sound .ensures .begun (not-false _ (c .before .before .before .before .before .if1 .left)))
+
+finish-requires-3 : tie.Need-finish-requires-3
+finish-requires-3 c κs = search needs
+
+same-length-2 : tie.Need-same-length-2
+same-length-2 c = search needs
+
+returns-2 : tie.Need-returns-2
+returns-2 c = rw (c .before .before .finish2 .ensures .0, c .before .before .before .refused2 .ensures) (not-opened-is (now (c .before .before .before .before .before .before .before .before .before .before .before .before .before .before .args .image)) (now (c .before .before .before .before .before .before .before .before .before .before .before .before .before .before .args .path)) (length (now (c .before .before .before .before .before .before .before .before .before .before .before .before .before .before .args .list))) _ (c .before .before .finish2 .ensures .1) (c .before .before .before .before .before .before .before .before .before .before .is-sound .ensures .sound (not-false _ (c .before .before .before .before .before .before .before .before .before .if1 .left))) _ ((rw (c .before .before .before .before .before .before .x .given .1) at (c .before .before .before .before .before .before .before .before .open .ensures)) .0))
+
+same-length-3 : tie.Need-same-length-3
+same-length-3 c = search needs
+
+returns-3 : tie.Need-returns-3
+returns-3 c = rw (c .before .before .finish3 .ensures .0) (opened-is (now (c .before .before .before .before .before .before .before .before .before .before .before .before .before .before .before .before .before .args .image)) (now (c .before .before .before .before .before .before .before .before .before .before .before .before .before .before .before .before .before .args .path)) (length (now (c .before .before .before .before .before .before .before .before .before .before .before .before .before .before .before .before .before .args .list))) _ (c .before .before .finish3 .ensures .1 ∙ ap (λ (n : ℕ). replicate n 0) (c .before .before .before .before .before .before .locate .kept .1 .1 .0)) (c .before .before .before .before .before .before .before .before .before .before .before .before .before .is-sound .ensures .sound (not-false _ (c .before .before .before .before .before .before .before .before .before .before .before .before .if1 .left))) (c .before .before .before .before .before .before .before .before .before .s .given .0 .0) _ ((rw (c .before .before .before .before .before .before .before .before .before .s .given .1) at (c .before .before .before .before .before .before .before .before .before .before .before .open .ensures)) .0) (c .before .before .before .before .before .before .locate .ensures))
+
+pub lookup-spec : {M : Type 1} → statement M
+lookup-spec =
+    tie.close
+    (tie.spec
+    is-sound-requires
+    refused-requires
+    finish-requires
+    same-length
+    returns
+    open-requires
+    enum-known-x
+    refused-requires-2
+    finish-requires-2
+    enum-known-s
+    locate-requires
+    finish-requires-3
+    same-length-2
+    returns-2
+    same-length-3
+    returns-3)

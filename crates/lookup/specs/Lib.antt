@@ -1,0 +1,4 @@
+pub mod Component
+pub mod Follow
+pub mod Last
+pub mod Lookup

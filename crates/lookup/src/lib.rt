@@ -1,0 +1,5 @@
+// Path lookup.
+pub mod component;
+pub mod follow;
+pub mod last;
+pub mod lookup;

@@ -1,0 +1,286 @@
+//! The small files of document 01 through the command and through the C front end, against the texts of `expected/`.
+//!
+//! `NAME.txt` is what the command prints. `NAME_c.txt` is what the C front end leaves: a line `answer N`, then a line
+//! `list WORD VALUE` or `reply WORD VALUE` for each word that isn't zero.
+
+use compare::generate::small::{self, DATASET, ROOT};
+use compare::library;
+use compare::reader::front::REPLY_WORDS;
+use std::ffi::OsStr;
+use std::fs;
+use std::io::{ErrorKind, Write};
+use std::path::{Path, PathBuf};
+use std::process::{Command, Output, Stdio};
+use std::thread;
+use std::time::Duration;
+
+fn package() -> &'static Path {
+    Path::new(env!("CARGO_MANIFEST_DIR"))
+}
+
+fn root() -> PathBuf {
+    let root = package().join("../..");
+    fs::canonicalize(root).expect("the repository's root")
+}
+
+fn program() -> PathBuf {
+    let program = root().join("target/bin/h5audit");
+    assert!(
+        program.exists(),
+        "{} is missing: run `rt check h5audit` in the repository's root first",
+        program.display()
+    );
+    program
+}
+
+/// A folder of a test's own, without what an earlier run left in it.
+fn folder(test: &str) -> PathBuf {
+    let folder = Path::new(env!("CARGO_TARGET_TMPDIR"))
+        .join("small_run")
+        .join(test);
+    if folder.exists() {
+        fs::remove_dir_all(&folder).expect("the folder of an earlier run");
+    }
+    fs::create_dir_all(&folder).expect("a new folder");
+    folder
+}
+
+fn stored(name: &str) -> String {
+    let path = package().join("expected").join(name).with_extension("txt");
+    fs::read_to_string(&path).unwrap_or_else(|error| panic!("{}: {error}", path.display()))
+}
+
+/// Names the first line that differs: some texts have hundreds.
+fn assert_stored(text: &str, name: &str) {
+    let stored = stored(name);
+    for (number, (line, expected)) in text.lines().zip(stored.lines()).enumerate() {
+        assert_eq!(line, expected, "{name}, line {}", number + 1);
+    }
+    assert!(text == stored, "{name}: {text:?} and {stored:?}");
+}
+
+const A_AND_B: [(&[u8], u64); 2] = [(b"a", DATASET), (b"b", DATASET)];
+const B_AND_A: [(&[u8], u64); 2] = [(b"b", DATASET), (b"a", DATASET)];
+const LOOP: [(&[u8], u64); 3] = [(b"a", DATASET), (b"b", DATASET), (b"loop", ROOT)];
+
+/// E, followed by zeros up to a length.
+fn long_e(length: usize) -> Vec<u8> {
+    let mut image = small::e().bytes;
+    image.resize(length, 0);
+    image
+}
+
+/// The files of "Small files to try" and those at the limits of the command's input, by the name of their texts.
+fn files() -> Vec<(&'static str, Vec<u8>)> {
+    let e_ending = |end| small::e().with("superblock end of file", 0, end).bytes;
+    vec![
+        ("e", small::e().bytes),
+        ("e_end_799", e_ending(799)),
+        ("e_end_801", e_ending(801)),
+        ("h", small::h().bytes),
+        ("h_stored_1", small::h_with(&A_AND_B, 1, 1).bytes),
+        ("h_stored_2", small::h_with(&A_AND_B, 1, 2).bytes),
+        ("h_names_b_a", small::h_with(&B_AND_A, 1, 2).bytes),
+        ("h_loop", small::h_with(&LOOP, 1, 2).bytes),
+        ("objects_256", small::objects(256).bytes),
+        ("objects_257", small::objects(257).bytes),
+        ("e_65536_bytes", long_e(65_536)),
+        ("e_65537_bytes", long_e(65_537)),
+        ("no_bytes", Vec::new()),
+    ]
+}
+
+/// Runs a command to its end. Its output is shorter than what a pipe holds, so it is read after the input is written.
+fn run<'a>(command: &mut Command, input: impl Iterator<Item = &'a [u8]>) -> Output {
+    let mut child = command
+        .stdin(Stdio::piped())
+        .stdout(Stdio::piped())
+        .stderr(Stdio::piped())
+        .spawn()
+        .expect("a command that starts");
+    let mut stdin = child.stdin.take().expect("a pipe");
+    for part in input {
+        match stdin.write_all(part) {
+            // The command reads no more than it answers for.
+            Err(error) if error.kind() == ErrorKind::BrokenPipe => break,
+            result => result.expect("an input that is taken"),
+        }
+    }
+    drop(stdin);
+    child.wait_with_output().expect("a command that ends")
+}
+
+fn run_with_name(program: &Path, folder: &Path, name: impl AsRef<OsStr>) -> Output {
+    let mut command = Command::new(program);
+    run(
+        command.current_dir(folder).arg(name),
+        std::iter::empty::<&[u8]>(),
+    )
+}
+
+fn run_with_input(program: &Path, image: &[u8]) -> Output {
+    run(&mut Command::new(program), [image].into_iter())
+}
+
+/// An audit's text on standard output, nothing else, and status 0.
+fn assert_audit(output: &Output, name: &str) {
+    let text = String::from_utf8_lossy(&output.stdout);
+    assert_stored(&text, name);
+    assert_eq!(String::from_utf8_lossy(&output.stderr), "", "{name}");
+    assert_eq!(output.status.code(), Some(0), "{name}");
+}
+
+/// Nothing on standard output and a message that has this in it.
+fn assert_message(output: &Output, part: &str) {
+    assert_eq!(String::from_utf8_lossy(&output.stdout), "");
+    let message = String::from_utf8_lossy(&output.stderr);
+    assert!(message.contains(part), "{part:?} is not in {message:?}");
+    assert!(output.status.code().is_some(), "{}", output.status);
+}
+
+#[test]
+fn the_command_reads_standard_input() {
+    for (name, image) in files() {
+        assert_audit(&run_with_input(&program(), &image), name);
+    }
+}
+
+#[test]
+fn the_command_reads_a_file() {
+    let folder = folder("file");
+    for (name, image) in files() {
+        let path = folder.join(name).with_extension("h5");
+        fs::write(&path, &image).expect("a file");
+        assert_audit(&run_with_name(&program(), &folder, &path), name);
+        assert!(
+            fs::read(&path).expect("the file") == image,
+            "{name} was changed"
+        );
+    }
+}
+
+/// The wait lets the command read each part before the next one comes.
+#[test]
+fn the_command_reads_an_input_in_parts() {
+    let image = small::h_with(&A_AND_B, 1, 1).bytes;
+    let parts = image
+        .chunks(200)
+        .inspect(|_| thread::sleep(Duration::from_millis(20)));
+    assert_audit(&run(&mut Command::new(program()), parts), "h_stored_1");
+}
+
+/// Any input of over 65,536 bytes is answered as the shortest of them is.
+#[test]
+fn the_command_reads_no_long_input() {
+    let folder = folder("long");
+    for length in [65_538, 131_072, 131_872, 1_048_576, 1_048_577, 3_000_000] {
+        let image = long_e(length);
+        assert_audit(&run_with_input(&program(), &image), "e_65537_bytes");
+        fs::write(folder.join("long.h5"), &image).expect("a file");
+        let output = run_with_name(&program(), &folder, "long.h5");
+        assert_audit(&output, "e_65537_bytes");
+    }
+}
+
+#[test]
+fn what_cannot_be_read_is_named() {
+    let folder = folder("unread");
+    fs::create_dir(folder.join("a folder")).expect("a new folder");
+    for name in ["absent.h5", "a folder", "a folder/absent.h5"] {
+        let output = run_with_name(&program(), &folder, name);
+        assert_message(&output, name);
+    }
+}
+
+#[test]
+fn two_arguments_are_refused() {
+    let folder = folder("two");
+    for name in ["one.h5", "two.h5"] {
+        fs::write(folder.join(name), small::e().bytes).expect("a file");
+    }
+    let mut command = Command::new(program());
+    command.current_dir(&folder).args(["one.h5", "two.h5"]);
+    let output = run(&mut command, std::iter::empty());
+    assert_message(&output, "usage: h5audit [FILE]");
+}
+
+/// The script finds the command wherever it is started, and takes names as relative to that folder.
+#[test]
+fn the_script_gives_a_status() {
+    program();
+    let folder = folder("script");
+    let script = root().join("h5audit");
+    for (name, image) in files() {
+        let file = format!("{name}.h5");
+        fs::write(folder.join(&file), &image).expect("a file");
+        assert_audit(&run_with_name(&script, &folder, &file), name);
+        assert_audit(&run_with_input(&script, &image), name);
+    }
+    fs::create_dir(folder.join("a folder")).expect("a new folder");
+    for name in ["absent.h5", "a folder"] {
+        let output = run_with_name(&script, &folder, name);
+        assert_message(&output, name);
+        assert_eq!(output.status.code(), Some(1), "{name}");
+    }
+}
+
+/// What lay in the slices before a call.
+const BEFORE: u8 = 0xa5;
+
+/// What the C front end leaves, with so many pairs and some spare bytes lent.
+fn left_by_c(image: &[u8], pairs: usize) -> String {
+    let mut blocks = vec![BEFORE; 16 * pairs + 3];
+    let mut reply = vec![BEFORE; 8 * REPLY_WORDS + 5];
+    let number = library::audit(image, &mut blocks, &mut reply);
+    format!("answer {number}\n") + &words("list", &blocks) + &words("reply", &reply)
+}
+
+/// The words that aren't zero; spare bytes stand as a last word.
+fn words(slice: &str, bytes: &[u8]) -> String {
+    let mut text = String::new();
+    for (number, part) in bytes.chunks(8).enumerate() {
+        let mut eight = [0; 8];
+        eight[..part.len()].copy_from_slice(part);
+        let word = u64::from_le_bytes(eight);
+        if word != 0 {
+            text += &format!("{slice} {number} {word}\n");
+        }
+    }
+    text
+}
+
+#[test]
+fn the_c_front_end_leaves_the_stored_words() {
+    for (name, image) in files() {
+        assert_stored(&left_by_c(&image, 1024), &format!("{name}_c"));
+    }
+}
+
+/// More room than an audit uses changes nothing.
+#[test]
+fn the_c_front_end_at_other_rooms() {
+    let e = small::e().bytes;
+    assert_stored(&left_by_c(&e, 5), "e_5_pairs_c");
+    assert_stored(&left_by_c(&e, 4), "e_4_pairs_c");
+    for (name, image) in files() {
+        assert_stored(&left_by_c(&image, 2000), &format!("{name}_c"));
+    }
+}
+
+/// A text that no file is compared with is a mistake.
+#[test]
+fn every_text_is_used() {
+    let mut used: Vec<String> = files()
+        .iter()
+        .flat_map(|(name, _)| [format!("{name}.txt"), format!("{name}_c.txt")])
+        .chain(["e_5_pairs_c.txt", "e_4_pairs_c.txt"].map(str::to_string))
+        .collect();
+    used.sort();
+    let mut texts: Vec<String> = fs::read_dir(package().join("expected"))
+        .expect("the folder of texts")
+        .map(|entry| entry.expect("a text").file_name())
+        .map(|name| name.to_string_lossy().into_owned())
+        .collect();
+    texts.sort();
+    assert_eq!(texts, used);
+}
