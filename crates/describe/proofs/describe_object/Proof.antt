@@ -1,0 +1,92 @@
+-- The dataset's walk, on a list of its own, becomes the reply.
+use native.Mathlib.Omega.{arith}
+use borrow.Author.Needs.{needs}
+use Rattle.describe.proofs.describe_object.Statement.{statement}
+use Rattle.describe.proofs.describe_object.Tie as tie
+use denote.Ref.{now}
+use lib.ListN.{length}
+use Rattle.image.specs.Superblock.{superblockOf}
+use Rattle.object.proofs.ObjectLaws.{opened, room-lent}
+use Rattle.describe.specs.Reader.{datasetAtWalk}
+use Rattle.describe.proofs.ReplyLaws.{object-stopped, count-fits, count-small, object-described}
+
+room-requires : tie.Need-room-requires
+room-requires c κs = search needs
+
+dataset-at-requires : tie.Need-dataset-at-requires
+dataset-at-requires c κs =
+    let s = c .before .before .before .before in
+    let a = s .args in
+    let room = c .before .room in
+    (opened (now (a .image)) (a .superblock) _ (length (now (a .list))) (room .ensures) (s .pre), room-lent (now (a .list)) _ (room .ensures))
+
+enum-known-x : tie.Need-enum-known-x
+enum-known-x c = search needs
+
+refused-requires : tie.Need-refused-requires
+refused-requires c κs = search needs
+
+enum-known-dataset : tie.Need-enum-known-dataset
+enum-known-dataset c = search needs
+
+add-clear-from : tie.Need-add-clear-from
+add-clear-from c =
+    let s = c .before .before .before .before .before .before .before .before .before .before .before in
+    let a = s .args in
+    let room = c .before .before .before .before .before .before .before .before .room in
+    let read = c .before .before .before .before .before .before .dataset-at in
+    let d = c .before .before .dataset .given in
+    omega (arith, count-small (now (a .image)) (a .superblock .«end_of_file») (room .result) (datasetAtWalk (superblockOf (a .superblock)) (a .at)) (now (a .list)) (read .last .1 .0) (room .ensures) (read .kept .1 .0) (d .0 .0) (d .0 .1 .0) (d .0 .1 .1 .0) (rw (d .1) at (read .ensures)))
+
+clear-from-requires : tie.Need-clear-from-requires
+clear-from-requires c κs =
+    let s = c .before .before .before .before .before .before .before .before .before .before .before in
+    let a = s .args in
+    let room = c .before .before .before .before .before .before .before .before .room in
+    let read = c .before .before .before .before .before .before .dataset-at in
+    let d = c .before .before .dataset .given in
+    count-fits (now (a .image)) (a .superblock .«end_of_file») (room .result) (datasetAtWalk (superblockOf (a .superblock)) (a .at)) (now (a .list)) (read .last .1 .0) (room .ensures) (read .kept .1 .0) (d .0 .0) (d .0 .1 .0) (d .0 .1 .1 .0) (rw (d .1) at (read .ensures))
+
+described-requires : tie.Need-described-requires
+described-requires c κs = (rw (c .before .before .before .before .before .dataset .given .1) at (c .before .before .before .before .before .before .before .before .before .dataset-at .ensures)) .readable
+
+same-length : tie.Need-same-length
+same-length c = search needs
+
+returns : tie.Need-returns
+returns c =
+    let s = c .before .before .before .before .before .before .before .before .before .before .before .before .before .before in
+    let a = s .args in
+    let room = c .before .before .before .before .before .before .before .before .before .before .before .room in
+    let read = c .before .before .before .before .before .before .before .before .before .dataset-at in
+    let x = c .before .before .before .before .before .x .given in
+    object-stopped (now (a .image)) (a .superblock .«end_of_file») (room .result) (datasetAtWalk (superblockOf (a .superblock)) (a .at)) (now (a .list)) (read .last .1 .0) (room .ensures) (read .kept .1 .0) (x .0 .0) (rw (x .1) at (read .ensures)) _ _ (c .before .before .refused .ensures)
+
+same-length-2 : tie.Need-same-length-2
+same-length-2 c = search needs
+
+returns-2 : tie.Need-returns-2
+returns-2 c =
+    let s = c .before .before .before .before .before .before .before .before .before .before .before .before .before .before .before in
+    let a = s .args in
+    let room = c .before .before .before .before .before .before .before .before .before .before .before .before .room in
+    let read = c .before .before .before .before .before .before .before .before .before .before .dataset-at in
+    let d = c .before .before .before .before .before .before .dataset .given in
+    object-described (now (a .image)) (a .superblock .«end_of_file») (room .result) (datasetAtWalk (superblockOf (a .superblock)) (a .at)) (now (a .list)) (read .last .1 .0) (room .ensures) (read .kept .1 .0) (d .0 .0) (d .0 .1 .0) (d .0 .1 .1 .0) (rw (d .1) at (read .ensures)) _ _ (c .before .before .before .clear-from .ensures) (c .described .ensures)
+
+pub describe-object-spec : {M : Type 1} → statement M
+describe-object-spec =
+    tie.close
+    (tie.spec
+    room-requires
+    dataset-at-requires
+    enum-known-x
+    refused-requires
+    enum-known-dataset
+    add-clear-from
+    clear-from-requires
+    described-requires
+    same-length
+    returns
+    same-length-2
+    returns-2)

@@ -1,0 +1,74 @@
+-- Where the path leads, then the description of what is there.
+use borrow.Author.Needs.{needs}
+use Rattle.describe.proofs.describe_path.Statement.{statement}
+use Rattle.describe.proofs.describe_path.Tie as tie
+use denote.Ref.{now}
+use Rattle.image.specs.Superblock.{superblockOf}
+use Rattle.path.specs.Form.{componentsOf}
+use Rattle.describe.proofs.ReplyLaws.{path-stopped, path-symbolic, path-object}
+
+find-object-requires : tie.Need-find-object-requires
+find-object-requires c κs = search needs
+
+enum-known-x : tie.Need-enum-known-x
+enum-known-x c = search needs
+
+refused-requires : tie.Need-refused-requires
+refused-requires c κs = search needs
+
+enum-told : tie.Need-enum-told
+enum-told c = search needs
+
+refused-requires-2 : tie.Need-refused-requires-2
+refused-requires-2 c κs = search needs
+
+enum-known-a : tie.Need-enum-known-a
+enum-known-a c = search needs
+
+describe-object-requires : tie.Need-describe-object-requires
+describe-object-requires c κs = search needs
+
+same-length : tie.Need-same-length
+same-length c = search needs
+
+returns : tie.Need-returns
+returns c =
+    let a = c .before .before .before .before .before .before .before .before .before .before .before .before .before .before .args in
+    let found = c .before .before .before .before .before .before .before .before .before .find-object in
+    path-stopped (now (a .image)) (superblockOf (a .superblock)) (now (a .list)) (found .last .1 .1 .0) (found .kept .1 .1 .0) (componentsOf (now (a .path))) _ _ (c .before .before .before .before .before .x .given .0 .0) (rw (c .before .before .before .before .before .x .given .1) at (found .ensures)) (c .before .before .refused .ensures)
+
+same-length-2 : tie.Need-same-length-2
+same-length-2 c = search needs
+
+returns-2 : tie.Need-returns-2
+returns-2 c =
+    let a = c .before .before .before .before .before .before .before .before .before .before .before .before .before .args in
+    let found = c .before .before .before .before .before .before .before .before .find-object in
+    path-symbolic (now (a .image)) (superblockOf (a .superblock)) (now (a .list)) (found .last .1 .1 .0) (found .kept .1 .1 .0) (componentsOf (now (a .path))) _ _ (rw (c .before .before .before .before .enum-told .given .1) at (found .ensures)) (c .before .before .refused2 .ensures)
+
+same-length-3 : tie.Need-same-length-3
+same-length-3 c = search needs
+
+returns-3 : tie.Need-returns-3
+returns-3 c =
+    let a = c .before .before .before .before .before .before .before .before .before .before .before .before .before .before .args in
+    let found = c .before .before .before .before .before .before .before .before .before .find-object in
+    path-object (now (a .image)) (superblockOf (a .superblock)) (now (a .list)) (found .last .1 .1 .0) (found .kept .1 .1 .0) (componentsOf (now (a .path))) _ _ (c .before .before .before .before .before .a .given .0 .0) (rw (c .before .before .before .before .before .a .given .1) at (found .ensures)) (c .before .before .describe-object .ensures)
+
+pub describe-path-spec : {M : Type 1} → statement M
+describe-path-spec =
+    tie.close
+    (tie.spec
+    find-object-requires
+    enum-known-x
+    refused-requires
+    enum-told
+    refused-requires-2
+    enum-known-a
+    describe-object-requires
+    same-length
+    returns
+    same-length-2
+    returns-2
+    same-length-3
+    returns-3)

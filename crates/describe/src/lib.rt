@@ -1,0 +1,147 @@
+// The description of the dataset that a path leads to.
+mod fields;
+pub mod reader;
+
+use dataset::dataset::Dataset;
+use format::RANK_MOST;
+use image::message::Body;
+use image::superblock;
+use image::superblock::Opening;
+use image::superblock::Superblock;
+use lookup::component::Target;
+use lookup::follow;
+use reader::DatasetAt;
+use walk::blocks;
+ghost use mathlib.Core.Path.{_≡_};
+ghost use mathlib.Core.List.{List, []};
+ghost use Prim.Native.Nat.{ℕ, _≤_};
+ghost use lib.ListN.{length};
+ghost use Rattle.format.specs.Blocks.{Block, blockList, roomOf};
+ghost use Rattle.format.specs.Walk.{done, refused as refusedRun, run};
+ghost use Rattle.format.specs.Lookup.{follow as followRun};
+ghost use Rattle.format.specs.Describe.{describeWalk};
+ghost use Rattle.format.specs.Answers.{describeEnd, describe as describeReply};
+ghost use Rattle.image.specs.Superblock.{superblockOf};
+ghost use Rattle.path.specs.Form.{componentsOf};
+ghost use Rattle.dataset.specs.Dataset.{bodyOf, datasetOf};
+ghost use Rattle.object.specs.Object.{Bounded};
+ghost use Rattle.describe.specs.Reader.{datasetAtWalk, Readable};
+ghost use Rattle.describe.specs.Describe.{replyOf};
+
+// The answer, the number of blocks entered, and the dataset's fields; zeros where the answer isn't 0.
+pub struct Description {
+    pub number: u8,
+    pub block_count: usize,
+    pub rank: usize,
+    pub sizes: [u64; RANK_MOST],
+    pub maxima: [u64; RANK_MOST],
+    pub class: u8,
+    pub version: u8,
+    pub bits: u32,
+    pub size: u32,
+    pub shared: u64,
+    pub layout_class: u8,
+    pub data_address: u64,
+    pub data_size: u64,
+}
+
+// The answer of document 01 to a path of no right form.
+const BAD_PATH: u8 = 14;
+
+// A refusal: the list is all zeros, and so are the fields.
+fn refused(list: &mut [u64], number: u8) -> Description
+    ensures { λ r. ⌜ ((bs : List Block) → replyOf (now (list .exit)) r ≡ describeEnd (length (now (list .entry))) (refusedRun number bs)) ⌝ }
+{
+    blocks::clear_from(list, 0);
+    let sizes = [0u64; RANK_MOST];
+    let maxima = [0u64; RANK_MOST];
+    Description {
+        number,
+        block_count: 0,
+        rank: 0,
+        sizes,
+        maxima,
+        class: 0,
+        version: 0,
+        bits: 0,
+        size: 0,
+        shared: 0,
+        layout_class: 0,
+        data_address: 0,
+        data_size: 0,
+    }
+}
+
+// The description of a dataset whose messages were read, with so many blocks entered.
+fn described(image: &[u8], space: Body, dataset: Dataset, count: usize) -> Description
+    requires { ⌜ Readable (now image) space dataset ⌝ }
+    ensures { λ r. ⌜ ((lent : ℕ) (bs : List Block) → length bs ≡ count → replyOf (blockList lent bs) r ≡ describeEnd lent (done (datasetOf (bodyOf (now (image .entry)) space) dataset) bs)) ⌝ }
+{
+    let rank = dataset.rank;
+    let datatype = dataset.datatype;
+    let layout = dataset.layout;
+    let sizes = fields::words_in(image, space, 8, rank);
+    let maxima = fields::maxima_in(image, space, dataset);
+    let types = fields::type_fields(datatype);
+    let layouts = fields::layout_fields(layout);
+    Description {
+        number: 0,
+        block_count: count,
+        rank,
+        sizes,
+        maxima,
+        class: types.class,
+        version: types.version,
+        bits: types.bits,
+        size: types.size,
+        shared: types.shared,
+        layout_class: layouts.class,
+        data_address: layouts.address,
+        data_size: layouts.size,
+    }
+}
+
+// The description of the object at `at`. The list begins anew, and ends as the dataset's blocks.
+fn describe_object(image: &[u8], list: &mut [u64], superblock: Superblock, at: u64) -> Description
+    requires { ⌜ Bounded (now image) superblock ⌝ }
+    ensures { λ r. ⌜ replyOf (now (list .exit)) r ≡ describeEnd (length (now (list .entry))) (run (now (image .entry)) (superblock .«end_of_file») (roomOf (length (now (list .entry)))) (datasetAtWalk (superblockOf superblock) at) []) ⌝ }
+{
+    let room = blocks::room(list.len());
+    match reader::dataset_at(image, list, superblock, room, at) {
+        DatasetAt::Stopped(x) => refused(list, x),
+        DatasetAt::Read {
+            dataset,
+            space,
+            count,
+        } => {
+            blocks::clear_from(list, count + count);
+            described(image, space, dataset, count)
+        }
+    }
+}
+
+// The description of what a path of a right form leads to in an opened image.
+fn describe_path(image: &[u8], path: &[u8], list: &mut [u64], superblock: Superblock) -> Description
+    requires { ⌜ Bounded (now image) superblock ⌝ }
+    requires { ⌜ 1 ≤ length (now path) ⌝ }
+    ensures { λ r. ⌜ replyOf (now (list .exit)) r ≡ describeEnd (length (now (list .entry))) (followRun (now (image .entry)) (superblockOf superblock) (roomOf (length (now (list .entry)))) describeWalk (refusedRun 20 []) (componentsOf (now (path .entry))) (superblock .root)) ⌝ }
+{
+    match follow::find_object(image, path, list, superblock) {
+        Target::Stopped(x) => refused(list, x),
+        Target::Symbolic => refused(list, reader::NOT_A_DATASET),
+        Target::Object(a) => describe_object(image, list, superblock, a),
+    }
+}
+
+// The description of the dataset that a path leads to. The list is lent for the blocks, two words a block.
+pub fn describe(image: &[u8], path: &[u8], list: &mut [u64]) -> Description
+    ensures { λ r. ⌜ replyOf (now (list .exit)) r ≡ describeReply (now (image .entry)) (now (path .entry)) (length (now (list .entry))) ⌝ }
+{
+    if !path::is_sound(path) {
+        return refused(list, BAD_PATH);
+    }
+    match superblock::open(image) {
+        Opening::NotOpened(x) => refused(list, x),
+        Opening::Opened(s) => describe_path(image, path, list, s),
+    }
+}
