@@ -4,7 +4,6 @@ use mathlib.Core.List.{List, [], _∷_, _++_}
 use mathlib.Core.Path.{_≡_, refl, _∙_}
 use native.Mathlib.Omega.{arith}
 use lib.ListN.{length, getD, take, drop, replicate, length-replicate}
-use lib.Seq.{length-take-le}
 use Rattle.format.specs.Limits.{objectsMost, blocksMost}
 use Rattle.format.specs.Blocks.{Block, roomOf, blockList}
 use Rattle.format.specs.Walk.{done, refused, run}
@@ -14,7 +13,7 @@ use Rattle.format.specs.Ledger.{Linked}
 use Rattle.format.specs.Audit.{auditWalk, auditRun}
 use Rattle.format.specs.Answers.{audit}
 use Rattle.walk.specs.Lent.{blocksOf}
-use Rattle.walk.proofs.BlockList.{words-blocksOf, length-blocksOf}
+use Rattle.walk.proofs.BlockList.{list-cleared, length-blocksOf}
 use Rattle.walk.proofs.Simulation.{walked-done, walked-refused}
 use Rattle.ledger.specs.Links.{addressesOf}
 use Rattle.ledger.specs.Table.{linkedOf, Table}
@@ -99,7 +98,7 @@ module _ (im ws : List ℕ) (s : Superblock) (count objects : ℕ) (ws₁ addres
   count-small = omega (arith, w .ready .lent .counted)
 
   list-is : take (count + count) ws₁ ++ replicate (length ws₁ - (count + count)) 0 ≡ blockList (length ws) (blocksOf count ws₁)
-  list-is = rw (words-blocksOf count ws₁ count-fits, length-take-le (count + count) ws₁ count-fits, same)
+  list-is = rw (list-cleared count ws₁ count-fits, same)
 
   pub done-is : opened (superblockOf s) ≡ openImage im → (stored₀ stored : List ℕ) → stored₀ ≡ replicate objectsMost 0 → StoredRead im addresses objects stored₀ stored → (ws₂ : List ℕ) →
       ws₂ ≡ take (count + count) ws₁ ++ replicate (length ws₁ - (count + count)) 0 → AuditedIs im (length ws) ws₂ addresses stored counts (record { number = 0; «block_count» = count; objects = objects })

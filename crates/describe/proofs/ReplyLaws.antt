@@ -5,7 +5,6 @@ use mathlib.Core.List.{List, [], _++_}
 use mathlib.Core.Path.{_≡_}
 use native.Mathlib.Omega.{arith}
 use lib.ListN.{length, take, drop, replicate}
-use lib.Seq.{length-take-le}
 use Rattle.format.specs.Limits.{rankMost, blocksMost}
 use Rattle.format.specs.Bytes.{toWords, padded}
 use Rattle.format.specs.Blocks.{Block, roomOf, blockList}
@@ -17,7 +16,7 @@ use Rattle.format.specs.Lookup.{follow}
 use Rattle.format.specs.Describe.{describeWalk, describeRun}
 use Rattle.format.specs.Answers.{DescribeReply, describeEnd, describe}
 use Rattle.walk.specs.Lent.{blocksOf}
-use Rattle.walk.proofs.BlockList.{words-blocksOf, length-blocksOf}
+use Rattle.walk.proofs.BlockList.{list-cleared, length-blocksOf}
 use Rattle.walk.proofs.Simulation.{walked-done, walked-refused}
 use Rattle.image.specs.declared.message.Body.{Body}
 use Rattle.path.specs.Form.{SoundPath, componentsOf}
@@ -64,7 +63,7 @@ module _ (im : List ℕ) (eof room : ℕ) (w : Walk datasets.Dataset) (ws ws₁ 
     count-small = omega (arith, h .lent .counted)
 
     list-is : take (count + count) ws₁ ++ replicate (length ws₁ - (count + count)) 0 ≡ blockList (length ws) (blocksOf count ws₁)
-    list-is = rw (words-blocksOf count ws₁ count-fits, length-take-le (count + count) ws₁ count-fits, same)
+    list-is = rw (list-cleared count ws₁ count-fits, same)
 
     pub object-described : (ws₂ : List ℕ) (r : Description) → ws₂ ≡ take (count + count) ws₁ ++ replicate (length ws₁ - (count + count)) 0 →
         ((lent : ℕ) (bs : List Block) → length bs ≡ count → replyOf (blockList lent bs) r ≡ describeEnd lent (done (datasetOf (bodyOf im space) d) bs)) →

@@ -1,14 +1,12 @@
 -- Every object of an audit that is done can be read whole on a list that begins with the superblock, and is then shown only what the audit was shown.
 use Prim.Native.Nat.{ℕ, zero, suc, _+_, _≤_}
-use mathlib.Core.Bool.{Bool, true, false}
+use mathlib.Core.Bool.{true, false}
 use mathlib.Core.List.{List, [], _∷_, _++_, append-assoc, append-nil, Memᴰ·append-left, Memᴰ·append-right}
 use mathlib.Core.Path.{_≡_, refl, ap, sym, _∙_}
 use native.Mathlib.Omega.{arith}
-use borrow.Author.Tests.{eqb-true}
 use lib.ListN.{length, drop, drop-of-length-le}
-use lib.Dec.{eqb}
 use Rattle.format.specs.Limits.{objectsMost}
-use Rattle.format.specs.Bytes.{if_then_else_, withFirst}
+use Rattle.format.specs.Bytes.{withFirst}
 use Rattle.format.specs.Blocks.{Block}
 use Rattle.format.specs.Walk.{Walk, ret, _>>=_, done, run}
 use Rattle.format.specs.Superblock.{Superblock, superblockWalk}
@@ -21,18 +19,19 @@ use Rattle.walk.proofs.Bind.{run-bind}
 use Rattle.walk.proofs.Disjoint.{Apart, fresh-apart, apart-first}
 use Rattle.walk.proofs.Growth.{run-grown}
 use Rattle.walk.proofs.Plan.{plan, blocks}
+use Rattle.walk.proofs.Disjoint.{apart-none}
 use Rattle.walk.proofs.Restart.{run-done, restart}
 use Rattle.walk.proofs.Agreement.{Shown}
-use Rattle.ledger.specs.Links.{addressesOf}
 use Rattle.ledger.proofs.LedgerLaws.{count-most}
-use Rattle.links.specs.Reached.{entriesAt, Each}
+use Rattle.links.specs.Reached.{entriesAt}
 use Rattle.links.specs.Trace.{Trace, ended, next}
 use Rattle.links.proofs.Outcomes.{bind-done, done-fits}
 use Rattle.links.proofs.ObjectEntries.{object-entries}
 use Rattle.links.proofs.Counting.{counting-keeps}
 use Rattle.links.proofs.TraceEntries.{trace-entries}
+use Rattle.links.proofs.ObjectsReached.{each-find}
 use Rattle.found.proofs.Whole.{whole, whole-then, whole-followed}
-use Rattle.found.proofs.ReadWhole.{Sub, sub-append, ReadWhole, apart-none}
+use Rattle.found.proofs.ReadWhole.{Sub, sub-append, ReadWhole}
 use Rattle.found.proofs.ObjectFollows.{Any, object-follows}
 
 module _ (im : List ℕ) (room : ℕ) (s : Superblock) (ss : List Shown) (sb : List Block) (sup : run im (s .endOfFile) room (superblockWalk s) [] ≡ done tt sb)
@@ -99,17 +98,6 @@ module _ (im : List ℕ) (room : ℕ) (s : Superblock) (ss : List Shown) (sb : L
           let there : Sub later ss = λ x q. h x (rw both (Memᴰ·append-right (whole im eof w) q)) in
           next d (read-behind (o .address) (c .0) bs (b .1) g (c .1) here) (c .2) (more (b .0) (b .1) most fits (begins-more w bs (b .0) (b .1) l (b .2) g) (b .3) there)
 
--- what holds of each holds of an object of the ledger
-each-find : (P : ℕ → Type 0) (x : ℕ) (os : List Linked) (ess : List (List Entry)) → inLedger x os ≡ true → Each (λ a es. P a) (addressesOf os) ess → P x
-unfolding inLedger addressesOf Each
-each-find P x [] ess h r = let z : _≡_ {A = ℕ} 0 1 = cc in absurd (omega arith)
-each-find P x (o ∷ os) [] h r = absurd r
-each-find P x (o ∷ os) (es ∷ ess) h r = go (eqb x (o .address)) refl h (λ i. each-find P x os ess i (r .1))
-  where
-    go : (t : Bool) → eqb x (o .address) ≡ t → (if t then true else inLedger x os) ≡ true → (inLedger x os ≡ true → P x) → P x
-    go true e i later = rw (eqb-true x (o .address) e) (r .0)
-    go false e i later = later i
-
 module _ (im : List ℕ) (room : ℕ) (s : Superblock) (os : List Linked) (bs : List Block) (e : run im (s .endOfFile) room (auditWalk s) [] ≡ done os bs) where
   abbrev objects : Walk (List Linked)
   objects = objectsWalk s objectsMost 0 (linked (s .root) 1 ∷ [])
@@ -135,4 +123,4 @@ module _ (im : List ℕ) (room : ℕ) (s : Superblock) (os : List Linked) (bs : 
       let second : Sub (whole im (s .endOfFile) objects) total = λ x q. rw both (Memᴰ·append-right (whole im (s .endOfFile) (superblockWalk s)) q) in
       let t = objects-read im room s total (b .0) (b .1) first objectsMost 0 (linked (s .root) 1 ∷ []) (b .0) os bs (omega arith) (omega arith) fits ([], sym (append-nil (b .0))) (b .2) second in
       let r = trace-entries (λ a es. ReadWhole im s total a) t in
-      each-find (ReadWhole im s total) at os (r .0) h (r .1)
+      each-find (λ a es. ReadWhole im s total a) at os (r .0) h (r .1) .1

@@ -14,7 +14,8 @@ use Rattle.format.specs.Lookup.{Link, absent, hard, soft, Target, object, symbo
 use Rattle.group.specs.Entries.{linkTo, remembered}
 use Rattle.group.proofs.Entries.{not-remembered}
 use Rattle.found.specs.Leads.{indexWalk, IndexIs, Holds, Lacks}
-use Rattle.found.proofs.Outcomes.{then-done, then-refused}
+use Rattle.links.proofs.Outcomes.{then-done}
+use Rattle.found.proofs.Outcomes.{then-refused}
 use Rattle.found.proofs.Index.{component-run}
 use Rattle.found.proofs.Names.{says-entry, says-hard, says-soft, says-absent}
 use Rattle.found.proofs.TargetEnds.{target-object, target-symbolic, target-absent, target-early}

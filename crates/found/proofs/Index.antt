@@ -13,13 +13,9 @@ use Rattle.format.specs.Lookup.{Link, Target, absent, compareName, findWalk, ta
 use Rattle.walk.proofs.Bind.{bind-assoc, run-bind}
 use Rattle.walk.proofs.Follows.{Follows, follows-then, follows-ret, Ran, follows-run}
 use Rattle.group.specs.Entries.{keepEntry, entriesWalk, linkTo, remembered}
+use Rattle.group.proofs.Entries.{remembered-last}
 use Rattle.group.proofs.Visits.{group-follows}
 use Rattle.found.specs.Leads.{indexOf, indexWalk}
-
-remembered-last : (name : List ℕ) (es : List Entry) (e : Entry) (l : Link) → remembered name (es ++ (e ∷ [])) l ≡ (if sameBytes (e .name) name then linkTo e else remembered name es l)
-unfolding remembered
-remembered-last name [] e l = refl
-remembered-last name (x ∷ es) e l = remembered-last name es e _
 
 -- what a lookup of the name remembers of these entries, after the last name
 abbrev pub Says : List ℕ → List Entry → Link → Type 0

@@ -15,6 +15,7 @@ use Rattle.format.specs.Ledger.{Linked, inLedger}
 use Rattle.format.specs.Lookup.{Target, object}
 use Rattle.walk.proofs.Bind.{run-bind}
 use Rattle.walk.proofs.Plan.{plan, blocks}
+use Rattle.walk.proofs.Disjoint.{apart-none}
 use Rattle.walk.proofs.Restart.{run-done, restart}
 use Rattle.links.specs.Reached.{contentEntries, entriesAt, HasEntries, byLink}
 use Rattle.links.specs.Sound.{Sound}
@@ -22,7 +23,6 @@ use Rattle.links.proofs.Outcomes.{done-fits}
 use Rattle.found.specs.Leads as leads
 use Rattle.found.specs.Leads.{indexOf, IndexIs, Holds, Leads}
 use Rattle.found.proofs.IndexLaws.{index-object}
-use Rattle.found.proofs.ReadWhole.{apart-none}
 
 module _ (im : List ℕ) (s : Superblock) (room : ℕ) where
   content-index : (o : Object) (cs : List Block) (es : List Entry) (bs : List Block) → run im (s .endOfFile) room (indexOf s o) cs ≡ done es bs → run im (s .endOfFile) room (contentEntries s o) cs ≡ done es bs

@@ -13,7 +13,8 @@ use Rattle.walk.proofs.Bind.{bind-assoc, run-bind}
 use Rattle.links.proofs.Numbered.{Numbered, numbers, run-number}
 use Rattle.links.proofs.NumberedHeader.{header-numbered}
 use Rattle.found.specs.Found.{HeaderIs, LeadsToObject, LeadsToSymbolic, IsFound, IsAbsent}
-use Rattle.found.proofs.Outcomes.{then-done, done-refused}
+use Rattle.links.proofs.Outcomes.{then-done}
+use Rattle.found.proofs.Outcomes.{done-refused}
 use Rattle.found.proofs.IndexLaws.{superblock-numbered}
 use Rattle.found.proofs.PathFound.{DoneAt, path-done, path-absent}
 

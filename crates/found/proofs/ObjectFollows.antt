@@ -2,24 +2,18 @@
 use Prim.Native.Nat.{ℕ}
 use mathlib.Core.Bool.{false}
 use mathlib.Core.List.{List, [], _∷_, _++_}
-use lib.ListN.{length}
-use lib.Dec.{ltb}
-use Rattle.format.specs.Limits.{objectsMost}
-use Rattle.format.specs.Walk.{ret, refuse}
+use Rattle.format.specs.Walk.{ret}
 use Rattle.format.specs.Superblock.{Superblock}
 use Rattle.format.specs.Header.{Object, group, dataset, committed, headerWalk}
 use Rattle.format.specs.Dataset.{datasetWalk}
-use Rattle.format.specs.Symbols.{Entry, isHard}
-use Rattle.format.specs.Ledger.{Linked, linked, inLedger, countLink, discover}
+use Rattle.format.specs.Symbols.{Entry}
+use Rattle.format.specs.Ledger.{Linked, discover}
 use Rattle.format.specs.Object.{contentWalk, objectWalk}
-use Rattle.walk.proofs.Follows.{Follows, follows-then, follows-ret, Ends, ends-if, follows-value}
+use Rattle.walk.proofs.Follows.{Follows, follows-then, follows-ret, follows-value}
 use Rattle.group.specs.Entries.{keepEntry, entriesWalk}
+use Rattle.group.proofs.Entries.{discover-ends}
 use Rattle.group.proofs.Visits.{group-follows}
 use Rattle.links.specs.Reached.{contentEntries, entriesAt}
-
-discover-ends : (e : Entry) (os : List Linked) → Ends (discover e os)
-unfolding discover countLink Ends
-discover-ends e os = ends-if (isHard e) _ _ (ends-if (inLedger (e .header) os) _ _ tt (ends-if (ltb (length os) objectsMost) (ret (os ++ (linked (e .header) 1 ∷ []))) (refuse 12) tt tt)) tt
 
 -- nothing is asked of the values
 abbrev pub Any : List Linked → List Entry → Type 0

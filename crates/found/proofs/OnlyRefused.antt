@@ -11,8 +11,8 @@ use lib.ListN.{length}
 use Rattle.format.specs.Blocks.{Block}
 use Rattle.format.specs.Walk.{Walk, Outcome, done, refused, run, andThen}
 use Rattle.walk.proofs.Plan.{plan, blocks}
+use Rattle.walk.proofs.Disjoint.{apart-none}
 use Rattle.walk.proofs.Restart.{run-done, restart, restart-short}
-use Rattle.found.proofs.ReadWhole.{apart-none}
 
 abbrev pub Only : (ℕ → Type 0) → {A : Type 0} → Outcome A → Type 0
 Only N (done a bs) = Unit {0}

@@ -8,10 +8,6 @@ use Rattle.format.specs.Blocks.{Block}
 use Rattle.format.specs.Walk.{Walk, _>>=_, Outcome, done, refused, run, andThen}
 use Rattle.walk.proofs.Bind.{run-bind}
 
-pub then-done : {A B : Type 0} (o : Outcome A) (f : A → List Block → Outcome B) (b : B) (ms : List Block) → andThen o f ≡ done b ms → (a : A) × (cs : List Block) × (o ≡ done a cs) × (f a cs ≡ done b ms)
-then-done (done a cs) f b ms e = (a, cs, refl, e)
-then-done (refused n cs) f b ms e = let z : _≡_ {A = ℕ} 0 1 = cc in absurd (omega arith)
-
 pub then-refused : {A B : Type 0} (o : Outcome A) (f : A → List Block → Outcome B) (n : ℕ) (ms : List Block) → andThen o f ≡ refused n ms →
     (o ≡ refused n ms) ⊎ ((a : A) × (cs : List Block) × (o ≡ done a cs) × (f a cs ≡ refused n ms))
 then-refused (done a cs) f n ms e = inr (a, cs, refl, e)

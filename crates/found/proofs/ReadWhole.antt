@@ -1,13 +1,12 @@
 -- An object read whole behind the superblock, for its entries.
 use Prim.Native.Nat.{ℕ}
-use mathlib.Core.List.{List, [], _∷_, _++_, List·Memᴰ, List·Memᴰ·append-cases}
+use mathlib.Core.List.{List, [], _++_, List·Memᴰ, List·Memᴰ·append-cases}
 use mathlib.Core.Logic.{⊎-elim}
-use mathlib.Core.Path.{_≡_, refl}
-use Rattle.format.specs.Blocks.{Block, overlapsAny}
+use mathlib.Core.Path.{_≡_}
+use Rattle.format.specs.Blocks.{Block}
 use Rattle.format.specs.Walk.{_>>_, done, run}
 use Rattle.format.specs.Superblock.{Superblock, superblockWalk}
 use Rattle.format.specs.Symbols.{Entry}
-use Rattle.walk.proofs.Disjoint.{Apart}
 use Rattle.walk.proofs.Agreement.{Shown}
 use Rattle.links.specs.Reached.{entriesAt}
 use Rattle.found.proofs.Whole.{whole}
@@ -26,9 +25,3 @@ pub record ReadWhole (im : List ℕ) (s : Superblock) (ss : List Shown) (at : �
   pub left : List Block
   pub ran : run im (s .endOfFile) room (superblockWalk s >> entriesAt s at) [] ≡ done entries left
   pub among : Sub (whole im (s .endOfFile) (superblockWalk s >> entriesAt s at)) ss
-
--- no block shares a byte with one of none
-pub apart-none : (cs : List Block) → Apart [] cs
-unfolding overlapsAny
-apart-none [] = tt
-apart-none (c ∷ cs) = (refl, apart-none cs)

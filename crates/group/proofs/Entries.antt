@@ -28,12 +28,12 @@ unfolding countEntries
 count-last [] e os = bind-ret (discover e os) ∙ sym (ret-bind os (discover e))
 count-last (x ∷ es) e os = ap (λ (f : List Linked → Walk (List Linked)). discover x os >>= f) (fun-ext λ os′. count-last es e os′) ∙ sym (bind-assoc (discover x os) (countEntries es) (discover e))
 
-remembered-last : (name : List ℕ) (es : List Entry) (e : Entry) (l : Link) → remembered name (es ++ (e ∷ [])) l ≡ (if sameBytes (e .name) name then linkTo e else remembered name es l)
+pub remembered-last : (name : List ℕ) (es : List Entry) (e : Entry) (l : Link) → remembered name (es ++ (e ∷ [])) l ≡ (if sameBytes (e .name) name then linkTo e else remembered name es l)
 unfolding remembered
 remembered-last name [] e l = refl
 remembered-last name (x ∷ es) e l = remembered-last name es e _
 
-discover-ends : (e : Entry) (os : List Linked) → Ends (discover e os)
+pub discover-ends : (e : Entry) (os : List Linked) → Ends (discover e os)
 unfolding discover countLink Ends
 discover-ends e os = ends-if (isHard e) _ _ (ends-if (inLedger (e .header) os) _ _ tt (ends-if (ltb (length os) objectsMost) (ret (os ++ (linked (e .header) 1 ∷ []))) (refuse 12) tt tt)) tt
 

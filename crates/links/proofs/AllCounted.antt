@@ -2,18 +2,18 @@
 -- the root's, with the hard links of the entries of all its objects counted, object after object, in the ledger's own order.
 use Prim.Native.Nat.{ℕ, _+_, _≤_}
 use mathlib.Core.List.{List, [], _∷_, flatten}
-use mathlib.Core.Path.{_≡_, refl, ap, _∙_}
+use mathlib.Core.Path.{_≡_, ap, _∙_}
 use native.Mathlib.Omega.{arith}
 use lib.ListN.{length, length-append}
 use Rattle.format.specs.Limits.{blocksMost}
-use Rattle.format.specs.Blocks.{Block, overlapsAny}
+use Rattle.format.specs.Blocks.{Block}
 use Rattle.format.specs.Walk.{ret, done, run}
 use Rattle.format.specs.Superblock.{Superblock}
 use Rattle.format.specs.Symbols.{Entry}
 use Rattle.format.specs.Ledger.{Linked, linked}
 use Rattle.format.specs.Audit.{auditWalk}
-use Rattle.walk.proofs.Disjoint.{Apart}
 use Rattle.walk.proofs.Plan.{plan, blocks}
+use Rattle.walk.proofs.Disjoint.{apart-none}
 use Rattle.walk.proofs.Restart.{run-done, restart}
 use Rattle.ledger.specs.Links.{addressesOf}
 use Rattle.group.specs.Entries.{countEntries}
@@ -22,11 +22,6 @@ use Rattle.links.proofs.Outcomes.{done-fits}
 use Rattle.links.specs.Trace.{Trace}
 use Rattle.links.proofs.AuditTrace.{audit-trace}
 use Rattle.links.proofs.TraceEntries.{trace-entries}
-
-apart-none : (cs : List Block) → Apart [] cs
-unfolding overlapsAny
-apart-none [] = tt
-apart-none (c ∷ cs) = (refl, apart-none cs)
 
 module _ (im : List ℕ) (room : ℕ) (s : Superblock) (most : room ≤ blocksMost) where
   -- an object that was read whole after others can be read by itself

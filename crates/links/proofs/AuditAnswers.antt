@@ -50,11 +50,11 @@ unfolding auditWalk superblockWalk
 audit-numbered s = search (numbers, objects-numbered) depth 8
 
 -- an image that can't be opened gives 1, 2, 3 or 4
-not-opened-number : (im : List ℕ) (n : ℕ) → openImage im ≡ notOpened n → Refusal n
+pub not-opened-number : (im : List ℕ) (n : ℕ) → openImage im ≡ notOpened n → (1 ≤ n) × (n ≤ 4)
 unfolding openImage
 not-opened-number im n e = go (not (inRange imageLeast imageMost (length im))) (not (eqb (u64 im 0) signature)) (not (superblockRead im)) (not (superblockSound im)) e
   where
-    go : (t u v w : Bool) → (if t then notOpened 1 else if u then notOpened 2 else if v then notOpened 3 else if w then notOpened 4 else opened (superblockFields im)) ≡ notOpened n → Refusal n
+    go : (t u v w : Bool) → (if t then notOpened 1 else if u then notOpened 2 else if v then notOpened 3 else if w then notOpened 4 else opened (superblockFields im)) ≡ notOpened n → (1 ≤ n) × (n ≤ 4)
     go true u v w q = let same : 1 ≡ n = cc in (omega arith, omega arith)
     go false true v w q = let same : 2 ≡ n = cc in (omega arith, omega arith)
     go false false true w q = let same : 3 ≡ n = cc in (omega arith, omega arith)
@@ -68,7 +68,10 @@ audit-refusal im lent n bs e = go (openImage im) refl e
   where
     go : (o : Opening) → openImage im ≡ o → runOpened o (λ s. run im (s .endOfFile) (roomOf lent) (auditWalk s) []) ≡ refused n bs → Refusal n
     go (opened s) p r = run-number im (s .endOfFile) (roomOf lent) (auditWalk s) [] n bs (audit-numbered s) r
-    go (notOpened m) p r = let same : m ≡ n = cc in rw same at (not-opened-number im m p)
+    go (notOpened m) p r =
+        let same : m ≡ n = cc in
+        let b = not-opened-number im m p in
+        (omega (arith, b .0), omega (arith, b .1))
 
 pub audit-answers : (im : List ℕ) (lent : ℕ) → audit im lent .number ≤ 13
 unfolding audit

@@ -28,7 +28,7 @@ trace-reached im s {i} {os} (next {o = o} {rest = rest} {ps = ps} {es = es} d p 
     trace-reached im s t (counting-within (Reached im s) es os ps c (λ e m k. byLink (h (o .address) (member-in os o (taken-member i os o rest d))) p m k) h)
 
 -- an object of the ledger has entries, and they are among all that were counted
-each-find : (P : ℕ → List Entry → Type 0) (x : ℕ) (os : List Linked) (ess : List (List Entry)) → inLedger x os ≡ true → Each P (addressesOf os) ess →
+pub each-find : (P : ℕ → List Entry → Type 0) (x : ℕ) (os : List Linked) (ess : List (List Entry)) → inLedger x os ≡ true → Each P (addressesOf os) ess →
     (es : List Entry) × P x es × ((e : Entry) → List·Memᴰ e es → List·Memᴰ e (flatten ess))
 unfolding inLedger addressesOf Each flatten
 each-find P x [] ess h r = let z : _≡_ {A = ℕ} 0 1 = cc in absurd (omega arith)

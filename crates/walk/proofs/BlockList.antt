@@ -8,11 +8,11 @@ use native.Mathlib.Nat.{add-zero}
 use native.Mathlib.Numerals.{add-one}
 use borrow.Author.Tests.{lt-ltb, le-ltb, le-leb, lt-leb, ltb-true, leb-true}
 use lib.ListN.{length, take, drop, getD, set, replicate, replicate-append-replicate}
-use lib.Seq.{drop-drop, getD-drop, take-suc-set}
+use lib.Seq.{drop-drop, getD-drop, take-suc-set, length-take-le}
 use lib.Dec.{leb, ltb}
 use Rattle.format.specs.Limits.{blocksMost}
 use Rattle.format.specs.Bytes.{if_then_else_}
-use Rattle.format.specs.Blocks.{Block, block, blockWords, overlaps, overlapsAny, entryAnswer, roomOf}
+use Rattle.format.specs.Blocks.{Block, block, blockWords, blockList, overlaps, overlapsAny, entryAnswer, roomOf}
 use Rattle.walk.specs.Lent.{blocksOf, Lent, entering}
 use Rattle.walk.specs.declared.blocks.Entry.the-variants.{Entered, Refused}
 
@@ -52,6 +52,10 @@ words-blocksOf (suc c) (x ∷ []) h = absurd (omega arith)
 words-blocksOf (suc c) (x ∷ y ∷ ws) h =
     let e : suc c + suc c ≡ suc (suc (c + c)) = omega arith in
     rw (e, words-blocksOf c ws (omega arith))
+
+-- the list left by a run of n blocks, with the words behind them cleared
+pub list-cleared : (n : ℕ) (ws : List ℕ) → n + n ≤ length ws → take (n + n) ws ++ replicate (length ws - (n + n)) 0 ≡ blockList (length ws) (blocksOf n ws)
+list-cleared n ws h = rw (words-blocksOf n ws h, length-take-le (n + n) ws h)
 
 pub length-blocksOf : (c : ℕ) (ws : List ℕ) → length (blocksOf c ws) ≡ c
 unfolding blocksOf
