@@ -12,7 +12,9 @@ use Rattle.format.specs.Ledger.{Linked, inLedger}
 use Rattle.format.specs.Audit.{auditWalk, auditRun}
 use Rattle.format.specs.Lookup.{componentWalk}
 use Rattle.format.specs.Describe.{describeWalk}
+use Rattle.format.specs.Symbols.{Entry}
 use Rattle.walk.proofs.Agreement.{shownBy}
+use Rattle.links.specs.Reached.{entriesAt}
 use Rattle.links.proofs.AuditSound.{audit-opened}
 use Rattle.found.specs.Covered.{AllCovered, auditShown}
 use Rattle.found.proofs.Whole.{whole}
@@ -56,3 +58,28 @@ module _ (im : List ℕ) (lent : ℕ) (s : Superblock) (os : List Linked) (bs : 
 
     pub description-replayed : (room : ℕ) → AllCovered im (shownBy im (s .endOfFile) room (superblockWalk s >> describeWalk at) []) (auditShown im s lent)
     description-replayed room = covered (superblockWalk s >> describeWalk at) (describe-among im s (whole im (s .endOfFile) (auditWalk s)) at read) room
+
+    -- what reading this object by itself shows, which is the superblock and the blocks that the audit enters for it
+    abbrev own : Walk (List Entry)
+    own = superblockWalk s >> entriesAt s at
+
+    alone : ReadWhole im s (whole im (s .endOfFile) own) at
+    alone = record { room = read .room; entries = read .entries; left = read .left; ran = read .ran; among = λ x m. m }
+
+    own-covered : {A : Type 0} (w : Walk A) → Sub (whole im (s .endOfFile) w) (whole im (s .endOfFile) own) → (room : ℕ) → AllCovered im (shownBy im (s .endOfFile) room w []) (whole im (s .endOfFile) own)
+    own-covered w i room x m =
+        begun-covered im (s .endOfFile) own (read .room) [] (read .entries) (read .left) (read .ran) x
+        (begun-more im (whole im (s .endOfFile) w) (whole im (s .endOfFile) own) i x (shown-begun im (s .endOfFile) w room [] x m))
+
+    -- the blocks that the audit enters for an object are all that a header, a lookup in it and its description are shown
+    pub own-among : Sub (whole im (s .endOfFile) own) (whole im (s .endOfFile) (auditWalk s))
+    own-among = read .among
+
+    pub header-own : (room : ℕ) → AllCovered im (shownBy im (s .endOfFile) room (superblockWalk s >> headerWalk at) []) (whole im (s .endOfFile) own)
+    header-own room = own-covered (superblockWalk s >> headerWalk at) (header-among im s (whole im (s .endOfFile) own) at alone) room
+
+    pub component-own : (room : ℕ) (name : List ℕ) (isLast : Bool) → AllCovered im (shownBy im (s .endOfFile) room (componentWalk s name isLast at) []) (whole im (s .endOfFile) own)
+    component-own room name isLast = own-covered (componentWalk s name isLast at) (component-among im s (whole im (s .endOfFile) own) at alone name isLast) room
+
+    pub description-own : (room : ℕ) → AllCovered im (shownBy im (s .endOfFile) room (superblockWalk s >> describeWalk at) []) (whole im (s .endOfFile) own)
+    description-own room = own-covered (superblockWalk s >> describeWalk at) (describe-among im s (whole im (s .endOfFile) own) at alone) room
