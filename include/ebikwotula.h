@@ -1,10 +1,10 @@
-/* Ebikwotula: the audit of hard links in an HDF5 file, for C.
+/* Ebikwotula: the audit of hard links in an HDF5 file, path lookup and dataset description, for C.
  *
  * Link with libebikwotula.a (rt staticlib ebikwotula).
  *
  * Slices. Each slice of bytes is passed as a pointer to its first byte and its length in bytes. The slices of one call
- * must not overlap. A pointer must not be null, also where the length is 0. The call keeps no pointer and allocates
- * nothing; its lists take about 20 KB of the stack.
+ * must not overlap. A pointer must not be null, also where the length is 0. A call keeps no pointer and allocates
+ * nothing; its lists take at most about 20 KB of the stack.
  *
  * Words. A word is an unsigned number of 64 bits, written as 8 bytes, the lowest byte first, on every machine. Word k of
  * a slice is its bytes 8 * k to 8 * k + 7. A slice has as many words as it has whole eights of bytes. Every byte of
@@ -20,13 +20,15 @@
 extern "C" {
 #endif
 
-/* The least length of reply, in bytes: 770 words. */
+/* The least length of reply, in bytes: 770 words for the audit, 3 for a lookup, 74 for a description. */
 #define EBIKWOTULA_AUDIT_REPLY_BYTES 6160
+#define EBIKWOTULA_LOOKUP_REPLY_BYTES 24
+#define EBIKWOTULA_DESCRIBE_REPLY_BYTES 592
 
-/* The most that the audit uses of blocks, in bytes: two words for each of 1,024 blocks. */
+/* The most that a call uses of blocks, in bytes: two words for each of 1,024 blocks. */
 #define EBIKWOTULA_BLOCKS_BYTES 16384
 
-/* The answers of the audit. */
+/* The answers. 12 is the audit's alone; 14 to 17 are those of lookup and description, and 20 the description's alone. */
 enum ebikwotula_answer {
     EBIKWOTULA_DONE = 0,           /* done */
     EBIKWOTULA_IMAGE_LENGTH = 1,   /* the image has under 96 or over 1,048,576 bytes */
@@ -42,7 +44,20 @@ enum ebikwotula_answer {
     EBIKWOTULA_OBJECT_HEADER = 10, /* an object header is unsound */
     EBIKWOTULA_DATASET = 11,       /* dataset messages are unsound */
     EBIKWOTULA_OBJECTS = 12,       /* a 257th object */
-    EBIKWOTULA_NO_ROOM = 13        /* no room for the next block, or a reply of under 770 words */
+    EBIKWOTULA_NO_ROOM = 13,       /* no room for the next block, or a reply of too few words */
+    EBIKWOTULA_BAD_PATH = 14,      /* the path has no right form */
+    EBIKWOTULA_NAME_ABSENT = 15,   /* a group of the path has no such name */
+    EBIKWOTULA_SYMBOLIC_LINK = 16, /* a symbolic link before the last component */
+    EBIKWOTULA_NOT_A_GROUP = 17,   /* an object that is no group before the last component */
+    EBIKWOTULA_NOT_A_DATASET = 20  /* the path leads to something else than a dataset */
+};
+
+/* The kinds of what a path leads to. */
+enum ebikwotula_kind {
+    EBIKWOTULA_KIND_GROUP = 1,
+    EBIKWOTULA_KIND_DATASET = 2,
+    EBIKWOTULA_KIND_COMMITTED_DATATYPE = 3,
+    EBIKWOTULA_KIND_SYMBOLIC_LINK = 4
 };
 
 /* Audits the file whose bytes are image. The image is not changed.
@@ -63,6 +78,54 @@ enum ebikwotula_answer {
  */
 uint32_t ebikwotula_audit(const uint8_t *image, size_t image_length, uint8_t *blocks, size_t blocks_length, uint8_t *reply,
                           size_t reply_length);
+
+/* Looks up a path in the file whose bytes are image. The image is not changed.
+ *
+ * The path is "/", or a '/' before each of its components; it has 1 to 1,024 bytes and no NUL at its end. A component
+ * has 1 to 255 bytes, holds no NUL, and is not ".".
+ *
+ * Returns one of the answers above. 13 is given first, before the path and the image are read, if reply has under 3
+ * words; then 14, before the image is read.
+ *
+ * blocks is only lent: its length decides the room of each walk, as in the audit, and every byte of it is 0 at the end.
+ *
+ * If the answer is 0:
+ *   reply   word 0   0, the number of blocks in blocks
+ *           word 1   the kind of what the path leads to, one of the kinds above
+ *           word 2   the address of its object header; 0 for a symbolic link
+ *
+ * If the answer is not 0, every byte of reply is 0.
+ */
+uint32_t ebikwotula_lookup(const uint8_t *image, size_t image_length, const uint8_t *path, size_t path_length,
+                           uint8_t *blocks, size_t blocks_length, uint8_t *reply, size_t reply_length);
+
+/* Describes the dataset that a path leads to, in the file whose bytes are image. The image is not changed.
+ *
+ * The path has the form that a lookup takes.
+ *
+ * Returns one of the answers above. 13 is given first, before the path and the image are read, if reply has under 74
+ * words; then 14, before the image is read.
+ *
+ * If the answer is 0:
+ *   blocks  has two words for each block of the dataset, in the order in which they were entered: its address and its
+ *           length. Room is the lesser of 1,024 blocks and the whole pairs of words in blocks.
+ *   reply   word 0          the number of blocks entered
+ *           word 1          the rank, at most 32
+ *           words 2 to 33   the size of each dimension, 0 from the rank on
+ *           words 34 to 65  the maximum of each dimension, which is the size where none is stored, 0 from the rank on
+ *           word 66         the class of the datatype
+ *           word 67         the version of the datatype
+ *           word 68         the class bits of the datatype
+ *           word 69         the element size
+ *           word 70         the address of a shared datatype, whose words 66 to 69 are 0; else 0
+ *           word 71         the class of the layout: 0 compact, 1 contiguous
+ *           word 72         the address of the data
+ *           word 73         the size of the data, in bytes
+ *
+ * If the answer is not 0, every byte of blocks and reply is 0.
+ */
+uint32_t ebikwotula_describe(const uint8_t *image, size_t image_length, const uint8_t *path, size_t path_length,
+                             uint8_t *blocks, size_t blocks_length, uint8_t *reply, size_t reply_length);
 
 #ifdef __cplusplus
 }

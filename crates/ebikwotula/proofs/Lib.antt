@@ -1,2 +1,7 @@
 mod Reply
+mod Lent
+mod Ended
+mod Follow
 mod Audited
+mod Located
+mod Described

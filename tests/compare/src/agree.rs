@@ -1,12 +1,13 @@
 //! The proved library against the separate reader on one image: the number and every byte lent.
 
 use crate::library;
-use crate::reader::front::audit_bytes;
+use crate::reader::front::{audit_bytes, describe_bytes, lookup_bytes};
+use std::fmt::Display;
 
 /// What lay in the slices before a call.
 const BEFORE: u8 = 0xa5;
 
-/// The slices lent to an audit, as it leaves them.
+/// The slices lent to a call, as it leaves them.
 #[derive(PartialEq, Eq, Default)]
 pub struct Lent {
     pub blocks: Vec<u8>,
@@ -20,14 +21,23 @@ impl Lent {
         self.reply.clear();
         self.reply.resize(reply, BEFORE);
     }
+
+    /// Nothing but zeros, as every refusal leaves them.
+    pub fn is_clear(&self) -> bool {
+        let zero = |byte: &u8| *byte == 0;
+        self.blocks.iter().all(zero) && self.reply.iter().all(zero)
+    }
 }
 
-/// Both audits, each with its own slices.
+/// The library and the reader, each with its own slices.
 #[derive(Default)]
 pub struct Pair {
     library: Lent,
     reader: Lent,
 }
+
+/// A lookup or a description: image, path, blocks and reply.
+type Call = fn(&[u8], &[u8], &mut [u8], &mut [u8]) -> u32;
 
 impl Pair {
     /// Both audits of an image, with so many bytes lent for blocks and for the reply; gives the number.
@@ -37,11 +47,57 @@ impl Pair {
         let mine = audit_bytes(image, &mut self.reader.blocks, &mut self.reader.reply);
         let copy = image.to_vec();
         let number = library::audit(&copy, &mut self.library.blocks, &mut self.library.reply);
-        assert_eq!(number, mine, "{name}, {blocks} bytes for blocks");
         assert!(copy == image, "{name}: the image changed");
-        if self.library != self.reader {
-            self.show(name, blocks);
-        }
+        self.compare(&name, number, mine);
+        number
+    }
+
+    /// Both lookups of a path in an image.
+    pub fn lookups_agree(
+        &mut self,
+        name: &str,
+        image: &[u8],
+        path: &[u8],
+        blocks: usize,
+        reply: usize,
+    ) -> u32 {
+        let title = format_args!("{name}, lookup of \"{}\"", path.escape_ascii());
+        let calls: [Call; 2] = [library::lookup, lookup_bytes];
+        self.both(&title, calls, image, path, (blocks, reply))
+    }
+
+    /// Both descriptions of a path in an image.
+    pub fn descriptions_agree(
+        &mut self,
+        name: &str,
+        image: &[u8],
+        path: &[u8],
+        blocks: usize,
+        reply: usize,
+    ) -> u32 {
+        let title = format_args!("{name}, description of \"{}\"", path.escape_ascii());
+        let calls: [Call; 2] = [library::describe, describe_bytes];
+        self.both(&title, calls, image, path, (blocks, reply))
+    }
+
+    fn both(
+        &mut self,
+        title: &dyn Display,
+        [library, reader]: [Call; 2],
+        image: &[u8],
+        path: &[u8],
+        (blocks, reply): (usize, usize),
+    ) -> u32 {
+        self.library.prepare(blocks, reply);
+        self.reader.prepare(blocks, reply);
+        let lent = &mut self.reader;
+        let mine = reader(image, path, &mut lent.blocks, &mut lent.reply);
+        let copy = (image.to_vec(), path.to_vec());
+        let lent = &mut self.library;
+        let number = library(&copy.0, &copy.1, &mut lent.blocks, &mut lent.reply);
+        assert!(copy.0 == image, "{title}: the image changed");
+        assert!(copy.1 == path, "{title}: the path changed");
+        self.compare(title, number, mine);
         number
     }
 
@@ -50,7 +106,19 @@ impl Pair {
         &self.library
     }
 
-    fn show(&self, name: &str, blocks: usize) -> ! {
+    /// The same number and the same bytes.
+    fn compare(&self, title: &dyn Display, number: u32, mine: u32) {
+        let lent = (self.library.blocks.len(), self.library.reply.len());
+        let bytes = format_args!("{} bytes for blocks, {} for the reply", lent.0, lent.1);
+        assert_eq!(number, mine, "{title}, {bytes}");
+        if self.library != self.reader {
+            self.show();
+            panic!("{title}, {bytes}: other bytes in library and reader");
+        }
+    }
+
+    /// The first word that differs in each slice.
+    fn show(&self) {
         let slices = [
             ("list", &self.library.blocks, &self.reader.blocks),
             ("reply", &self.library.reply, &self.reader.reply),
@@ -67,7 +135,6 @@ impl Pair {
                 );
             }
         }
-        panic!("{name}, {blocks} bytes for blocks: other bytes in library and reader");
     }
 }
 

@@ -10,6 +10,28 @@ mod exported {
             reply: *mut u8,
             reply_length: usize,
         ) -> u32;
+
+        pub fn ebikwotula_lookup(
+            image: *const u8,
+            image_length: usize,
+            path: *const u8,
+            path_length: usize,
+            blocks: *mut u8,
+            blocks_length: usize,
+            reply: *mut u8,
+            reply_length: usize,
+        ) -> u32;
+
+        pub fn ebikwotula_describe(
+            image: *const u8,
+            image_length: usize,
+            path: *const u8,
+            path_length: usize,
+            blocks: *mut u8,
+            blocks_length: usize,
+            reply: *mut u8,
+            reply_length: usize,
+        ) -> u32;
     }
 }
 
@@ -21,6 +43,41 @@ pub fn audit(image: &[u8], blocks: &mut [u8], reply: &mut [u8]) -> u32 {
         exported::ebikwotula_audit(
             image.as_ptr(),
             image.len(),
+            blocks.as_mut_ptr(),
+            blocks.len(),
+            reply.as_mut_ptr(),
+            reply.len(),
+        )
+    }
+}
+
+/// The path lookup. On answer 0 the reply's words are the block count, which is 0, the kind and the address.
+pub fn lookup(image: &[u8], path: &[u8], blocks: &mut [u8], reply: &mut [u8]) -> u32 {
+    // Each pointer is that of a live slice of the length beside it.
+    unsafe {
+        exported::ebikwotula_lookup(
+            image.as_ptr(),
+            image.len(),
+            path.as_ptr(),
+            path.len(),
+            blocks.as_mut_ptr(),
+            blocks.len(),
+            reply.as_mut_ptr(),
+            reply.len(),
+        )
+    }
+}
+
+/// The dataset description. On answer 0 the reply's words are the block count, rank, 32 sizes, 32 maxima, class,
+/// version, class bits, element size, shared address, layout class, data address and data size.
+pub fn describe(image: &[u8], path: &[u8], blocks: &mut [u8], reply: &mut [u8]) -> u32 {
+    // Each pointer is that of a live slice of the length beside it.
+    unsafe {
+        exported::ebikwotula_describe(
+            image.as_ptr(),
+            image.len(),
+            path.as_ptr(),
+            path.len(),
             blocks.as_mut_ptr(),
             blocks.len(),
             reply.as_mut_ptr(),

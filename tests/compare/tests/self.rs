@@ -2,6 +2,7 @@
 //! says holds together.
 
 use compare::generate::corpus::{cases, each};
+use compare::generate::paths;
 use compare::generate::plan::{Content, Plan, Target};
 use compare::generate::random::Random;
 use compare::generate::write::{write, File};
@@ -155,6 +156,31 @@ fn check_paths(plan: &Plan, file: &File, number: usize, path: &[u8], depth: usiz
     }
     let absent = [path, b"/absent"].concat();
     assert!([14, 15].contains(&lookup(&file.sheet.bytes, &absent, FULL).number));
+}
+
+/// Every path of three components or fewer, and paths beside those of two, as the plan has them.
+#[test]
+fn planned_paths_are_answered() {
+    let mut reached = [0u64; 21];
+    for seed in 1000..1300 {
+        let plan = files::plan(seed);
+        let file = write(&plan, seed);
+        let beside = paths::planned(&plan, 2)
+            .into_iter()
+            .flat_map(|path| paths::beside(&path));
+        for path in paths::planned(&plan, 3).into_iter().chain(beside) {
+            let reply = lookup(&file.sheet.bytes, &path, FULL);
+            let expected = paths::answer(&plan, &file, &path);
+            let found = (reply.number, reply.kind, reply.address);
+            let title = path.escape_ascii();
+            assert_eq!(found, expected, "file {seed}, \"{title}\"");
+            reached[reply.number as usize] += 1;
+        }
+    }
+    println!("answers of lookups: {reached:?}");
+    for number in [0, 14, 15, 16, 17] {
+        assert!(reached[number] > 0, "{number} was never reached");
+    }
 }
 
 fn check_object(plan: &Plan, file: &File, number: usize, path: &[u8], kind: u32) {

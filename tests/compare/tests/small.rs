@@ -1,7 +1,10 @@
 //! The small files of document 01: the replies that its text gives.
 
+use compare::generate::asked;
+use compare::generate::paths::{malformed, well_formed};
 use compare::generate::small::{self, DATASET, ROOT};
 use compare::generate::special;
+use compare::reader::front::{describe_bytes, lookup_bytes, DESCRIBE_WORDS, LOOKUP_WORDS};
 use compare::reader::{audit, describe, lookup, mend, undo, AuditReply, Object};
 
 const FULL: usize = 2048;
@@ -195,6 +198,101 @@ fn description_in_h() {
     assert_eq!((fields.layout_class, fields.shared_address), (1, 0));
     assert_eq!((fields.data_address, fields.data_size), (1224, 4));
     assert_eq!(describe(&image, b"/", 20).number, 20);
+}
+
+/// What lay in the slices before a call.
+const BEFORE: u8 = 0xa5;
+
+/// Words, then so many bytes that are zero.
+fn bytes(words: &[u64], length: usize) -> Vec<u8> {
+    let mut bytes: Vec<u8> = words.iter().flat_map(|word| word.to_le_bytes()).collect();
+    bytes.resize(length, 0);
+    bytes
+}
+
+#[test]
+fn lookups_in_bytes() {
+    let image = small::h().bytes;
+    let cases: [(&[u8], u32, &[u64]); 6] = [
+        (b"/", 0, &[0, 1, 96]),
+        (b"/a", 0, &[0, 2, 1128]),
+        (b"/b", 0, &[0, 2, 1128]),
+        (b"/c", 15, &[]),
+        (b"/a/b", 17, &[]),
+        (b"/a/", 14, &[]),
+    ];
+    for (path, expected, words) in cases {
+        for length in [0, 23, 24, 25, 31, 32, 100] {
+            let mut blocks = vec![BEFORE; 16 * 6 + 5];
+            let mut reply = vec![BEFORE; length];
+            let number = lookup_bytes(&image, path, &mut blocks, &mut reply);
+            let (expected, words) = if length / 8 < LOOKUP_WORDS {
+                (13, [].as_slice())
+            } else {
+                (expected, words)
+            };
+            assert_eq!(number, expected);
+            assert_eq!(reply, bytes(words, length));
+            assert_eq!(blocks, bytes(&[], 16 * 6 + 5));
+        }
+    }
+}
+
+#[test]
+fn descriptions_in_bytes() {
+    let image = small::h().bytes;
+    let mut words = [0; DESCRIBE_WORDS];
+    (words[0], words[1], words[2], words[34]) = (3, 1, 4, 4);
+    words[66..].copy_from_slice(&[0, 1, 8, 1, 0, 1, 1224, 4]);
+    for length in [0, 24, 591, 592, 593, 599, 600, 6160] {
+        let mut blocks = vec![BEFORE; 16 * 6 + 5];
+        let mut reply = vec![BEFORE; length];
+        let number = describe_bytes(&image, b"/a", &mut blocks, &mut reply);
+        let (expected, list, words) = if length / 8 < DESCRIBE_WORDS {
+            (13, [].as_slice(), [].as_slice())
+        } else {
+            (0, [0, 96, 1128, 96, 1224, 4].as_slice(), words.as_slice())
+        };
+        assert_eq!(number, expected);
+        assert_eq!(reply, bytes(words, length));
+        assert_eq!(blocks, bytes(list, 16 * 6 + 5));
+    }
+}
+
+#[test]
+fn lookups_by_name_have_their_answers() {
+    for asked in asked::all() {
+        let title = format!("{}, {}", asked.name, asked.path.escape_ascii());
+        let mut blocks = vec![BEFORE; 16 * asked.pairs + asked.pairs % 16];
+        let mut reply = vec![BEFORE; 8 * LOOKUP_WORDS];
+        let number = lookup_bytes(&asked.image, &asked.path, &mut blocks, &mut reply);
+        assert_eq!(number, asked.lookup.0, "{title}, {} pairs", asked.pairs);
+        let words = [0, u64::from(asked.lookup.1), asked.lookup.2];
+        assert_eq!(reply, bytes(&words, 24), "{title}");
+        assert!(blocks.iter().all(|byte| *byte == 0), "{title}");
+        let mut reply = vec![BEFORE; 8 * DESCRIBE_WORDS];
+        let number = describe_bytes(&asked.image, &asked.path, &mut blocks, &mut reply);
+        assert_eq!(number, asked.description, "{title}, {} pairs", asked.pairs);
+    }
+}
+
+/// The form of a path decides over everything else.
+#[test]
+fn malformed_paths_give_14() {
+    let images = [small::h().bytes, vec![0; 95], Vec::new()];
+    for (number, image) in images.iter().enumerate() {
+        for path in malformed() {
+            let title = path.escape_ascii().to_string();
+            for lent in [0, 12, FULL] {
+                assert_eq!(lookup(image, &path, lent).number, 14, "{title}");
+                assert_eq!(describe(image, &path, lent).number, 14, "{title}");
+            }
+        }
+        for path in well_formed() {
+            let answer = lookup(image, &path, FULL).number;
+            assert!(answer != 14 && (number == 0 || answer == 1));
+        }
+    }
 }
 
 #[test]

@@ -1,11 +1,12 @@
 //! The small files of document 01 through the command and through the C front end, against the texts of `expected/`.
 //!
 //! `NAME.txt` is what the command prints. `NAME_c.txt` is what the C front end leaves: a line `answer N`, then a line
-//! `list WORD VALUE` or `reply WORD VALUE` for each word that isn't zero.
+//! `list WORD VALUE` or `reply WORD VALUE` for each word that isn't zero. `h_lookup_*_c.txt` and `h_describe_*_c.txt` are
+//! the same of lookups and descriptions in H.
 
 use compare::generate::small::{self, DATASET, ROOT};
 use compare::library;
-use compare::reader::front::REPLY_WORDS;
+use compare::reader::front::{DESCRIBE_WORDS, LOOKUP_WORDS, REPLY_WORDS};
 use std::ffi::OsStr;
 use std::fs;
 use std::io::{ErrorKind, Write};
@@ -227,11 +228,18 @@ fn the_script_gives_a_status() {
 /// What lay in the slices before a call.
 const BEFORE: u8 = 0xa5;
 
-/// What the C front end leaves, with so many pairs and some spare bytes lent.
+/// What an audit by the C front end leaves, with so many pairs and some spare bytes lent.
 fn left_by_c(image: &[u8], pairs: usize) -> String {
+    left_by(pairs, REPLY_WORDS, |blocks, reply| {
+        library::audit(image, blocks, reply)
+    })
+}
+
+/// What a call leaves, with so many pairs, so many words for the reply and some spare bytes lent.
+fn left_by(pairs: usize, reply_words: usize, call: impl Fn(&mut [u8], &mut [u8]) -> u32) -> String {
     let mut blocks = vec![BEFORE; 16 * pairs + 3];
-    let mut reply = vec![BEFORE; 8 * REPLY_WORDS + 5];
-    let number = library::audit(image, &mut blocks, &mut reply);
+    let mut reply = vec![BEFORE; 8 * reply_words + 5];
+    let number = call(&mut blocks, &mut reply);
     format!("answer {number}\n") + &words("list", &blocks) + &words("reply", &reply)
 }
 
@@ -267,6 +275,46 @@ fn the_c_front_end_at_other_rooms() {
     }
 }
 
+/// The texts of lookups in H, and the paths.
+const LOOKUPS: [(&str, &[u8]); 6] = [
+    ("h_lookup_root_c", b"/"),
+    ("h_lookup_a_c", b"/a"),
+    ("h_lookup_b_c", b"/b"),
+    ("h_lookup_absent_c", b"/c"),
+    ("h_lookup_below_a_c", b"/a/b"),
+    ("h_lookup_bad_path_c", b"/a/"),
+];
+
+/// The same of descriptions.
+const DESCRIPTIONS: [(&str, &[u8]); 6] = [
+    ("h_describe_root_c", b"/"),
+    ("h_describe_a_c", b"/a"),
+    ("h_describe_a_c", b"/b"),
+    ("h_lookup_absent_c", b"/c"),
+    ("h_lookup_below_a_c", b"/a/b"),
+    ("h_lookup_bad_path_c", b"/a/"),
+];
+
+/// Room for 6 pairs is what the root group needs.
+#[test]
+fn lookups_in_h_leave_the_stored_words() {
+    let image = small::h().bytes;
+    for pairs in [6, 7, 1024, 2000] {
+        for (name, path) in LOOKUPS {
+            let text = left_by(pairs, LOOKUP_WORDS, |blocks, reply| {
+                library::lookup(&image, path, blocks, reply)
+            });
+            assert_stored(&text, name);
+        }
+        for (name, path) in DESCRIPTIONS {
+            let text = left_by(pairs, DESCRIBE_WORDS, |blocks, reply| {
+                library::describe(&image, path, blocks, reply)
+            });
+            assert_stored(&text, name);
+        }
+    }
+}
+
 /// A text that no file is compared with is a mistake.
 #[test]
 fn every_text_is_used() {
@@ -274,8 +322,15 @@ fn every_text_is_used() {
         .iter()
         .flat_map(|(name, _)| [format!("{name}.txt"), format!("{name}_c.txt")])
         .chain(["e_5_pairs_c.txt", "e_4_pairs_c.txt"].map(str::to_string))
+        .chain(
+            [LOOKUPS, DESCRIPTIONS]
+                .concat()
+                .iter()
+                .map(|(name, _)| format!("{name}.txt")),
+        )
         .collect();
     used.sort();
+    used.dedup();
     let mut texts: Vec<String> = fs::read_dir(package().join("expected"))
         .expect("the folder of texts")
         .map(|entry| entry.expect("a text").file_name())

@@ -1,6 +1,8 @@
 //! The images that the tests read, from fixed seeds.
 
 use super::damage::damage;
+use super::paths;
+use super::plan::Plan;
 use super::random::Random;
 use super::sheet::Sheet;
 use super::write::write;
@@ -13,6 +15,8 @@ pub struct Case<'a> {
     /// The file that the image comes from.
     pub file: &'a str,
     pub sheet: &'a Sheet,
+    /// The file's plan, if it has one.
+    pub plan: Option<&'a Plan>,
     /// 0 is the file itself, others are damaged copies.
     pub copy: u64,
     pub image: &'a [u8],
@@ -21,14 +25,7 @@ pub struct Case<'a> {
 impl Case<'_> {
     /// Some paths worth looking up: strings of the file's heaps, one or two of them.
     pub fn paths(&self, random: &mut Random) -> Vec<Vec<u8>> {
-        let names: Vec<&[u8]> = self
-            .sheet
-            .fields
-            .iter()
-            .filter(|field| field.name == "heap string")
-            .map(|field| &self.sheet.bytes[field.at..])
-            .map(|rest| rest.split(|byte| *byte == 0).next().unwrap_or(rest))
-            .collect();
+        let names = self.sheet.strings();
         let mut paths = vec![b"/".to_vec()];
         if names.is_empty() {
             return paths;
@@ -41,6 +38,24 @@ impl Case<'_> {
         }
         paths
     }
+
+    /// Some paths of the file's plan, and some beside them; without a plan, some of its heaps' strings.
+    pub fn planned_paths(&self, random: &mut Random) -> Vec<Vec<u8>> {
+        let Some(plan) = self.plan else {
+            return self.paths(random);
+        };
+        let planned = paths::planned(plan, 2);
+        let mut some = Vec::new();
+        for turn in 0..6 {
+            let path = &planned[random.below(planned.len() as u64) as usize];
+            if turn % 3 == 0 {
+                let beside = paths::beside(path);
+                some.push(beside[random.below(beside.len() as u64) as usize].clone());
+            }
+            some.push(path.clone());
+        }
+        some
+    }
 }
 
 /// Calls `visit` with images, `cases` times or a few more.
@@ -50,30 +65,27 @@ pub fn each(cases: u64, mut visit: impl FnMut(&Case)) {
         let large = special.sheet.bytes.len() > 60_000;
         let copies = if large { 2 } else { COPIES };
         done += copies;
-        copy(
-            &special.name,
-            &special.sheet,
-            number as u64,
-            copies,
-            &mut visit,
-        );
+        let file = (special.name.as_str(), &special.sheet, None);
+        copy(file, number as u64, copies, &mut visit);
     }
     let mut seed = 1000;
     while done < cases {
-        let file = write(&files::plan(seed), seed);
-        copy(
-            &format!("file {seed}"),
-            &file.sheet,
-            seed,
-            COPIES,
-            &mut visit,
-        );
+        let plan = files::plan(seed);
+        let file = write(&plan, seed);
+        let name = format!("file {seed}");
+        let file = (name.as_str(), &file.sheet, Some(&plan));
+        copy(file, seed, COPIES, &mut visit);
         seed += 1;
         done += COPIES;
     }
 }
 
-fn copy(file: &str, sheet: &Sheet, seed: u64, copies: u64, visit: &mut impl FnMut(&Case)) {
+fn copy(
+    (file, sheet, plan): (&str, &Sheet, Option<&Plan>),
+    seed: u64,
+    copies: u64,
+    visit: &mut impl FnMut(&Case),
+) {
     let mut random = Random::new(seed);
     for copy in 0..copies {
         let mut damaged = sheet.bytes.clone();
@@ -87,6 +99,7 @@ fn copy(file: &str, sheet: &Sheet, seed: u64, copies: u64, visit: &mut impl FnMu
         visit(&Case {
             file,
             sheet,
+            plan,
             copy,
             image: &damaged,
         });

@@ -1,6 +1,7 @@
 //! Files to read: a builder in which each structure writes itself and records its fields, plans of random and special
 //! files, and damage to single fields and bytes.
 
+pub mod asked;
 mod bodies;
 pub mod corpus;
 pub mod damage;
@@ -11,6 +12,7 @@ pub mod group;
 pub mod header;
 pub mod limits;
 mod orders;
+pub mod paths;
 pub mod plan;
 pub mod random;
 pub mod sheet;

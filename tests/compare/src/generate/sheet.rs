@@ -72,6 +72,16 @@ impl Sheet {
         value(&self.bytes, field)
     }
 
+    /// The strings of all heaps: names, link values and keys.
+    pub fn strings(&self) -> Vec<&[u8]> {
+        self.fields
+            .iter()
+            .filter(|field| field.name == "heap string")
+            .map(|field| &self.bytes[field.at..])
+            .map(|rest| rest.split(|byte| *byte == 0).next().unwrap_or(rest))
+            .collect()
+    }
+
     /// The same sheet with the `nth` field of that name changed.
     pub fn with(&self, name: &str, nth: usize, value: u64) -> Sheet {
         let mut changed = self.clone();

@@ -1,5 +1,6 @@
 //! Dataset description.
 
+use super::blocks::Blocks;
 use super::dataset::{self, Dataset, Datatype, MOST_DIMENSIONS};
 use super::header::Kind;
 use super::lookup::{find, Found};
@@ -29,9 +30,20 @@ pub struct DescribeReply {
     pub list: Vec<u64>,
 }
 
+/// What a finished description knows.
+pub struct Described {
+    pub blocks: Blocks,
+    pub description: Description,
+}
+
 pub fn describe(image: &[u8], path: &[u8], lent_words: usize) -> DescribeReply {
-    match run(image, path, lent_words) {
-        Ok(reply) => reply,
+    match run(image, path, super::room(lent_words)) {
+        Ok(described) => DescribeReply {
+            number: 0,
+            block_count: described.blocks.entered().len() as u64,
+            list: described.blocks.list(lent_words),
+            description: described.description,
+        },
         Err(refusal) => DescribeReply {
             number: refusal.number(),
             list: vec![0; lent_words],
@@ -42,8 +54,8 @@ pub fn describe(image: &[u8], path: &[u8], lent_words: usize) -> DescribeReply {
 
 /// "Description looks up (20 unless kind 2), then reads the dataset's messages on the header's list, enters its data
 /// and leaves that list."
-fn run(image: &[u8], path: &[u8], lent_words: usize) -> Walked<DescribeReply> {
-    let found = find(image, path, super::room(lent_words))?;
+pub fn run(image: &[u8], path: &[u8], room: usize) -> Walked<Described> {
+    let found = find(image, path, room)?;
     let Found::Object {
         header, mut blocks, ..
     } = found
@@ -59,11 +71,9 @@ fn run(image: &[u8], path: &[u8], lent_words: usize) -> Walked<DescribeReply> {
         return Err(Refusal::NoDataset);
     };
     let dataset = dataset::read(&mut blocks, space, datatype, layout)?;
-    Ok(DescribeReply {
-        number: 0,
-        block_count: blocks.entered().len() as u64,
+    Ok(Described {
         description: fields(&dataset),
-        list: blocks.list(lent_words),
+        blocks,
     })
 }
 

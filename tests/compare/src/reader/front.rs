@@ -1,34 +1,84 @@
-//! The audit as the C front end offers it: "on numbers and byte slices; there a word is 8 little-endian bytes".
+//! The audit, path lookup and dataset description as the C front end offers them: "on numbers and byte slices; there a
+//! word is 8 little-endian bytes", "C returns the number; other fields go as words to a further slice, spare bytes
+//! zero".
 
 use super::audit::{self, Audited};
+use super::blocks::Blocks;
+use super::describe::{self, Described, Description};
+use super::lookup;
+use super::refusal::{ask, Refusal, Walked};
 
 /// "block count, objects, then address, stored and true count of each": 2 words and 3 for each of 256 objects.
 pub const REPLY_WORDS: usize = 770;
 
-/// "C returns the number; other fields go as words to a further slice, spare bytes zero".
+/// Block count, kind and address.
+pub const LOOKUP_WORDS: usize = 3;
+
+/// Block count, rank, 32 sizes, 32 maxima, class, version, class bits, element size, shared address, layout class, data
+/// address and data size.
+pub const DESCRIBE_WORDS: usize = 74;
+
 pub fn audit_bytes(image: &[u8], blocks: &mut [u8], reply: &mut [u8]) -> u32 {
-    // "Under 770, 3 or 1 words gives 13 first, in C only."
-    let audited = if reply.len() / 8 < REPLY_WORDS {
-        Err(13)
-    } else {
-        audit::run(image, super::room(blocks.len() / 8)).map_err(|refusal| refusal.number())
-    };
+    let audited = long_enough(reply, REPLY_WORDS).and_then(|()| audit::run(image, room_of(blocks)));
     match audited {
         Ok(audited) => {
-            write_list(blocks, &audited);
-            write_reply(reply, &audited);
+            write_list(blocks, &audited.blocks);
+            write_audit(reply, &audited);
             0
         }
-        Err(number) => {
-            blocks.fill(0);
-            reply.fill(0);
-            number
-        }
+        Err(refusal) => refuse(refusal, blocks, reply),
     }
 }
 
-fn write_list(blocks: &mut [u8], audited: &Audited) {
-    let entered = audited.blocks.entered();
+pub fn lookup_bytes(image: &[u8], path: &[u8], blocks: &mut [u8], reply: &mut [u8]) -> u32 {
+    let found =
+        long_enough(reply, LOOKUP_WORDS).and_then(|()| lookup::find(image, path, room_of(blocks)));
+    match found {
+        Ok(found) => {
+            // "At lookup's end the list is all zeros and the block count 0."
+            blocks.fill(0);
+            write_words(reply, &[0, u64::from(found.kind()), found.address()]);
+            0
+        }
+        Err(refusal) => refuse(refusal, blocks, reply),
+    }
+}
+
+pub fn describe_bytes(image: &[u8], path: &[u8], blocks: &mut [u8], reply: &mut [u8]) -> u32 {
+    let described = long_enough(reply, DESCRIBE_WORDS)
+        .and_then(|()| describe::run(image, path, room_of(blocks)));
+    match described {
+        Ok(Described {
+            blocks: entered,
+            description,
+        }) => {
+            write_list(blocks, &entered);
+            let count = entered.entered().len() as u64;
+            write_words(reply, &description_words(count, &description));
+            0
+        }
+        Err(refusal) => refuse(refusal, blocks, reply),
+    }
+}
+
+/// "Under 770, 3 or 1 words gives 13 first, in C only." Lookup and description have their own least number of words.
+fn long_enough(reply: &[u8], words: usize) -> Walked<()> {
+    ask(reply.len() / 8 >= words, Refusal::NoRoom)
+}
+
+fn room_of(blocks: &[u8]) -> usize {
+    super::room(blocks.len() / 8)
+}
+
+/// "Any number but 0 returns zeros in every other field, zero-fills every list lent for writing".
+fn refuse(refusal: Refusal, blocks: &mut [u8], reply: &mut [u8]) -> u32 {
+    blocks.fill(0);
+    reply.fill(0);
+    refusal.number()
+}
+
+fn write_list(blocks: &mut [u8], entered: &Blocks) {
+    let entered = entered.entered();
     let (pairs, rest) = blocks.split_at_mut(16 * entered.len());
     for (pair, block) in pairs.chunks_exact_mut(16).zip(entered) {
         pair[..8].copy_from_slice(&block.address.to_le_bytes());
@@ -37,7 +87,7 @@ fn write_list(blocks: &mut [u8], audited: &Audited) {
     rest.fill(0);
 }
 
-fn write_reply(reply: &mut [u8], audited: &Audited) {
+fn write_audit(reply: &mut [u8], audited: &Audited) {
     let objects = &audited.objects;
     reply[..8].copy_from_slice(&(audited.blocks.entered().len() as u64).to_le_bytes());
     reply[8..16].copy_from_slice(&(objects.len() as u64).to_le_bytes());
@@ -48,4 +98,31 @@ fn write_reply(reply: &mut [u8], audited: &Audited) {
         place[16..].copy_from_slice(&u64::from(object.true_count).to_le_bytes());
     }
     rest.fill(0);
+}
+
+fn write_words(reply: &mut [u8], words: &[u64]) {
+    let (places, rest) = reply.split_at_mut(8 * words.len());
+    for (place, word) in places.chunks_exact_mut(8).zip(words) {
+        place.copy_from_slice(&word.to_le_bytes());
+    }
+    rest.fill(0);
+}
+
+fn description_words(block_count: u64, fields: &Description) -> [u64; DESCRIBE_WORDS] {
+    let mut words = [0; DESCRIBE_WORDS];
+    words[0] = block_count;
+    words[1] = fields.rank;
+    words[2..34].copy_from_slice(&fields.sizes);
+    words[34..66].copy_from_slice(&fields.maxima);
+    words[66..].copy_from_slice(&[
+        u64::from(fields.class),
+        u64::from(fields.version),
+        u64::from(fields.class_bits),
+        u64::from(fields.element_size),
+        fields.shared_address,
+        u64::from(fields.layout_class),
+        fields.data_address,
+        fields.data_size,
+    ]);
+    words
 }

@@ -25,6 +25,23 @@ pub enum Found<'a> {
     SymbolicLink,
 }
 
+impl Found<'_> {
+    pub fn kind(&self) -> u32 {
+        match self {
+            Found::Object { header, .. } => header.kind.number(),
+            Found::SymbolicLink => 4,
+        }
+    }
+
+    /// "For a final symbolic link the address is 0 and no header is read."
+    pub fn address(&self) -> u64 {
+        match self {
+            Found::Object { address, .. } => *address,
+            Found::SymbolicLink => 0,
+        }
+    }
+}
+
 pub fn lookup(image: &[u8], path: &[u8], lent_words: usize) -> LookupReply {
     // "At lookup's end the list is all zeros and the block count 0."
     let mut reply = LookupReply {
@@ -32,14 +49,10 @@ pub fn lookup(image: &[u8], path: &[u8], lent_words: usize) -> LookupReply {
         ..LookupReply::default()
     };
     match find(image, path, super::room(lent_words)) {
-        Ok(Found::Object {
-            address, header, ..
-        }) => {
-            reply.kind = header.kind.number();
-            reply.address = address;
+        Ok(found) => {
+            reply.kind = found.kind();
+            reply.address = found.address();
         }
-        // "For a final symbolic link the address is 0 and no header is read."
-        Ok(Found::SymbolicLink) => reply.kind = 4,
         Err(refusal) => reply.number = refusal.number(),
     }
     reply

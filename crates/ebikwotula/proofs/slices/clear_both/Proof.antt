@@ -2,8 +2,8 @@
 use denote.Ref.{now}
 use Rattle.ebikwotula.proofs.Reply.{all-zero}
 use borrow.Author.Needs.{needs}
-use Rattle.ebikwotula.proofs.clear_both.Statement.{statement}
-use Rattle.ebikwotula.proofs.clear_both.Tie as tie
+use Rattle.ebikwotula.proofs.slices.clear_both.Statement.{statement}
+use Rattle.ebikwotula.proofs.slices.clear_both.Tie as tie
 
 clear-from-requires : tie.Need-clear-from-requires
 clear-from-requires c κs = search needs

@@ -4,8 +4,8 @@ use mathlib.Core.Path.{refl}
 use denote.Ref.{now}
 use Rattle.ebikwotula.proofs.Reply.{put-first, put-next}
 use borrow.Author.Needs.{needs}
-use Rattle.ebikwotula.proofs.put_object.Statement.{statement}
-use Rattle.ebikwotula.proofs.put_object.Tie as tie
+use Rattle.ebikwotula.proofs.c_audit.put_object.Statement.{statement}
+use Rattle.ebikwotula.proofs.c_audit.put_object.Tie as tie
 
 put-word-requires : tie.Need-put-word-requires
 put-word-requires c κs = search needs

@@ -7,11 +7,12 @@ use denote.Ref.{now}
 use Rattle.format.specs.Limits.{objectsMost}
 use Rattle.format.specs.Blocks.{roomOf}
 use Rattle.format.specs.Front.{paddedBytes}
-use Rattle.ebikwotula.proofs.Audited.{room-lent, room-most, lent-words, part-fits, part-long, part-left, short-reply, blocks-fit, used-fit, done-reply, refused-reply}
+use Rattle.ebikwotula.proofs.Lent.{room-lent, room-most, lent-words, part-fits, part-long, part-left}
+use Rattle.ebikwotula.proofs.Audited.{short-reply, blocks-fit, used-fit, done-reply, refused-reply}
 use native.Mathlib.Omega.{arith}
 use borrow.Author.Needs.{needs}
-use Rattle.ebikwotula.proofs.ebikwotula_audit.Statement.{statement}
-use Rattle.ebikwotula.proofs.ebikwotula_audit.Tie as tie
+use Rattle.ebikwotula.proofs.c_audit.ebikwotula_audit.Statement.{statement}
+use Rattle.ebikwotula.proofs.c_audit.ebikwotula_audit.Tie as tie
 
 -- the reply is long enough
 reply-long : (c : tie.Else1) → 2 + 3 * objectsMost ≤ length (now (c .before .before .before .before .before .before .args .reply)) / 8

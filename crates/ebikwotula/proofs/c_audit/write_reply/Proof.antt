@@ -7,8 +7,8 @@ use Rattle.words.proofs.Words.{Begins}
 use Rattle.ebikwotula.proofs.Reply.{replyWords, reply-start, reply-more, reply-end}
 use borrow.Author.Needs.{needs}
 use native.Mathlib.Omega.{arith}
-use Rattle.ebikwotula.proofs.write_reply.Statement.{statement}
-use Rattle.ebikwotula.proofs.write_reply.Tie as tie
+use Rattle.ebikwotula.proofs.c_audit.write_reply.Statement.{statement}
+use Rattle.ebikwotula.proofs.c_audit.write_reply.Tie as tie
 
 abbrev Inv-loop : tie.InvT-loop
 Inv-loop reply₀ block-count objects addresses stored true-counts i₀ reply i =

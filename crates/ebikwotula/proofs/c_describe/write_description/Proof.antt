@@ -1,0 +1,96 @@
+-- The parts one behind the other, and zeros.
+use denote.Ref.{now}
+use mathlib.Core.Path.{_≡_, refl}
+use lib.ListN.{length}
+use Rattle.ebikwotula.proofs.Reply.{description-bytes}
+use native.Mathlib.Omega.{arith}
+use borrow.Author.Needs.{needs}
+use Rattle.ebikwotula.proofs.c_describe.write_description.Statement.{statement}
+use Rattle.ebikwotula.proofs.c_describe.write_description.Tie as tie
+
+-- an array has its type's length
+sizes-long : (c : tie.Start) → length (c .args .d .sizes) ≡ 32
+sizes-long c = search needs
+
+maxima-long : (c : tie.Start) → length (c .args .d .maxima) ≡ 32
+maxima-long c = search needs
+
+cast-t7 : tie.Need-cast-t7
+cast-t7 c = search needs
+
+cast-t8 : tie.Need-cast-t8
+cast-t8 c = search needs
+
+cast-t9 : tie.Need-cast-t9
+cast-t9 c = search needs
+
+cast-t10 : tie.Need-cast-t10
+cast-t10 c = search needs
+
+cast-t11 : tie.Need-cast-t11
+cast-t11 c = search needs
+
+slice-aggregate-put-words : tie.Need-slice-aggregate-put-words
+slice-aggregate-put-words c = search needs
+
+put-words-requires : tie.Need-put-words-requires
+put-words-requires c κs = search needs
+
+slice-aggregate-put-words-2 : tie.Need-slice-aggregate-put-words-2
+slice-aggregate-put-words-2 c = omega (arith, sizes-long (c .before .before .before .before .before .before .before .before .before .before .before .before .before .before .before))
+
+put-words-requires-2 : tie.Need-put-words-requires-2
+put-words-requires-2 c κs = omega (arith, sizes-long (c .before .before .before .before .before .before .before .before .before .before .before .before .before .before .before), c .before .before .before .before .before .before .before .before .before .before .before .before .before .before .before .pre, c .before .before .before .before .put-words .kept .0)
+
+slice-aggregate-put-words-3 : tie.Need-slice-aggregate-put-words-3
+slice-aggregate-put-words-3 c = omega (arith, maxima-long (c .before .before .before .before .before .before .before .before .before .before .before .before .before .before .before .before .before .before .before .before))
+
+put-words-requires-3 : tie.Need-put-words-requires-3
+put-words-requires-3 c κs = omega (arith, maxima-long (c .before .before .before .before .before .before .before .before .before .before .before .before .before .before .before .before .before .before .before .before), c .before .before .before .before .before .before .before .before .before .before .before .before .before .before .before .before .before .before .before .before .pre, c .before .before .before .before .before .before .before .before .before .put-words .kept .0, c .before .before .before .before .put-words2 .kept .0)
+
+slice-aggregate-put-words-4 : tie.Need-slice-aggregate-put-words-4
+slice-aggregate-put-words-4 c = search needs
+
+put-words-requires-4 : tie.Need-put-words-requires-4
+put-words-requires-4 c κs = search needs
+
+clear-from-requires : tie.Need-clear-from-requires
+clear-from-requires c κs = search needs
+
+same-length : tie.Need-same-length
+same-length c = search needs
+
+returns : tie.Need-returns
+returns c =
+    let a = c .before .before .before .before .before .before .before .before .before .before .before .before .before .before .before .before .before .before .before .before .before .before .before .before .before .before .before .before .before .before .before .before .args in
+    description-bytes (now (a .reply)) _ _ _ _ _ (a .d .«block_count») (a .d .rank) (a .d .sizes) (a .d .maxima) _
+    (sizes-long (c .before .before .before .before .before .before .before .before .before .before .before .before .before .before .before .before .before .before .before .before .before .before .before .before .before .before .before .before .before .before .before .before))
+    (maxima-long (c .before .before .before .before .before .before .before .before .before .before .before .before .before .before .before .before .before .before .before .before .before .before .before .before .before .before .before .before .before .before .before .before))
+    refl
+    (c .before .before .before .before .before .before .before .before .before .before .before .before .before .before .before .before .before .before .before .before .before .before .before .before .before .before .before .before .before .before .before .before .pre)
+    (c .before .before .before .before .before .before .before .before .before .before .before .before .before .before .before .before .before .before .before .before .before .put-words .ensures)
+    (c .before .before .before .before .before .before .before .before .before .before .before .before .before .before .before .before .put-words2 .ensures)
+    (c .before .before .before .before .before .before .before .before .before .before .before .put-words3 .ensures)
+    (c .before .before .before .before .before .before .put-words4 .ensures)
+    (c .before .before .clear-from .ensures)
+
+pub write-description-spec : {M : Type 1} → statement M
+write-description-spec =
+    tie.close
+    (tie.spec
+    cast-t7
+    cast-t8
+    cast-t9
+    cast-t10
+    cast-t11
+    slice-aggregate-put-words
+    put-words-requires
+    slice-aggregate-put-words-2
+    put-words-requires-2
+    slice-aggregate-put-words-3
+    put-words-requires-3
+    slice-aggregate-put-words-4
+    put-words-requires-4
+    clear-from-requires
+    same-length
+    returns)
