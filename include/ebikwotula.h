@@ -107,8 +107,8 @@ uint32_t ebikwotula_lookup(const uint8_t *image, size_t image_length, const uint
  * words; then 14, before the image is read.
  *
  * If the answer is 0:
- *   blocks  has two words for each block of the dataset, in the order in which they were entered: its address and its
- *           length. Room is the lesser of 1,024 blocks and the whole pairs of words in blocks.
+ *   blocks  has two words for each block entered for the dataset, in the order in which they were entered, the superblock
+ *           first: its address and its length. Room is as in the audit.
  *   reply   word 0          the number of blocks entered
  *           word 1          the rank, at most 32
  *           words 2 to 33   the size of each dimension, 0 from the rank on
@@ -119,7 +119,7 @@ uint32_t ebikwotula_lookup(const uint8_t *image, size_t image_length, const uint
  *           word 69         the element size
  *           word 70         the address of a shared datatype, whose words 66 to 69 are 0; else 0
  *           word 71         the class of the layout: 0 compact, 1 contiguous
- *           word 72         the address of the data
+ *           word 72         the address of the data; if compact, the place of its first byte in image
  *           word 73         the size of the data, in bytes
  *
  * If the answer is not 0, every byte of blocks and reply is 0.

@@ -29,7 +29,8 @@ pub extern "C" fn ebikwotula_lookup(
         slices::clear_both(blocks, reply);
         return r.number as u32;
     }
-    let words = [0u64, r.kind as u64, r.address];
+    let kind = r.kind as u64;
+    let words = [0u64, kind, r.address];
     words::clear_from(blocks, 0);
     words::spill(&words, reply);
     0

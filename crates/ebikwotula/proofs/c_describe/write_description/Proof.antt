@@ -9,11 +9,8 @@ use Rattle.ebikwotula.proofs.c_describe.write_description.Statement.{st
 use Rattle.ebikwotula.proofs.c_describe.write_description.Tie as tie
 
 -- an array has its type's length
-sizes-long : (c : tie.Start) → length (c .args .d .sizes) ≡ 32
-sizes-long c = search needs
-
-maxima-long : (c : tie.Start) → length (c .args .d .maxima) ≡ 32
-maxima-long c = search needs
+arrays-long : (c : tie.Start) → (length (c .args .d .sizes) ≡ 32) × (length (c .args .d .maxima) ≡ 32)
+arrays-long c = (search needs, search needs)
 
 cast-t7 : tie.Need-cast-t7
 cast-t7 c = search needs
@@ -37,16 +34,20 @@ put-words-requires : tie.Need-put-words-requires
 put-words-requires c κs = search needs
 
 slice-aggregate-put-words-2 : tie.Need-slice-aggregate-put-words-2
-slice-aggregate-put-words-2 c = omega (arith, sizes-long (c .before .before .before .before .before .before .before .before .before .before .before .before .before .before .before))
+slice-aggregate-put-words-2 c = omega (arith, arrays-long (c .before .before .before .before .before .before .before .before .before .before .before .before .before .before .before))
 
 put-words-requires-2 : tie.Need-put-words-requires-2
-put-words-requires-2 c κs = omega (arith, sizes-long (c .before .before .before .before .before .before .before .before .before .before .before .before .before .before .before), c .before .before .before .before .before .before .before .before .before .before .before .before .before .before .before .pre, c .before .before .before .before .put-words .kept .0)
+put-words-requires-2 c κs =
+    let s = c .before .before .before .before .before .before .before .before .before .before .before .before .before .before .before in
+    omega (arith, arrays-long s, s .pre, c .before .before .before .before .put-words .kept .0)
 
 slice-aggregate-put-words-3 : tie.Need-slice-aggregate-put-words-3
-slice-aggregate-put-words-3 c = omega (arith, maxima-long (c .before .before .before .before .before .before .before .before .before .before .before .before .before .before .before .before .before .before .before .before))
+slice-aggregate-put-words-3 c = omega (arith, arrays-long (c .before .before .before .before .before .before .before .before .before .before .before .before .before .before .before .before .before .before .before .before))
 
 put-words-requires-3 : tie.Need-put-words-requires-3
-put-words-requires-3 c κs = omega (arith, maxima-long (c .before .before .before .before .before .before .before .before .before .before .before .before .before .before .before .before .before .before .before .before), c .before .before .before .before .before .before .before .before .before .before .before .before .before .before .before .before .before .before .before .before .pre, c .before .before .before .before .before .before .before .before .before .put-words .kept .0, c .before .before .before .before .put-words2 .kept .0)
+put-words-requires-3 c κs =
+    let s = c .before .before .before .before .before .before .before .before .before .before .before .before .before .before .before .before .before .before .before .before in
+    omega (arith, arrays-long s, s .pre, c .before .before .before .before .before .before .before .before .before .put-words .kept .0, c .before .before .before .before .put-words2 .kept .0)
 
 slice-aggregate-put-words-4 : tie.Need-slice-aggregate-put-words-4
 slice-aggregate-put-words-4 c = search needs
@@ -62,12 +63,13 @@ same-length c = search needs
 
 returns : tie.Need-returns
 returns c =
-    let a = c .before .before .before .before .before .before .before .before .before .before .before .before .before .before .before .before .before .before .before .before .before .before .before .before .before .before .before .before .before .before .before .before .args in
-    description-bytes (now (a .reply)) _ _ _ _ _ (a .d .«block_count») (a .d .rank) (a .d .sizes) (a .d .maxima) _
-    (sizes-long (c .before .before .before .before .before .before .before .before .before .before .before .before .before .before .before .before .before .before .before .before .before .before .before .before .before .before .before .before .before .before .before .before))
-    (maxima-long (c .before .before .before .before .before .before .before .before .before .before .before .before .before .before .before .before .before .before .before .before .before .before .before .before .before .before .before .before .before .before .before .before))
+    let s = c .before .before .before .before .before .before .before .before .before .before .before .before .before .before .before .before .before .before .before .before .before .before .before .before .before .before .before .before .before .before .before .before in
+    let d = s .args .d in
+    description-bytes (now (s .args .reply)) _ _ _ _ _ (d .«block_count») (d .rank) (d .sizes) (d .maxima) _
+    (arrays-long s .0)
+    (arrays-long s .1)
     refl
-    (c .before .before .before .before .before .before .before .before .before .before .before .before .before .before .before .before .before .before .before .before .before .before .before .before .before .before .before .before .before .before .before .before .pre)
+    (s .pre)
     (c .before .before .before .before .before .before .before .before .before .before .before .before .before .before .before .before .before .before .before .before .before .put-words .ensures)
     (c .before .before .before .before .before .before .before .before .before .before .before .before .before .before .before .before .put-words2 .ensures)
     (c .before .before .before .before .before .before .before .before .before .before .before .put-words3 .ensures)

@@ -72,8 +72,8 @@ returns-2 c =
     (t .0)
     (t .1)
 
-cast-t25 : tie.Need-cast-t25
-cast-t25 c = search needs
+cast-kind : tie.Need-cast-kind
+cast-kind c = search needs
 
 clear-from-requires : tie.Need-clear-from-requires
 clear-from-requires c κs = search needs
@@ -121,7 +121,7 @@ ebikwotula-lookup-spec =
     same-length-3
     same-length-4
     returns-2
-    cast-t25
+    cast-kind
     clear-from-requires
     slice-aggregate-spill
     spill-requires
