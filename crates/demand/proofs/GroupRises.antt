@@ -1,0 +1,122 @@
+-- The walk of a group raises what its visit raises by one at an entry by no more than 65,536 a block: a symbol node's count has two bytes.
+use Prim.Native.Nat.{ℕ, zero, suc, _+_, _*_, _<_}
+use mathlib.Core.Bool.{Bool, true, false}
+use mathlib.Core.List.{List, [], _∷_}
+use mathlib.Core.Path.{_≡_}
+use native.Mathlib.Omega.{arith}
+use lib.Dec.{eqb}
+use lib.ListN.{take, drop}
+use lib.Seq.{getD-drop}
+use Rattle.format.specs.Bytes.{if_then_else_, littleEndian, part, u8, u16, u32, u64}
+use Rattle.format.specs.Walk.{symbolBlock, shown, Walk, ret, check, enterBlock, _>>=_, _>>_}
+use Rattle.format.specs.Heap.{Heap}
+use Rattle.format.specs.Names.{Bound, stringAt}
+use Rattle.format.specs.Symbols.{Entry, Group, GroupState, entryWalk, entries, symbolWalk}
+use Rattle.format.specs.Tree.{children, branches, subtree, treeWalk, groupWalk}
+use Rattle.links.proofs.Outcomes.{bind-done}
+use Rattle.demand.specs.Bytes.{IsBytes}
+use Rattle.demand.proofs.BytesBack.{part-bytes}
+use Rattle.demand.proofs.Rises.{block-entered, Rises, rises-ret, rises-after, rises-then, rises-on}
+
+two-small : (l : List ℕ) → IsBytes l → littleEndian (take 2 l) < 65536
+unfolding littleEndian
+two-small [] b = omega arith
+two-small (x ∷ []) b = omega (arith, b 0)
+two-small (x ∷ y ∷ l) b = omega (arith, b 0, b 1)
+
+-- a number of two bytes
+u16-small : (l : List ℕ) (a : ℕ) → IsBytes l → u16 l a < 65536
+u16-small l a b = two-small (drop a l) (λ k. rw getD-drop (b (a + k)))
+
+module _ (im : List ℕ) (bytes : IsBytes im) (eof room : ℕ) {S : Type 0} (μ : S → ℕ) where
+  abbrev found : GroupState S → ℕ
+  found s = μ (s .found)
+
+  module _ (g : Group S) (visit : (e : Entry) (s : S) → Rises im eof room μ (g .visit e s) (μ s + 1)) where
+    entry-rises : (bounds : List Bound) (b : List ℕ) (s : GroupState S) → Rises im eof room found (entryWalk g bounds b s) (μ (s .found) + 1)
+    unfolding entryWalk
+    entry-rises bounds b s =
+        rises-after im eof room found _ _ _
+        (λ name.
+        rises-after im eof room found _ _ _
+        (λ _.
+        rises-after im eof room found _ _ _
+        (λ _.
+        rises-after im eof room found _ _ _
+        (λ _.
+        rises-after im eof room found _ _ _
+        (λ _. last name)))))
+      where
+        last : (name : List ℕ) → Rises im eof room found (g .visit (record { name = name; type = u32 b 16; header = u64 b 8 }) (s .found) >>= λ f. ret (record { last = name; found = f })) (μ (s .found) + 1)
+        last name =
+            let e : Entry = record { name = name; type = u32 b 16; header = u64 b 8 } in
+            rises-on im eof room μ found (g .visit e (s .found)) (λ f. ret (record { last = name; found = f })) (μ (s .found) + 1) (visit e (s .found))
+            (λ f. rises-ret im eof room found (record { last = name; found = f }) (μ f) (omega arith))
+
+    entries-rise : (bounds : List Bound) (n : ℕ) (b : List ℕ) (s : GroupState S) → Rises im eof room found (entries g bounds n b s) (μ (s .found) + n)
+    unfolding entries
+    entries-rise bounds zero b s = rises-ret im eof room found s _ (omega arith)
+    entries-rise bounds (suc n) b s =
+        let sum : μ (s .found) + suc n ≡ μ (s .found) + 1 + n = omega arith in
+        rw sum
+        (rises-then im eof room found found (entryWalk g bounds b s) (λ s′. entries g bounds n (drop 40 b) s′) (μ (s .found) + 1) n (entry-rises bounds b s)
+        (λ s′. entries-rise bounds n (drop 40 b) s′))
+
+    -- a symbol node is one block
+    symbol-rises : (at : ℕ) (bounds : List Bound) (s : GroupState S) → Rises im eof room found (symbolWalk g at bounds s) (μ (s .found))
+    unfolding symbolWalk shown
+    symbol-rises at bounds s bs a ms e =
+        let size = 8 + 80 * g .leafK in
+        let d = bind-done im eof room (enterBlock symbolBlock at size) _ bs a ms e in
+        let n = block-entered im eof room symbolBlock at size bs (d .0) (d .1) (d .2) in
+        let own : d .0 ≡ part im at size = n .1 in
+        let count : u16 (d .0) 6 < 65536 = rw own (u16-small (part im at size) 6 (part-bytes im at size bytes)) in
+        let rest =
+        rises-after im eof room found _ _ (μ (s .found) + u16 (d .0) 6)
+        (λ _.
+        rises-after im eof room found _ _ (μ (s .found) + u16 (d .0) 6)
+        (λ _. rises-after im eof room found _ _ (μ (s .found) + u16 (d .0) 6) (λ _. entries-rise bounds (u16 (d .0) 6) (drop 8 (d .0)) s))) (d .1) a ms (d .3) in
+        omega (arith, rest, n .0)
+
+    children-rise : (h : Heap) (walk : ℕ → List Bound → GroupState S → Walk (GroupState S)) →
+        ((at : ℕ) (bounds : List Bound) (s : GroupState S) → Rises im eof room found (walk at bounds s) (μ (s .found))) →
+        (n : ℕ) (b : List ℕ) (bounds : List Bound) (s : GroupState S) → Rises im eof room found (children h walk n b bounds s) (μ (s .found))
+    unfolding children
+    children-rise h walk r zero b bounds s = rises-ret im eof room found s _ (omega arith)
+    children-rise h walk r (suc n) b bounds s =
+        let own : List Bound = record { low = stringAt (h .segment) (u64 b 0); high = stringAt (h .segment) (u64 b 16) } ∷ bounds in
+        rises-on im eof room found found (walk (u64 b 8) own s) (λ s′. children h walk n (drop 16 b) bounds s′) (μ (s .found)) (r (u64 b 8) own s) (λ s′. children-rise h walk r n (drop 16 b) bounds s′)
+
+    branches-rise : (h : Heap) (walk : ℕ → List Bound → GroupState S → Walk (GroupState S)) →
+        ((at : ℕ) (bounds : List Bound) (s : GroupState S) → Rises im eof room found (walk at bounds s) (μ (s .found))) →
+        (b : List ℕ) (bounds : List Bound) (s : GroupState S) → Rises im eof room found (branches h walk b bounds s) (μ (s .found))
+    unfolding branches
+    branches-rise h walk r b bounds s = rises-after im eof room found _ _ _ (λ _. children-rise h walk r (u16 b 6) (drop 24 b) bounds s)
+
+    subtree-rises : (level at : ℕ) (bounds : List Bound) (s : GroupState S) → Rises im eof room found (subtree g level at bounds s) (μ (s .found))
+    unfolding subtree
+    subtree-rises zero at bounds s = symbol-rises at bounds s
+    subtree-rises (suc level) at bounds s =
+        rises-after im eof room found _ _ _
+        (λ b.
+        rises-after im eof room found _ _ _
+        (λ _. rises-after im eof room found _ _ _ (λ _. branches-rise (g .heap) (subtree g level) (subtree-rises level) b bounds s)))
+
+    tree-rises : (at : ℕ) (s : GroupState S) → Rises im eof room found (treeWalk g at s) (μ (s .found))
+    unfolding treeWalk
+    tree-rises at s = rises-after im eof room found _ _ _ (λ b. go b (eqb (u16 b 6) 0))
+      where
+        go : (b : List ℕ) (t : Bool) → Rises im eof room found (if t then check (eqb (u8 b 5) 0) 8 >> ret s else branches (g .heap) (subtree g (u8 b 5)) b [] s) (μ (s .found))
+        go b true = rises-after im eof room found _ _ _ (λ _. rises-ret im eof room found s _ (omega arith))
+        go b false = branches-rise (g .heap) (subtree g (u8 b 5)) (subtree-rises (u8 b 5)) b [] s
+
+  pub group-rises : (visit : Entry → S → Walk S) → ((e : Entry) (s : S) → Rises im eof room μ (visit e s) (μ s + 1)) → (leafK internalK tree heap : ℕ) (s : S) →
+      Rises im eof room μ (groupWalk leafK internalK tree heap visit s) (μ s)
+  unfolding groupWalk
+  group-rises visit r leafK internalK tree heap s = rises-after im eof room μ _ _ _ (λ h. go h)
+    where
+      go : (h : Heap) → Rises im eof room μ (treeWalk (record { leafK = leafK; internalK = internalK; heap = h; visit = visit }) tree (record { last = []; found = s }) >>= λ t. ret (t .found)) (μ s)
+      go h =
+          let g : Group S = record { leafK = leafK; internalK = internalK; heap = h; visit = visit } in
+          rises-on im eof room found μ (treeWalk g tree (record { last = []; found = s })) (λ t. ret (t .found)) (μ s) (tree-rises g r tree (record { last = []; found = s }))
+          (λ t. rises-ret im eof room μ (t .found) (μ (t .found)) (omega arith))

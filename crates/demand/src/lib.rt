@@ -1,0 +1,1 @@
+// Theorems about the definitions of mending and undo. There is no code here.
