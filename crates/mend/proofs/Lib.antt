@@ -1,0 +1,4 @@
+pub mod LogLaws
+pub mod WrittenLaws
+pub mod AuditLaws
+pub mod ReplyLaws
