@@ -54,7 +54,7 @@ pub fn mend(image: &mut [u8], list: &mut [u64], log: &mut [u64], limit: u64) -> 
     }
     let ledger = reply.ledger;
     let entries = undo_log::wrong(ledger);
-    if log.len() / 2 <= entries {
+    if log.len() / 2 < entries {
         return refused(list, log, SHORT_LOG);
     }
     undo_log::write_log(log, ledger);
