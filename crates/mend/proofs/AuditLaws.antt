@@ -1,5 +1,5 @@
 -- What the audit's promise tells of the ledger: every count lies inside the image.
-use Prim.Native.Nat.{ℕ, zero, suc, _+_, _≤_, _<_}
+use Prim.Native.Nat.{ℕ, zero, suc, _≤_, _<_}
 use mathlib.Core.Bool.{Bool, true, false, not}
 use mathlib.Core.List.{List, [], _∷_}
 use mathlib.Core.Path.{_≡_, refl, ap, sym, _∙_}
@@ -14,7 +14,7 @@ use Rattle.format.specs.Walk.{done}
 use Rattle.format.specs.Superblock.{Superblock, opened, notOpened, openImage, signature, superblockRead, superblockSound, superblockFields}
 use Rattle.format.specs.Ledger.{Linked}
 use Rattle.format.specs.Audit.{Counted, countedIn, auditRun}
-use Rattle.format.specs.Answers.{AuditReply, audit, auditEnd}
+use Rattle.format.specs.Answers.{AuditReply, audit}
 use Rattle.image.proofs.SuperblockLaws.{end-inside}
 use Rattle.ledger.specs.Links.{addressesOf}
 use Rattle.ledger.specs.Report.{countedPlaces, countedOf}

@@ -1,14 +1,14 @@
 -- From what mending returns and leaves to the reply.
-use Prim.Native.Nat.{ℕ, zero, suc, _+_, _*_, _≤_, _<_, min}
-use mathlib.Core.List.{List, [], _∷_}
-use mathlib.Core.Path.{_≡_, refl, ap, sym, _∙_}
+use Prim.Native.Nat.{ℕ, zero, suc, _*_, _≤_, _<_, min}
+use mathlib.Core.List.{List}
+use mathlib.Core.Path.{_≡_, refl, sym, _∙_}
 use native.Mathlib.Omega.{arith}
 use borrow.Author.Tests.{le-leb, lt-leb}
 use lib.ListN.{length, take, replicate}
-use Rattle.format.specs.Bytes.{if_then_else_, padded}
+use Rattle.format.specs.Bytes.{padded}
 use Rattle.format.specs.Log.{Change, logWords, changes, written}
 use Rattle.format.specs.Mend.{corrections}
-use Rattle.format.specs.Answers.{AuditReply, MendReply, audit, mend, mendAfter, mendedBy, notMended}
+use Rattle.format.specs.Answers.{AuditReply, audit, mend, mendAfter, mendedBy, notMended}
 use Rattle.ledger.specs.Report.{countedOf}
 use Rattle.audit.specs.Audit.{AuditIs}
 use Rattle.audit.specs.declared.Reply.{Reply}

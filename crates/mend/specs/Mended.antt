@@ -2,7 +2,6 @@
 use Prim.Native.Nat.{ℕ, _+_, _^_, _≤_, _<_}
 use mathlib.Core.List.{List, [], _∷_}
 use lib.ListN.{getD}
-use Rattle.format.specs.Audit.{Counted}
 use Rattle.format.specs.Log.{Change}
 use Rattle.format.specs.Mend.{corrections}
 use Rattle.format.specs.Answers.{MendReply}

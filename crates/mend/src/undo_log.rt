@@ -67,7 +67,8 @@ pub fn write_log(log: &mut [u64], ledger: Ledger)
         );
         i += 1;
     }
-    blocks::clear_from(log, n + n);
+    let used = n + n;
+    blocks::clear_from(log, used);
 }
 
 // Performs the first entries of a log: the new count of each is written into its field.

@@ -1,5 +1,4 @@
 -- All words of both lists are cleared.
-use native.Mathlib.Omega.{arith}
 use denote.Ref.{now}
 use mathlib.Core.Path.{refl}
 use Rattle.walk.proofs.BlockList.{all-cleared}

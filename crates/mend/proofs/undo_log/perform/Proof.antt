@@ -1,12 +1,11 @@
 -- The first i entries are performed; each turn performs one more.
 use borrow.Author.Needs.{needs}
 use native.Mathlib.Omega.{arith}
-use Prim.Native.Nat.{_+_, _-_, _≤_}
+use Prim.Native.Nat.{_-_, _≤_}
 use mathlib.Core.Path.{_≡_, refl, _∙_}
 use denote.Ref.{now}
 use lib.ListN.{length}
 use Rattle.format.specs.Log.{changes, written}
-use Rattle.walk.proofs.Overwrite.{length-overwrite}
 use Rattle.mend.proofs.WrittenLaws.{perform-more}
 use Rattle.mend.proofs.undo_log.perform.Statement.{statement}
 use Rattle.mend.proofs.undo_log.perform.Tie as tie

@@ -2,7 +2,7 @@
 use borrow.Author.Needs.{needs}
 use native.Mathlib.Omega.{arith}
 use Prim.Native.Nat.{_+_, _-_, _≤_, _<_}
-use mathlib.Core.Path.{_≡_, refl, _∙_}
+use mathlib.Core.Path.{_≡_, refl}
 use denote.Ref.{now}
 use lib.ListN.{length, take}
 use Rattle.format.specs.Limits.{objectsMost}
@@ -72,17 +72,17 @@ loop-again c =
     (omega arith, omega arith, w .0, w .1, news-more (a .addresses) (a .stored) (a .«true_counts») (l .i) (l .inv .4) (p .ensures .1 .1))
 
 -- the entries have room
-behind : (c : tie.After-clear-from-arg Inv-loop μ-loop) → c .before .before .loop .n + c .before .before .loop .n ≤ length (now (c .before .before .before .before .args .log))
+behind : (c : tie.After-loop Inv-loop μ-loop) → c .before .loop .n + c .before .loop .n ≤ length (now (c .before .before .before .args .log))
 behind c =
-    let l = c .before .before .loop in
-    let a = c .before .before .before .before .args .t2 in
+    let l = c .before .loop in
+    let a = c .before .before .before .args .t2 in
     omega (arith, wrong-within (a .addresses) (a .stored) (a .«true_counts») (l .i) (a .objects) (l .inv .0))
 
-add-clear-from : tie.Need-add-clear-from Inv-loop μ-loop
-add-clear-from c = omega (arith, behind c)
+add-used : tie.Need-add-used Inv-loop μ-loop
+add-used c = omega (arith, behind c)
 
 clear-from-requires : tie.Need-clear-from-requires Inv-loop μ-loop
-clear-from-requires c κs = omega (arith, behind c)
+clear-from-requires c κs = omega (arith, behind (c .before))
 
 same-length : tie.Need-same-length Inv-loop μ-loop
 same-length c = search needs
@@ -111,7 +111,7 @@ write-log-spec =
     add-i
     loop-less
     loop-again
-    add-clear-from
+    add-used
     clear-from-requires
     same-length
     returns)
