@@ -1,14 +1,15 @@
-/* Ebikwotula: the audit of hard links in an HDF5 file, path lookup and dataset description, for C.
+/* Ebikwotula: the audit of hard links in an HDF5 file, mending and undo of their counts, path lookup and dataset
+ * description, for C.
  *
  * Link with libebikwotula.a (rt staticlib ebikwotula).
  *
  * Slices. Each slice of bytes is passed as a pointer to its first byte and its length in bytes. The slices of one call
  * must not overlap. A pointer must not be null, also where the length is 0. A call keeps no pointer and allocates
- * nothing; its lists take at most about 20 KB of the stack.
+ * nothing; its lists take at most about 20 KB of the stack, those of a mending about 30 KB.
  *
  * Words. A word is an unsigned number of 64 bits, written as 8 bytes, the lowest byte first, on every machine. Word k of
  * a slice is its bytes 8 * k to 8 * k + 7. A slice has as many words as it has whole eights of bytes. Every byte of
- * blocks and reply is written by each call; bytes that hold no word named below are 0.
+ * blocks, log and reply is written by each call; bytes that hold no word named below are 0.
  */
 #ifndef EBIKWOTULA_H
 #define EBIKWOTULA_H
@@ -20,15 +21,22 @@
 extern "C" {
 #endif
 
-/* The least length of reply, in bytes: 770 words for the audit, 3 for a lookup, 74 for a description. */
+/* The least length of reply, in bytes: 770 words for the audit, 3 for a lookup, 74 for a description, 3 for a mending,
+ * 1 for undo. */
 #define EBIKWOTULA_AUDIT_REPLY_BYTES 6160
 #define EBIKWOTULA_LOOKUP_REPLY_BYTES 24
 #define EBIKWOTULA_DESCRIBE_REPLY_BYTES 592
+#define EBIKWOTULA_MEND_REPLY_BYTES 24
+#define EBIKWOTULA_UNDO_REPLY_BYTES 8
 
 /* The most that a call uses of blocks, in bytes: two words for each of 1,024 blocks. */
 #define EBIKWOTULA_BLOCKS_BYTES 16384
 
-/* The answers. 12 is the audit's alone; 14 to 17 are those of lookup and description, and 20 the description's alone. */
+/* The most that a mending uses of log, in bytes: two words for each of 256 objects. */
+#define EBIKWOTULA_LOG_BYTES 4096
+
+/* The answers. 12 is given by audit and mending alone, 14 to 17 by lookup and description alone, 18 by mending and undo
+ * alone, 19 by undo alone, and 20 by description alone. */
 enum ebikwotula_answer {
     EBIKWOTULA_DONE = 0,           /* done */
     EBIKWOTULA_IMAGE_LENGTH = 1,   /* the image has under 96 or over 1,048,576 bytes */
@@ -49,6 +57,8 @@ enum ebikwotula_answer {
     EBIKWOTULA_NAME_ABSENT = 15,   /* a group of the path has no such name */
     EBIKWOTULA_SYMBOLIC_LINK = 16, /* a symbolic link before the last component */
     EBIKWOTULA_NOT_A_GROUP = 17,   /* an object that is no group before the last component */
+    EBIKWOTULA_SHORT_LOG = 18,     /* the log has too few words for its entries */
+    EBIKWOTULA_LOG_MISMATCH = 19,  /* the log does not fit this image */
     EBIKWOTULA_NOT_A_DATASET = 20  /* the path leads to something else than a dataset */
 };
 
@@ -126,6 +136,54 @@ uint32_t ebikwotula_lookup(const uint8_t *image, size_t image_length, const uint
  */
 uint32_t ebikwotula_describe(const uint8_t *image, size_t image_length, const uint8_t *path, size_t path_length,
                              uint8_t *blocks, size_t blocks_length, uint8_t *reply, size_t reply_length);
+
+/* Mends the file whose bytes are image: audits it, writes the undo log whole, and then sets wrong reference counts right,
+ * in the order of the log, but no more of them than limit. A count is wrong if the stored and the true count of an
+ * object differ. A limit of 0 writes the log and leaves the image as it is.
+ *
+ * Returns one of the answers above. 13 is given first, before the image is read, if reply has under 3 words; 18 after the
+ * audit, if log has under two words for each wrong count.
+ *
+ * If the answer is 0:
+ *   blocks  is as after the audit. Room is as in the audit.
+ *   log     has an entry of two words for each wrong count, in the order in which the objects were discovered: for entry
+ *           i, from 0 on,
+ *           word 2 * i       the address of the count's field, which has 4 bytes: the object's address plus 4
+ *           word 2 * i + 1   the old count times 2^32 plus the true count
+ *   reply   word 0   the number of blocks entered
+ *           word 1   the number of entries in the log, at most 256
+ *           word 2   the number of counts written: the lesser of limit and the number of entries
+ *   image   is changed in the fields of the entries written, and nowhere else.
+ *
+ * If the answer is not 0, the image is not changed, and every byte of blocks, log and reply is 0.
+ */
+uint32_t ebikwotula_mend(uint8_t *image, size_t image_length, uint8_t *blocks, size_t blocks_length, uint8_t *log,
+                         size_t log_length, uint8_t *reply, size_t reply_length, uint64_t limit);
+
+/* Undo: writes the old reference counts of a mending's log back into image, the bytes of the mended file.
+ *
+ * The log has two words for each entry, in the order of the mending's writes: for entry i, from 0 on,
+ *   word 2 * i       the place in image of a count, which has 4 bytes, the lowest first
+ *   word 2 * i + 1   the old count times 2^32, plus the new count
+ * It may have any length, and is not changed. entries is the number of its entries to take, from the first on. limit is
+ * the most counts to write: the old counts of the last limit of the entries taken are written, or of all if limit is
+ * above entries, the last entry first.
+ *
+ * Returns one of the answers above, the first of these that holds:
+ *   13   reply has under 1 word; nothing else is read
+ *   1    image has a length that is not read here
+ *   18   log has under two words for each entry
+ *   19   for some entry, also one that limit leaves out, the count is not inside image, or is neither the old nor the new
+ *   0    done
+ *
+ * If the answer is 0:
+ *   image   has the old counts written, and no other byte is changed
+ *   reply   word 0   the number of counts written
+ *
+ * If the answer is not 0, image is not changed, and every byte of reply is 0.
+ */
+uint32_t ebikwotula_undo(uint8_t *image, size_t image_length, const uint8_t *log, size_t log_length, uint8_t *reply,
+                         size_t reply_length, uint64_t entries, uint64_t limit);
 
 #ifdef __cplusplus
 }

@@ -22,12 +22,12 @@ use Rattle.ebikwotula.proofs.Lent.{roomOf-room}
 use Rattle.ebikwotula.proofs.Ended.{ended, too-short, long-enough, Ends, count-fits, done-is, refused-is}
 
 -- the run depends on the words lent by their room alone
-run-room : (im : List ℕ) (k : ℕ) → auditRun im (2 * roomOf k) ≡ auditRun im k
+pub run-room : (im : List ℕ) (k : ℕ) → auditRun im (2 * roomOf k) ≡ auditRun im k
 unfolding auditRun
 run-room im k = ap (λ (m : ℕ). runOpened (openImage im) (λ s. run im (s .endOfFile) m (auditWalk s) [])) (roomOf-room k)
 
 -- never more blocks than the room allows
-run-fits : (im : List ℕ) (k : ℕ) → length (left (auditRun im k)) ≤ roomOf k
+pub run-fits : (im : List ℕ) (k : ℕ) → length (left (auditRun im k)) ≤ roomOf k
 unfolding auditRun
 run-fits im k = go (openImage im)
   where

@@ -5,3 +5,5 @@ mod Follow
 mod Audited
 mod Located
 mod Described
+mod Mended
+mod Undone

@@ -2,4 +2,6 @@
 pub mod c_audit;
 pub mod c_describe;
 pub mod c_lookup;
+pub mod c_mend;
+pub mod c_undo;
 mod slices;

@@ -1,1 +1,2 @@
 pub mod UndoLaws
+mod ByteLaws

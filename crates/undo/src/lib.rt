@@ -1,4 +1,6 @@
 // Undo: writes the old counts of a mender's log back into the image.
+pub mod bytes;
+
 use walk::numbers::put_u32;
 use walk::numbers::u32_at;
 ghost use mathlib.Core.Path.{_≡_};

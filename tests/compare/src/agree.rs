@@ -2,16 +2,20 @@
 
 use crate::library;
 use crate::reader::front::{audit_bytes, describe_bytes, lookup_bytes};
+use crate::reader::front::{mend_bytes, undo_bytes};
 use std::fmt::Display;
 
 /// What lay in the slices before a call.
 const BEFORE: u8 = 0xa5;
 
-/// The slices lent to a call, as it leaves them.
-#[derive(PartialEq, Eq, Default)]
+/// The slices lent to a call for writing, as it leaves them. The image is here after a mend or an undo, the log after a
+/// mend; else they are empty.
+#[derive(Clone, PartialEq, Eq, Default)]
 pub struct Lent {
     pub blocks: Vec<u8>,
     pub reply: Vec<u8>,
+    pub log: Vec<u8>,
+    pub image: Vec<u8>,
 }
 
 impl Lent {
@@ -20,12 +24,19 @@ impl Lent {
         self.blocks.resize(blocks, BEFORE);
         self.reply.clear();
         self.reply.resize(reply, BEFORE);
+        self.log.clear();
+        self.image.clear();
     }
 
-    /// Nothing but zeros, as every refusal leaves them.
+    fn prepare_image(&mut self, image: &[u8], log: usize) {
+        self.log.resize(log, BEFORE);
+        self.image.extend_from_slice(image);
+    }
+
+    /// Nothing but zeros in list, reply and log, as every refusal leaves them.
     pub fn is_clear(&self) -> bool {
-        let zero = |byte: &u8| *byte == 0;
-        self.blocks.iter().all(zero) && self.reply.iter().all(zero)
+        let clear = |slice: &[u8]| slice.iter().all(|byte| *byte == 0);
+        clear(&self.blocks) && clear(&self.reply) && clear(&self.log)
     }
 }
 
@@ -101,6 +112,62 @@ impl Pair {
         number
     }
 
+    /// Both mends of an image, with so many bytes lent for blocks, log and reply.
+    pub fn mends_agree(
+        &mut self,
+        name: &str,
+        image: &[u8],
+        (blocks, log, reply): (usize, usize, usize),
+        limit: u64,
+    ) -> u32 {
+        for lent in [&mut self.library, &mut self.reader] {
+            lent.prepare(blocks, reply);
+            lent.prepare_image(image, log);
+        }
+        let Lent {
+            blocks,
+            reply,
+            log,
+            image,
+        } = &mut self.reader;
+        let mine = mend_bytes(image, blocks, log, reply, limit);
+        let Lent {
+            blocks,
+            reply,
+            log,
+            image,
+        } = &mut self.library;
+        let number = library::mend(image, blocks, log, reply, limit);
+        let bytes = log.len();
+        let title = format_args!("{name}, mend, limit {limit}, {bytes} bytes for the log");
+        self.compare(&title, number, mine);
+        number
+    }
+
+    /// Both undos of so many entries of a log, with so many bytes lent for the reply.
+    pub fn undos_agree(
+        &mut self,
+        name: &str,
+        image: &[u8],
+        log: &[u8],
+        reply: usize,
+        (entries, limit): (u64, u64),
+    ) -> u32 {
+        for lent in [&mut self.library, &mut self.reader] {
+            lent.prepare(0, reply);
+            lent.prepare_image(image, 0);
+        }
+        let Lent { reply, image, .. } = &mut self.reader;
+        let mine = undo_bytes(image, log, reply, entries, limit);
+        let copy = log.to_vec();
+        let Lent { reply, image, .. } = &mut self.library;
+        let number = library::undo(image, &copy, reply, entries, limit);
+        let title = format_args!("{name}, undo, {entries} entries, limit {limit}");
+        assert!(copy == log, "{title}: the log changed");
+        self.compare(&title, number, mine);
+        number
+    }
+
     /// What the library's last call left.
     pub fn left(&self) -> &Lent {
         &self.library
@@ -122,6 +189,8 @@ impl Pair {
         let slices = [
             ("list", &self.library.blocks, &self.reader.blocks),
             ("reply", &self.library.reply, &self.reader.reply),
+            ("log", &self.library.log, &self.reader.log),
+            ("image", &self.library.image, &self.reader.image),
         ];
         for (slice, library, reader) in slices {
             if let Some(at) = (0..library.len()).find(|at| library[*at] != reader[*at]) {

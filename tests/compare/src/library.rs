@@ -32,6 +32,29 @@ mod exported {
             reply: *mut u8,
             reply_length: usize,
         ) -> u32;
+
+        pub fn ebikwotula_mend(
+            image: *mut u8,
+            image_length: usize,
+            blocks: *mut u8,
+            blocks_length: usize,
+            log: *mut u8,
+            log_length: usize,
+            reply: *mut u8,
+            reply_length: usize,
+            limit: u64,
+        ) -> u32;
+
+        pub fn ebikwotula_undo(
+            image: *mut u8,
+            image_length: usize,
+            log: *const u8,
+            log_length: usize,
+            reply: *mut u8,
+            reply_length: usize,
+            entries: u64,
+            limit: u64,
+        ) -> u32;
     }
 }
 
@@ -82,6 +105,48 @@ pub fn describe(image: &[u8], path: &[u8], blocks: &mut [u8], reply: &mut [u8]) 
             blocks.len(),
             reply.as_mut_ptr(),
             reply.len(),
+        )
+    }
+}
+
+/// Mending with a write limit. On answer 0 the reply's words are the block count, the entries and the writes; the log's
+/// are each entry's field address and its old count times 2^32 plus its true count.
+pub fn mend(
+    image: &mut [u8],
+    blocks: &mut [u8],
+    log: &mut [u8],
+    reply: &mut [u8],
+    limit: u64,
+) -> u32 {
+    // Each pointer is that of a live slice of the length beside it.
+    unsafe {
+        exported::ebikwotula_mend(
+            image.as_mut_ptr(),
+            image.len(),
+            blocks.as_mut_ptr(),
+            blocks.len(),
+            log.as_mut_ptr(),
+            log.len(),
+            reply.as_mut_ptr(),
+            reply.len(),
+            limit,
+        )
+    }
+}
+
+/// Undo of so many entries with a write limit. On answer 0 the reply's word is the writes.
+pub fn undo(image: &mut [u8], log: &[u8], reply: &mut [u8], entries: u64, limit: u64) -> u32 {
+    // Each pointer is that of a live slice of the length beside it.
+    unsafe {
+        exported::ebikwotula_undo(
+            image.as_mut_ptr(),
+            image.len(),
+            log.as_ptr(),
+            log.len(),
+            reply.as_mut_ptr(),
+            reply.len(),
+            entries,
+            limit,
         )
     }
 }

@@ -1,11 +1,12 @@
-//! The audit, path lookup and dataset description as the C front end offers them: "on numbers and byte slices; there a
-//! word is 8 little-endian bytes", "C returns the number; other fields go as words to a further slice, spare bytes
-//! zero".
+//! The audit, path lookup, dataset description, mending and undo as the C front end offers them: "on numbers and byte
+//! slices; there a word is 8 little-endian bytes", "C returns the number; other fields go as words to a further slice,
+//! spare bytes zero".
 
 use super::audit::{self, Audited};
 use super::blocks::Blocks;
 use super::describe::{self, Described, Description};
 use super::lookup;
+use super::mend;
 use super::refusal::{ask, Refusal, Walked};
 
 /// "block count, objects, then address, stored and true count of each": 2 words and 3 for each of 256 objects.
@@ -17,6 +18,12 @@ pub const LOOKUP_WORDS: usize = 3;
 /// Block count, rank, 32 sizes, 32 maxima, class, version, class bits, element size, shared address, layout class, data
 /// address and data size.
 pub const DESCRIBE_WORDS: usize = 74;
+
+/// "block count, entries, writes"
+pub const MEND_WORDS: usize = 3;
+
+/// "undo's writes"
+pub const UNDO_WORDS: usize = 1;
 
 pub fn audit_bytes(image: &[u8], blocks: &mut [u8], reply: &mut [u8]) -> u32 {
     let audited = long_enough(reply, REPLY_WORDS).and_then(|()| audit::run(image, room_of(blocks)));
@@ -59,6 +66,39 @@ pub fn describe_bytes(image: &[u8], path: &[u8], blocks: &mut [u8], reply: &mut 
         }
         Err(refusal) => refuse(refusal, blocks, reply),
     }
+}
+
+/// A refused mend has zeros in every field, its list and its log, and so these too are written.
+pub fn mend_bytes(
+    image: &mut [u8],
+    blocks: &mut [u8],
+    log: &mut [u8],
+    reply: &mut [u8],
+    limit: u64,
+) -> u32 {
+    if let Err(refusal) = long_enough(reply, MEND_WORDS) {
+        log.fill(0);
+        return refuse(refusal, blocks, reply);
+    }
+    let mended = mend::mend(image, blocks.len() / 8, log.len() / 8, limit);
+    write_words(blocks, &mended.list);
+    write_words(log, &mended.log);
+    write_words(reply, &[mended.block_count, mended.entries, mended.writes]);
+    mended.number
+}
+
+/// A refused undo has no writes.
+pub fn undo_bytes(image: &mut [u8], log: &[u8], reply: &mut [u8], entries: u64, limit: u64) -> u32 {
+    if let Err(refusal) = long_enough(reply, UNDO_WORDS) {
+        return refuse(refusal, &mut [], reply);
+    }
+    let words: Vec<u64> = log
+        .chunks_exact(8)
+        .map(|word| u64::from_le_bytes(word.try_into().expect("8 bytes")))
+        .collect();
+    let undone = mend::undo(image, &words, entries, limit);
+    write_words(reply, &[undone.writes]);
+    undone.number
 }
 
 /// "Under 770, 3 or 1 words gives 13 first, in C only." Lookup and description have their own least number of words.
