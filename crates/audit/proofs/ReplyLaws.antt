@@ -6,7 +6,8 @@ use native.Mathlib.Omega.{arith}
 use lib.ListN.{length, getD, take, drop, replicate, length-replicate}
 use Rattle.format.specs.Limits.{objectsMost, blocksMost}
 use Rattle.format.specs.Blocks.{Block, roomOf, blockList}
-use Rattle.format.specs.Walk.{done, refused, run}
+use Rattle.format.specs.declared.Refusal.{Refusal}
+use Rattle.format.specs.Walk.{fault, done, refused, run}
 use Rattle.format.specs.Superblock as definitions
 use Rattle.format.specs.Superblock.{opened, notOpened, openImage}
 use Rattle.format.specs.Ledger.{Linked}
@@ -30,7 +31,7 @@ use Rattle.audit.specs.Audit.{refusedWith, Lists, ImageWalked, AuditedIs
 use Rattle.audit.specs.declared.Audited.{Audited}
 
 -- the audit's run, by what opening the image gave
-run-not-opened : (im : List ℕ) (lent n : ℕ) → notOpened n ≡ openImage im → auditRun im lent ≡ refused n []
+run-not-opened : (im : List ℕ) (lent n : ℕ) → notOpened n ≡ openImage im → auditRun im lent ≡ refused (fault n 0) []
 unfolding auditRun
 run-not-opened im lent n e = rw (← e)
 
@@ -39,10 +40,10 @@ unfolding auditRun
 run-opened im lent s e = rw (← e)
 
 -- a refusal
-module _ (im : List ℕ) (lent n : ℕ) (ws addresses stored counts : List ℕ) (zeros : ws ≡ replicate lent 0) where
-  refused-is : (bs : List Block) → auditRun im lent ≡ refused n bs → AuditedIs im lent ws addresses stored counts (refusedWith n)
+module _ (im : List ℕ) (lent : ℕ) (ws addresses stored counts : List ℕ) (zeros : ws ≡ replicate lent 0) where
+  refused-is : (r : Refusal) (bs : List Block) → auditRun im lent ≡ refused r bs → AuditedIs im lent ws addresses stored counts (refusedWith r)
   unfolding audit countedPlaces
-  refused-is bs e = record {
+  refused-is r bs e = record {
     reply = rw (e, zeros);
     fits = omega arith;
     addressesRest = λ h. absurd (omega arith);
@@ -51,15 +52,15 @@ module _ (im : List ℕ) (lent n : ℕ) (ws addresses stored counts : List ℕ) 
   }
 
   -- the image can't be opened
-  pub not-opened-is : notOpened n ≡ openImage im → AuditedIs im lent ws addresses stored counts (refusedWith n)
-  not-opened-is e = refused-is [] (run-not-opened im lent n e)
+  pub not-opened-is : (n : ℕ) → notOpened n ≡ openImage im → AuditedIs im lent ws addresses stored counts (refusedWith (fault n 0))
+  not-opened-is n e = refused-is (fault n 0) [] (run-not-opened im lent n e)
 
 -- the walk was refused
-pub stopped-is : (im ws : List ℕ) (s : Superblock) (x : ℕ) (ws₁ addresses₁ counts₁ ws₂ addresses stored counts : List ℕ) → opened (superblockOf s) ≡ openImage im →
+pub stopped-is : (im ws : List ℕ) (s : Superblock) (x : Refusal) (ws₁ addresses₁ counts₁ ws₂ addresses stored counts : List ℕ) → opened (superblockOf s) ≡ openImage im →
     ImageWalked im ws s ws₁ addresses₁ counts₁ (Stopped x) → ws₂ ≡ replicate (length ws) 0 → AuditedIs im (length ws) ws₂ addresses stored counts (refusedWith x)
 stopped-is im ws s x ws₁ addresses₁ counts₁ ws₂ addresses stored counts e w zeros =
     let o = walked-refused ws ws₁ x _ (w .walked) in
-    refused-is im (length ws) x ws₂ addresses stored counts zeros (o .0) (run-opened im (length ws) (superblockOf s) e ∙ o .1)
+    refused-is im (length ws) ws₂ addresses stored counts zeros x (o .0) (run-opened im (length ws) (superblockOf s) e ∙ o .1)
 
 getD-addresses : (n k : ℕ) (xs ts : List ℕ) → k < n → getD (addressesOf (linkedOf n xs ts)) k 0 ≡ getD xs k 0
 unfolding addressesOf linkedOf

@@ -6,6 +6,7 @@ use native.Mathlib.Omega.{arith}
 use lib.ListN.{length}
 use Rattle.format.specs.Limits.{objectsMost}
 use Rattle.format.specs.Blocks.{Block, block, roomOf, entryAnswer}
+use Rattle.format.specs.declared.Refusal.{Refusal}
 use Rattle.format.specs.Walk.{Walk, _>>=_, _>>_, done, refused, ifEntered, run}
 use Rattle.format.specs.Superblock.{superblockWalk}
 use Rattle.format.specs.Ledger.{Linked, linked}
@@ -25,9 +26,9 @@ use Rattle.object.specs.declared.object.ObjectRead.the-variants.{Stopped}
 use Rattle.audit.specs.Audit.{ImageWalked}
 
 -- the superblock, where it was entered, is one block
-one-entered : (answer : ℕ) (b : Block) (n : ℕ) → _≡_ {A = Ended (Unit {0})} (ended tt n) (endOf {A = Unit {0}} (ifEntered answer (done tt (b ∷ [])) (λ m. refused m []))) → n ≡ 1
-one-entered zero b n e = cc
-one-entered (suc answer) b n e = let z : _≡_ {A = ℕ} 0 1 = cc in absurd (omega arith)
+one-entered : (answer : ℕ) (f : ℕ → Refusal) (b : Block) (n : ℕ) → _≡_ {A = Ended (Unit {0})} (ended tt n) (endOf {A = Unit {0}} (ifEntered answer (done tt (b ∷ [])) (λ m. refused (f m) []))) → n ≡ 1
+one-entered zero f b n e = cc
+one-entered (suc answer) f b n e = let z : _≡_ {A = ℕ} 0 1 = cc in absurd (omega arith)
 
 module _ (im ws : List ℕ) (s : Superblock) (room : ℕ) (is : room ≡ roomOf (length ws)) (ws₁ : List ℕ) where
   abbrev eof : ℕ
@@ -40,7 +41,7 @@ module _ (im ws : List ℕ) (s : Superblock) (room : ℕ) (is : room ≡ roomOf 
   list-lent = room-lent ws room is
 
   -- the superblock can't be entered
-  pub superblock-stopped : (addresses counts : List ℕ) (x : ℕ) → Walked ws ws₁ (stopped x) (run im eof room (superblockWalk (superblockOf s)) []) → ImageWalked im ws s ws₁ addresses counts (Stopped x)
+  pub superblock-stopped : (addresses counts : List ℕ) (x : Refusal) → Walked ws ws₁ (stopped x) (run im eof room (superblockWalk (superblockOf s)) []) → ImageWalked im ws s ws₁ addresses counts (Stopped x)
   unfolding auditWalk blocksOf
   superblock-stopped addresses counts x h = record { walked = rw (← is) (callee-stopped ws₁ (superblockWalk (superblockOf s)) _ (start im eof room w 0 ws list-lent) h); ready = tt }
 
@@ -48,7 +49,7 @@ module _ (im ws : List ℕ) (s : Superblock) (room : ℕ) (is : room ≡ roomOf 
     -- it is entered, as the first block
     entered-one : n ≡ 1
     unfolding superblockWalk run _>>=_
-    entered-one = one-entered (entryAnswer eof room [] 0 (s .size)) (block 0 (s .size)) n (h .answer)
+    entered-one = one-entered (entryAnswer eof room [] 0 (s .size)) _ (block 0 (s .size)) n (h .answer)
 
     at-objects : Simulation im eof room w 0 ws (objectsWalk (superblockOf s) objectsMost 0 (linked (s .root) 1 ∷ [])) n ws₁
     unfolding auditWalk blocksOf

@@ -5,7 +5,8 @@ use mathlib.Core.Path.{_≡_}
 use lib.ListN.{length, getD, replicate}
 use Rattle.format.specs.Limits.{objectsMost}
 use Rattle.format.specs.Blocks.{roomOf}
-use Rattle.format.specs.Walk.{run}
+use Rattle.format.specs.declared.Refusal.{Refusal}
+use Rattle.format.specs.Walk.{answerOf, run}
 use Rattle.format.specs.Audit.{auditWalk}
 use Rattle.format.specs.Answers.{AuditReply, audit}
 use Rattle.walk.specs.Lent.{Walked}
@@ -19,8 +20,8 @@ use Rattle.audit.specs.declared.Audited.{Audited}
 use Rattle.audit.specs.declared.Reply.{Reply}
 
 -- what is returned with a refusal
-abbrev pub refusedWith : ℕ → Audited
-refusedWith n = record { number = n; «block_count» = 0; objects = 0 }
+abbrev pub refusedWith : Refusal → Audited
+refusedWith r = record { number = answerOf r; «block_count» = 0; objects = 0 }
 
 -- the walk of an opened image was walked, in the whole of the list lent
 pub record ImageWalked (im ws : List ℕ) (s : Superblock) (ws′ addresses′ counts′ : List ℕ) (r : ObjectRead) : Type 0 where

@@ -1,5 +1,7 @@
 // The link audit: counts the hard links that reach each object of a file.
 use format::OBJECTS_MOST;
+use format::Refusal;
+use format::number_of;
 use image::superblock;
 use image::superblock::Opening;
 use image::superblock::Superblock;
@@ -23,13 +25,13 @@ pub struct Audited {
     pub objects: usize,
 }
 
-// A refusal: the list is all zeros, and so are the numbers.
-fn refused(list: &mut [u64], number: u8) -> Audited
-    ensures { λ r. ⌜ (r ≡ refusedWith number) × (now (list .exit) ≡ replicate (length (now (list .entry))) 0) ⌝ }
+// A refusal: the list is all zeros, and so are the numbers but for the answer.
+fn refused(list: &mut [u64], refusal: Refusal) -> Audited
+    ensures { λ r. ⌜ (r ≡ refusedWith refusal) × (now (list .exit) ≡ replicate (length (now (list .entry))) 0) ⌝ }
 {
     blocks::clear_from(list, 0);
     Audited {
-        number,
+        number: number_of(refusal),
         block_count: 0,
         objects: 0,
     }
@@ -70,7 +72,7 @@ pub fn audit_into(
     ensures { λ r. ⌜ AuditedIs (now (image .entry)) (length (now (list .entry))) (now (list .exit)) (now (addresses .exit)) (now (stored .exit)) (now («true_counts» .exit)) r ⌝ }
 {
     match superblock::open(image) {
-        Opening::NotOpened(x) => refused(list, x),
+        Opening::NotOpened(x) => refused(list, Refusal::Fault(x, 0)),
         Opening::Opened(s) => match walk_image(image, list, addresses, true_counts, s) {
             ObjectRead::Stopped(x) => refused(list, x),
             ObjectRead::Done { count, objects } => {

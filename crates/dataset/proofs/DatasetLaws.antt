@@ -12,6 +12,7 @@ use Rattle.format.specs.Blocks.{entryAnswer}
 use Rattle.format.specs.Message.{Message}
 use Rattle.format.specs.Dataspace.{product}
 use Rattle.format.specs.Dataset.{hasDataBlock, dataWalk, datasetWalk}
+use Rattle.format.specs.declared.Refusal.{Refusal}
 use Rattle.format.specs.Walk.{Walk, ret, dataBlock, _>>=_, _>>_, run}
 use Rattle.walk.specs.Lent.{Lent, Walked, ended, stopped, blocksOf, entering, entered, entryEnd}
 use Rattle.walk.specs.declared.blocks.Entry.{Entry}
@@ -75,7 +76,7 @@ module _ (im : List ℕ) (eof room n : ℕ) (ws : List ℕ) (lent : Lent ws n ro
         pub empty-data : s < 1 → Walked ws ws (ended tt n) (run im eof room (dataWalk (layoutOf l)) (blocksOf n ws))
         empty-data k = nothing-entered (rw e (empty-none a s h k))
 
-        pub contiguous-data : 1 ≤ s → (ws₁ : List ℕ) (r : Entry) → r ≡ entering (entryAnswer eof room (blocksOf n ws) a s) n →
+        pub contiguous-data : 1 ≤ s → (ws₁ : List ℕ) (r : Entry) → r ≡ entering (entryAnswer eof room (blocksOf n ws) a s) 8 a s (blocksOf n ws) n →
             ws₁ ≡ entered (entryAnswer eof room (blocksOf n ws) a s) ws n a s →
             Walked ws ws₁ (entryEnd r) (run im eof room (dataWalk (layoutOf l)) (blocksOf n ws))
         unfolding dataWalk
@@ -98,7 +99,7 @@ module _ (im : List ℕ) (eof room n : ℕ) (ws : List ℕ) (lent : Lent ws n ro
   begun = same-walk _ (dataset-split (messageOf im 0x0001 space) (messageOf im 0x0003 type) (messageOf im 0x0008 layout)) (start im eof room whole n ws lent)
 
   module _ {m : MessagesRead} (e : messagesRead (bodyOf im space) m ≡ messages) where
-    pub messages-refused : {x : ℕ} → m ≡ kept.Refused x → Walked ws ws (stopped x) (run im eof room whole (blocksOf n ws))
+    pub messages-refused : {x : Refusal} → m ≡ kept.Refused x → Walked ws ws (stopped x) (run im eof room whole (blocksOf n ws))
     messages-refused {x} f = callee-refusal messages (λ d. dataWalk (d .layout) >> ret d) x (rw f at (sym e)) begun
 
     module _ {d : Dataset} (f : m ≡ kept.Read d) where
@@ -109,7 +110,7 @@ module _ (im : List ℕ) (eof room n : ℕ) (ws : List ℕ) (lent : Lent ws n ro
       messages-read = callee-value messages (λ d. dataWalk (d .layout) >> ret d) value (rw f at (sym e)) begun
 
       module _ (ws₁ : List ℕ) {r : Entry} (h : Walked ws ws₁ (entryEnd r) (run im eof room (dataWalk (layoutOf (d .layout))) (blocksOf n ws))) where
-        pub data-refused : {x : ℕ} → r ≡ Refused x → Walked ws ws₁ (stopped x) (run im eof room whole (blocksOf n ws))
+        pub data-refused : {x : Refusal} → r ≡ Refused x → Walked ws ws₁ (stopped x) (run im eof room whole (blocksOf n ws))
         data-refused g = callee-stopped ws₁ (dataWalk (layoutOf (d .layout))) (λ _. ret value) messages-read (rw g at h)
 
         pub data-entered : {c : ℕ} → r ≡ Entered c → length ws₁ ≡ length ws → Walked ws ws₁ (ended value c) (run im eof room whole (blocksOf n ws))

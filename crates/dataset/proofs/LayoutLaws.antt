@@ -5,13 +5,13 @@ use mathlib.Core.Path.{_≡_, refl}
 use borrow.Author.Tests.{le-leb, lt-leb}
 use lib.ListN.{length}
 use Rattle.format.specs.Layout.{compactWalk, contiguousWalk}
-use Rattle.format.specs.Walk.{ret, refuse}
+use Rattle.format.specs.Walk.{answer, ret, refuse}
 use Rattle.walk.specs.Numbers.{Number}
 use Rattle.walk.proofs.Checks.{passes, fails}
 
 -- the compact data's size was read as r
 module _ (place : ℕ) {b : List ℕ} {r : ℕ} (size : Number b 2 2 r) where
-  pub compact-short : length b < 4 + r → refuse 11 ≡ compactWalk place b
+  pub compact-short : length b < 4 + r → refuse (answer 11) ≡ compactWalk place b
   unfolding compactWalk
   compact-short h = rw (← size .value) (fails _ _ (lt-leb _ _ h))
 

@@ -8,8 +8,8 @@ use Rattle.format.specs.Message.{Message, isShared}
 use Rattle.format.specs.Dataspace.{dataspaceWalk}
 use Rattle.format.specs.Datatype.{datatypeWalk, sharedWalk}
 use Rattle.format.specs.Layout.{layoutWalk}
-use Rattle.format.specs.Dataset.{fills}
-use Rattle.format.specs.Walk.{Walk, ret, refuse, check, _>>=_, _>>_}
+use Rattle.format.specs.Dataset.{headAt, fills}
+use Rattle.format.specs.Walk.{Walk, ret, refuse, fault, located, check, _>>=_, _>>_}
 use Rattle.walk.specs.Lent.{Ended, ended, stopped}
 use Rattle.image.specs.declared.message.Body.{Body}
 use Rattle.dataset.specs.Dataspace.{spaceOf, SpaceInside}
@@ -56,10 +56,10 @@ typeMessage m = if isShared (m .flags) then sharedWalk (m .body) else datatypeWa
 -- the dataset walk before its data's block
 unfoldable pub messagesWalk : Message → Message → Message → Walk Rattle.format.specs.Dataset.Dataset
 messagesWalk space type layout = do
-  d ← dataspaceWalk (space .body)
-  t ← typeMessage type
-  l ← layoutWalk (layout .place) (layout .body)
-  check (fills d t l) 11
+  d ← located (headAt space) (dataspaceWalk (space .body))
+  t ← located (headAt type) (typeMessage type)
+  l ← located (headAt layout) (layoutWalk (layout .place) (layout .body))
+  check (fills d t l) (fault 11 (headAt layout))
   ret (record { space = d; type = t; layout = l })
 
 -- the sizes and maxima of a dataset stand in the body b of its dataspace message

@@ -7,7 +7,7 @@ use lib.ListN.{length, drop}
 use Rattle.format.specs.Limits.{rankMost}
 use Rattle.format.specs.Bytes.{if_then_else_, toWords, contains}
 use Rattle.format.specs.Dataspace.{Dataspace, dataspaceWalk}
-use Rattle.format.specs.Walk.{Walk, ret, refuse}
+use Rattle.format.specs.Walk.{Walk, ret, refuse, answer}
 use Rattle.dataset.specs.declared.dataspace.DataspaceRead.{DataspaceRead}
 use Rattle.dataset.specs.declared.dataspace.DataspaceRead.the-variants.{Read, Refused}
 
@@ -20,7 +20,7 @@ spaceOf b rank stored =
 -- the answer as the end of the message's walk
 abbrev pub spaceWalk : List ℕ → DataspaceRead → Walk Dataspace
 spaceWalk b (Read rank stored) = ret (spaceOf b rank stored)
-spaceWalk b (Refused n) = refuse n
+spaceWalk b (Refused n) = refuse (answer n)
 
 -- the rank of what was read
 abbrev pub rankOf : DataspaceRead → ℕ

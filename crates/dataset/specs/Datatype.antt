@@ -5,7 +5,7 @@ use mathlib.Core.List.{List}
 use lib.Dec.{leb, eqb}
 use Rattle.format.specs.Bytes.{u8, u16}
 use Rattle.format.specs.Datatype.{own, sharedAt}
-use Rattle.format.specs.Walk.{Walk, ret, refuse}
+use Rattle.format.specs.Walk.{Walk, ret, refuse, answer}
 use Rattle.dataset.specs.declared.datatype.Datatype.{Datatype}
 use Rattle.dataset.specs.declared.datatype.Datatype.the-variants.{Own, Shared}
 use Rattle.dataset.specs.declared.datatype.DatatypeRead.{DatatypeRead}
@@ -19,7 +19,7 @@ typeOf (Shared address) = sharedAt address
 -- the answer as the end of the message's walk
 abbrev pub typeWalk : DatatypeRead → Walk Rattle.format.specs.Datatype.Datatype
 typeWalk (Read t) = ret (typeOf t)
-typeWalk (Refused n) = refuse n
+typeWalk (Refused n) = refuse (answer n)
 
 -- "precision is 1 or more and offset plus precision is at most 8 times size"
 abbrev pub bitsSound : List ℕ → ℕ → Bool

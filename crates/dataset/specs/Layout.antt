@@ -1,5 +1,5 @@
 -- What the layout reader's answer means.
-use Rattle.format.specs.Walk.{Walk, ret, refuse}
+use Rattle.format.specs.Walk.{Walk, ret, refuse, answer}
 use Rattle.dataset.specs.declared.layout.Layout.{Layout}
 use Rattle.dataset.specs.declared.layout.Layout.the-variants.{Compact, Contiguous}
 use Rattle.dataset.specs.declared.layout.LayoutRead.{LayoutRead}
@@ -13,4 +13,4 @@ layoutOf (Contiguous address size) = record { class = 1; address = address; size
 -- the answer as the end of the message's walk
 abbrev pub layoutRead : LayoutRead → Walk Rattle.format.specs.Layout.Layout
 layoutRead (Read l) = ret (layoutOf l)
-layoutRead (Refused n) = refuse n
+layoutRead (Refused n) = refuse (answer n)

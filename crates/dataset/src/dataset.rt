@@ -7,13 +7,15 @@ use crate::datatype::DatatypeRead;
 use crate::layout;
 use crate::layout::Layout;
 use crate::layout::LayoutRead;
+use format::Refusal;
 use image::message::Body;
 use walk::blocks;
 use walk::blocks::Entry;
+use walk::kinds;
 use walk::numbers::UNDEFINED_ADDRESS;
 ghost use mathlib.Core.Path.{_≡_};
 ghost use mathlib.Core.List.{List};
-ghost use Prim.Native.Nat.{ℕ, _≤_};
+ghost use Prim.Native.Nat.{ℕ, _-_, _≤_};
 ghost use lib.ListN.{length};
 ghost use Rattle.format.specs.Bytes.{part};
 ghost use Rattle.format.specs.Dataset.{dataWalk, datasetWalk};
@@ -36,12 +38,23 @@ pub struct Dataset {
 
 pub enum MessagesRead {
     Read(Dataset),
-    Refused(u8),
+    Refused(Refusal),
 }
 
 pub enum DatasetRead {
     Read(Dataset, usize),
-    Stopped(u8),
+    Stopped(Refusal),
+}
+
+// Where the message of a body stands: 8 bytes before it.
+fn head_of(body: Body) -> usize
+    ensures { λ r. ⌜ r ≡ body .place - 8 ⌝ }
+{
+    let place = body.place;
+    if place < 8 {
+        return 0;
+    }
+    place - 8
 }
 
 // Each reader is handed its message's body as a part of the image.
@@ -115,14 +128,14 @@ fn messages(image: &[u8], space: Body, datatype: Body, layout: Body) -> Messages
     ensures { λ r. ⌜ MessagesShaped (bodyOf (now (image .entry)) space) r ⌝ }
 {
     match read_space(image, space) {
-        DataspaceRead::Refused(n) => MessagesRead::Refused(n),
+        DataspaceRead::Refused(n) => MessagesRead::Refused(Refusal::Fault(n, head_of(space))),
         DataspaceRead::Read {
             rank,
             maxima_stored,
         } => match read_type(image, datatype) {
-            DatatypeRead::Refused(n) => MessagesRead::Refused(n),
+            DatatypeRead::Refused(n) => MessagesRead::Refused(Refusal::Fault(n, head_of(datatype))),
             DatatypeRead::Read(t) => match read_layout(image, layout) {
-                LayoutRead::Refused(n) => MessagesRead::Refused(n),
+                LayoutRead::Refused(n) => MessagesRead::Refused(Refusal::Fault(n, head_of(layout))),
                 LayoutRead::Read(l) => {
                     let dataset = Dataset {
                         rank: rank,
@@ -131,7 +144,7 @@ fn messages(image: &[u8], space: Body, datatype: Body, layout: Body) -> Messages
                         layout: l,
                     };
                     if !filled(image, space, dataset) {
-                        return MessagesRead::Refused(11);
+                        return MessagesRead::Refused(Refusal::Fault(11, head_of(layout)));
                     }
                     MessagesRead::Read(dataset)
                 }
@@ -164,7 +177,7 @@ fn enter_data(
             if size < 1 {
                 return Entry::Entered(count);
             }
-            blocks::enter(end_of_file, blocks, count, room, address, size)
+            blocks::enter(end_of_file, blocks, count, room, kinds::DATA, address, size)
         }
     }
 }

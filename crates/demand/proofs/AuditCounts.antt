@@ -10,7 +10,7 @@ use lib.ListN.{length, drop}
 use Rattle.format.specs.Limits.{objectsMost, blocksMost}
 use Rattle.format.specs.Bytes.{if_then_else_, withFirst}
 use Rattle.format.specs.Blocks.{Block, roomOf}
-use Rattle.format.specs.Walk.{ret, refuse, _>>=_, _>>_, done}
+use Rattle.format.specs.Walk.{ret, refuse, answer, _>>=_, _>>_, done}
 use Rattle.format.specs.Superblock.{Superblock, opened, openImage}
 use Rattle.format.specs.Header.{Object, group, dataset, committed}
 use Rattle.format.specs.Symbols.{Entry, isHard}
@@ -38,10 +38,10 @@ module _ (im : List ℕ) (bytes : IsBytes im) (eof room : ℕ) where
   unfolding countLink
   link-rises a os = go (inLedger a os) (ltb (length os) objectsMost) refl
     where
-      go : (t u : Bool) → inLedger a os ≡ t → Rises im eof room linkSum (if t then ret (addLink a os) else if u then ret (os ++ (linked a 1 ∷ [])) else refuse 12) (linkSum os + 1)
+      go : (t u : Bool) → inLedger a os ≡ t → Rises im eof room linkSum (if t then ret (addLink a os) else if u then ret (os ++ (linked a 1 ∷ [])) else refuse (answer 12)) (linkSum os + 1)
       go true u h = rises-ret im eof room linkSum (addLink a os) (linkSum os + 1) (omega (arith, sum-add a os h))
       go false true h = rises-ret im eof room linkSum (os ++ (linked a 1 ∷ [])) (linkSum os + 1) (omega (arith, sum-append os (linked a 1 ∷ []), sum-first a))
-      go false false h = rises-refuse im eof room linkSum 12 (linkSum os + 1)
+      go false false h = rises-refuse im eof room linkSum (answer 12) (linkSum os + 1)
 
   visit-rises : (e : Entry) (os : List Linked) → Rises im eof room linkSum (discover e os) (linkSum os + 1)
   unfolding discover

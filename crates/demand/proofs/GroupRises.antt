@@ -8,7 +8,7 @@ use lib.Dec.{eqb}
 use lib.ListN.{take, drop}
 use lib.Seq.{getD-drop}
 use Rattle.format.specs.Bytes.{if_then_else_, littleEndian, part, u8, u16, u32, u64}
-use Rattle.format.specs.Walk.{symbolBlock, shown, Walk, ret, check, enterBlock, _>>=_, _>>_}
+use Rattle.format.specs.Walk.{symbolBlock, shown, fault, located, Walk, ret, check, enterBlock, _>>=_, _>>_}
 use Rattle.format.specs.Heap.{Heap}
 use Rattle.format.specs.Names.{Bound, stringAt}
 use Rattle.format.specs.Symbols.{Entry, Group, GroupState, entryWalk, entries, symbolWalk}
@@ -16,7 +16,7 @@ use Rattle.format.specs.Tree.{children, branches, subtree, treeWalk, groupWalk}
 use Rattle.links.proofs.Outcomes.{bind-done}
 use Rattle.demand.specs.Bytes.{IsBytes}
 use Rattle.demand.proofs.BytesBack.{part-bytes}
-use Rattle.demand.proofs.Rises.{block-entered, Rises, rises-ret, rises-after, rises-then, rises-on}
+use Rattle.demand.proofs.Rises.{block-entered, Rises, rises-ret, rises-located, rises-after, rises-then, rises-on}
 
 two-small : (l : List ℕ) → IsBytes l → littleEndian (take 2 l) < 65536
 unfolding littleEndian
@@ -53,14 +53,15 @@ module _ (im : List ℕ) (bytes : IsBytes im) (eof room : ℕ) {S : Type 0} (μ 
             rises-on im eof room μ found (g .visit e (s .found)) (λ f. ret (record { last = name; found = f })) (μ (s .found) + 1) (visit e (s .found))
             (λ f. rises-ret im eof room found (record { last = name; found = f }) (μ f) (omega arith))
 
-    entries-rise : (bounds : List Bound) (n : ℕ) (b : List ℕ) (s : GroupState S) → Rises im eof room found (entries g bounds n b s) (μ (s .found) + n)
+    entries-rise : (bounds : List Bound) (n at : ℕ) (b : List ℕ) (s : GroupState S) → Rises im eof room found (entries g bounds n at b s) (μ (s .found) + n)
     unfolding entries
-    entries-rise bounds zero b s = rises-ret im eof room found s _ (omega arith)
-    entries-rise bounds (suc n) b s =
+    entries-rise bounds zero at b s = rises-ret im eof room found s _ (omega arith)
+    entries-rise bounds (suc n) at b s =
         let sum : μ (s .found) + suc n ≡ μ (s .found) + 1 + n = omega arith in
         rw sum
-        (rises-then im eof room found found (entryWalk g bounds b s) (λ s′. entries g bounds n (drop 40 b) s′) (μ (s .found) + 1) n (entry-rises bounds b s)
-        (λ s′. entries-rise bounds n (drop 40 b) s′))
+        (rises-then im eof room found found (located at (entryWalk g bounds b s)) (λ s′. entries g bounds n (at + 40) (drop 40 b) s′) (μ (s .found) + 1) n
+        (rises-located im eof room found at (entryWalk g bounds b s) (μ (s .found) + 1) (entry-rises bounds b s))
+        (λ s′. entries-rise bounds n (at + 40) (drop 40 b) s′))
 
     -- a symbol node is one block
     symbol-rises : (at : ℕ) (bounds : List Bound) (s : GroupState S) → Rises im eof room found (symbolWalk g at bounds s) (μ (s .found))
@@ -75,7 +76,7 @@ module _ (im : List ℕ) (bytes : IsBytes im) (eof room : ℕ) {S : Type 0} (μ 
         rises-after im eof room found _ _ (μ (s .found) + u16 (d .0) 6)
         (λ _.
         rises-after im eof room found _ _ (μ (s .found) + u16 (d .0) 6)
-        (λ _. rises-after im eof room found _ _ (μ (s .found) + u16 (d .0) 6) (λ _. entries-rise bounds (u16 (d .0) 6) (drop 8 (d .0)) s))) (d .1) a ms (d .3) in
+        (λ _. rises-after im eof room found _ _ (μ (s .found) + u16 (d .0) 6) (λ _. entries-rise bounds (u16 (d .0) 6) (at + 8) (drop 8 (d .0)) s))) (d .1) a ms (d .3) in
         omega (arith, rest, n .0)
 
     children-rise : (h : Heap) (walk : ℕ → List Bound → GroupState S → Walk (GroupState S)) →
@@ -89,9 +90,9 @@ module _ (im : List ℕ) (bytes : IsBytes im) (eof room : ℕ) {S : Type 0} (μ 
 
     branches-rise : (h : Heap) (walk : ℕ → List Bound → GroupState S → Walk (GroupState S)) →
         ((at : ℕ) (bounds : List Bound) (s : GroupState S) → Rises im eof room found (walk at bounds s) (μ (s .found))) →
-        (b : List ℕ) (bounds : List Bound) (s : GroupState S) → Rises im eof room found (branches h walk b bounds s) (μ (s .found))
+        (at : ℕ) (b : List ℕ) (bounds : List Bound) (s : GroupState S) → Rises im eof room found (branches h walk at b bounds s) (μ (s .found))
     unfolding branches
-    branches-rise h walk r b bounds s = rises-after im eof room found _ _ _ (λ _. children-rise h walk r (u16 b 6) (drop 24 b) bounds s)
+    branches-rise h walk r at b bounds s = rises-after im eof room found _ _ _ (λ _. children-rise h walk r (u16 b 6) (drop 24 b) bounds s)
 
     subtree-rises : (level at : ℕ) (bounds : List Bound) (s : GroupState S) → Rises im eof room found (subtree g level at bounds s) (μ (s .found))
     unfolding subtree
@@ -100,15 +101,15 @@ module _ (im : List ℕ) (bytes : IsBytes im) (eof room : ℕ) {S : Type 0} (μ 
         rises-after im eof room found _ _ _
         (λ b.
         rises-after im eof room found _ _ _
-        (λ _. rises-after im eof room found _ _ _ (λ _. branches-rise (g .heap) (subtree g level) (subtree-rises level) b bounds s)))
+        (λ _. rises-after im eof room found _ _ _ (λ _. branches-rise (g .heap) (subtree g level) (subtree-rises level) at b bounds s)))
 
     tree-rises : (at : ℕ) (s : GroupState S) → Rises im eof room found (treeWalk g at s) (μ (s .found))
     unfolding treeWalk
     tree-rises at s = rises-after im eof room found _ _ _ (λ b. go b (eqb (u16 b 6) 0))
       where
-        go : (b : List ℕ) (t : Bool) → Rises im eof room found (if t then check (eqb (u8 b 5) 0) 8 >> ret s else branches (g .heap) (subtree g (u8 b 5)) b [] s) (μ (s .found))
+        go : (b : List ℕ) (t : Bool) → Rises im eof room found (if t then check (eqb (u8 b 5) 0) (fault 8 at) >> ret s else branches (g .heap) (subtree g (u8 b 5)) at b [] s) (μ (s .found))
         go b true = rises-after im eof room found _ _ _ (λ _. rises-ret im eof room found s _ (omega arith))
-        go b false = branches-rise (g .heap) (subtree g (u8 b 5)) (subtree-rises (u8 b 5)) b [] s
+        go b false = branches-rise (g .heap) (subtree g (u8 b 5)) (subtree-rises (u8 b 5)) at b [] s
 
   pub group-rises : (visit : Entry → S → Walk S) → ((e : Entry) (s : S) → Rises im eof room μ (visit e s) (μ s + 1)) → (leafK internalK tree heap : ℕ) (s : S) →
       Rises im eof room μ (groupWalk leafK internalK tree heap visit s) (μ s)

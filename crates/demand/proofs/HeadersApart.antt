@@ -33,7 +33,7 @@ module _ (im : List ℕ) (eof : ℕ) where
 
   header-shown : (at room : ℕ) (bs : List Block) (o : _) (ms : List Block) → run im eof room (headerWalk at) bs ≡ done o ms → List·Memᴰ (contents headerBlock at (headerSize im at)) (whole im eof (headerWalk at))
   unfolding headerWalk headerMessages _>>=_
-  header-shown at room bs o ms e = first-shown headerBlock at (stored 16 (λ p. u32 p 8)) (λ b. headerContents at b >>= objectOf) room bs o ms e
+  header-shown at room bs o ms e = first-shown headerBlock at (stored 16 (λ p. u32 p 8)) (λ b. headerContents at b >>= objectOf at) room bs o ms e
 
 -- the header of an object that was read is among what was shown
 module _ (im : List ℕ) (s : Superblock) (ss : List Shown) (at : ℕ) (r : ReadWhole im s ss at) where

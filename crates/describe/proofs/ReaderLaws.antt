@@ -4,7 +4,8 @@ use mathlib.Core.List.{List, []}
 use mathlib.Core.Path.{_≡_, refl}
 use lib.ListN.{length}
 use Rattle.format.specs.Blocks.{Block}
-use Rattle.format.specs.Walk.{Walk, ret, refuse, _>>=_, _>>_, run}
+use Rattle.format.specs.declared.Refusal.{Refusal}
+use Rattle.format.specs.Walk.{Walk, ret, refuse, fault, _>>=_, _>>_, run}
 use Rattle.format.specs.Superblock as definitions
 use Rattle.format.specs.Superblock.{superblockWalk}
 use Rattle.format.specs.Message.{Message}
@@ -24,7 +25,7 @@ use Rattle.describe.specs.declared.reader.DatasetAt.the-variants.{Read, 
 
 module _ (im : List ℕ) (eof room : ℕ) (ws ws₁ : List ℕ) where
   -- the walk was refused
-  pub reader-stopped : {w : Walk datasets.Dataset} {bs : List Block} (x : ℕ) → Walked ws ws₁ (stopped x) (run im eof room w bs) → ReaderIs im eof room w bs ws ws₁ (Stopped x)
+  pub reader-stopped : {w : Walk datasets.Dataset} {bs : List Block} (x : Refusal) → Walked ws ws₁ (stopped x) (run im eof room w bs) → ReaderIs im eof room w bs ws ws₁ (Stopped x)
   reader-stopped x h = record { walked = h; lent = tt; readable = tt }
 
   -- what is left of a walk was walked
@@ -41,7 +42,7 @@ module _ (im : List ℕ) (eof room : ℕ) (ws : List ℕ) (count : ℕ) (l : Len
       record { walked = h; lent = m .lent; readable = record { inside = i; shaped = s } }
 
   module _ (at : ℕ) where
-    pub header-stopped : (x : ℕ) → Walked ws ws₁ (stopped x) (run im eof room (headerWalk at) (blocksOf count ws)) → ReaderIs im eof room (describeWalk at) (blocksOf count ws) ws ws₁ (Stopped x)
+    pub header-stopped : (x : Refusal) → Walked ws ws₁ (stopped x) (run im eof room (headerWalk at) (blocksOf count ws)) → ReaderIs im eof room (describeWalk at) (blocksOf count ws) ws ws₁ (Stopped x)
     unfolding describeWalk
     header-stopped x h = reader-stopped im eof room ws ws₁ x (callee-stopped ws₁ (headerWalk at) _ (start im eof room (describeWalk at) count ws l) h)
 
@@ -50,16 +51,16 @@ module _ (im : List ℕ) (eof room : ℕ) (ws : List ℕ) (count : ℕ) (l : Len
       unfolding describeWalk
       at-kind = callee-done ws₁ (headerWalk at) _ (start im eof room (describeWalk at) count ws l) same h
 
-      not-a-dataset : describes.datasetOf o ≡ refuse 20 → ReaderIs im eof room (describeWalk at) (blocksOf count ws) ws ws₁ (Stopped 20)
-      not-a-dataset e = reader-stopped im eof room ws ws₁ 20 (refusal (same-walk (refuse 20) e at-kind))
+      not-a-dataset : describes.datasetOf o ≡ refuse (fault 20 0) → ReaderIs im eof room (describeWalk at) (blocksOf count ws) ws ws₁ (Stopped (fault 20 0))
+      not-a-dataset e = reader-stopped im eof room ws ws₁ (fault 20 0) (refusal (same-walk (refuse (fault 20 0)) e at-kind))
 
     module _ (n : ℕ) (same : length ws₁ ≡ length ws) where
-      pub committed-found : Walked ws ws₁ (ended committed n) (run im eof room (headerWalk at) (blocksOf count ws)) → ReaderIs im eof room (describeWalk at) (blocksOf count ws) ws ws₁ (Stopped 20)
+      pub committed-found : Walked ws ws₁ (ended committed n) (run im eof room (headerWalk at) (blocksOf count ws)) → ReaderIs im eof room (describeWalk at) (blocksOf count ws) ws ws₁ (Stopped (fault 20 0))
       unfolding describes.datasetOf
       committed-found h = not-a-dataset committed n same h refl
 
       pub group-found : (tree heap : ℕ) → Walked ws ws₁ (ended (group tree heap) n) (run im eof room (headerWalk at) (blocksOf count ws)) →
-          ReaderIs im eof room (describeWalk at) (blocksOf count ws) ws ws₁ (Stopped 20)
+          ReaderIs im eof room (describeWalk at) (blocksOf count ws) ws ws₁ (Stopped (fault 20 0))
       unfolding describes.datasetOf
       group-found tree heap h = not-a-dataset (group tree heap) n same h refl
 
@@ -69,7 +70,7 @@ module _ (im : List ℕ) (eof room : ℕ) (ws : List ℕ) (count : ℕ) (l : Len
       dataset-found space type layout ws₂ r h m = reader-last im eof room ws₁ ws₂ (at-kind (dataset space type layout) n same h) m
 
 module _ (im : List ℕ) (eof room : ℕ) (ws : List ℕ) (l : Lent ws 0 room) (ws₁ : List ℕ) (s : definitions.Superblock) (at : ℕ) where
-  pub superblock-stopped : (x : ℕ) → Walked ws ws₁ (stopped x) (run im eof room (superblockWalk s) []) → ReaderIs im eof room (datasetAtWalk s at) [] ws ws₁ (Stopped x)
+  pub superblock-stopped : (x : Refusal) → Walked ws ws₁ (stopped x) (run im eof room (superblockWalk s) []) → ReaderIs im eof room (datasetAtWalk s at) [] ws ws₁ (Stopped x)
   unfolding blocksOf
   superblock-stopped x h = reader-stopped im eof room ws ws₁ x (callee-stopped ws₁ (superblockWalk s) _ (start im eof room (datasetAtWalk s at) 0 ws l) h)
 

@@ -8,7 +8,8 @@ use lib.ListN.{length, take, drop, replicate}
 use Rattle.format.specs.Limits.{rankMost, blocksMost}
 use Rattle.format.specs.Bytes.{toWords, padded}
 use Rattle.format.specs.Blocks.{Block, roomOf, blockList}
-use Rattle.format.specs.Walk.{Walk, done, refused, run}
+use Rattle.format.specs.declared.Refusal.{Refusal}
+use Rattle.format.specs.Walk.{Walk, fault, done, refused, run}
 use Rattle.format.specs.Superblock as definitions
 use Rattle.format.specs.Superblock.{opened, notOpened, openImage}
 use Rattle.format.specs.Dataset as datasets
@@ -47,7 +48,7 @@ fields-are b d count sizes maxima t l p q u v lent bs e =
 -- the walk of a dataset, on a list of its own
 module _ (im : List ℕ) (eof room : ℕ) (w : Walk datasets.Dataset) (ws ws₁ : List ℕ) (is : room ≡ roomOf (length ws)) (same : length ws₁ ≡ length ws) where
   -- it was refused
-  pub object-stopped : (x : ℕ) → ReaderIs im eof room w [] ws ws₁ (Stopped x) → (ws₂ : List ℕ) (r : Description) → ((bs : List Block) → replyOf ws₂ r ≡ describeEnd (length ws₁) (refused x bs)) →
+  pub object-stopped : (x : Refusal) → ReaderIs im eof room w [] ws ws₁ (Stopped x) → (ws₂ : List ℕ) (r : Description) → ((bs : List Block) → replyOf ws₂ r ≡ describeEnd (length ws₁) (refused x bs)) →
       replyOf ws₂ r ≡ describeEnd (length ws) (run im eof (roomOf (length ws)) w [])
   object-stopped x h ws₂ r f =
       let o = walked-refused ws ws₁ x _ (h .walked) in
@@ -74,29 +75,29 @@ module _ (im : List ℕ) (eof room : ℕ) (w : Walk datasets.Dataset) (ws ws₁ 
 -- where the path leads
 module _ (im : List ℕ) (s : definitions.Superblock) (ws ws₁ : List ℕ) (same : length ws₁ ≡ length ws) (ps : List (List ℕ)) (ws₂ : List ℕ) (r : Description) where
   abbrev followed : DescribeReply
-  followed = describeEnd (length ws) (follow im s (roomOf (length ws)) describeWalk (refused 20 []) ps (s .root))
+  followed = describeEnd (length ws) (follow im s (roomOf (length ws)) describeWalk (refused (fault 20 0) []) ps (s .root))
 
-  pub path-stopped : (x : ℕ) → EndsAs (targets.the-variants.Stopped x) (targetRun im s (roomOf (length ws)) ps (s .root)) → ((bs : List Block) → replyOf ws₂ r ≡ describeEnd (length ws₁) (refused x bs)) → replyOf ws₂ r ≡ followed
-  path-stopped x o f = rw (follow-target im s (roomOf (length ws)) describeWalk (refused 20 []) ps (s .root), o .1, ← same) (f (o .0))
+  pub path-stopped : (x : Refusal) → EndsAs (targets.the-variants.Stopped x) (targetRun im s (roomOf (length ws)) ps (s .root)) → ((bs : List Block) → replyOf ws₂ r ≡ describeEnd (length ws₁) (refused x bs)) → replyOf ws₂ r ≡ followed
+  path-stopped x o f = rw (follow-target im s (roomOf (length ws)) describeWalk (refused (fault 20 0) []) ps (s .root), o .1, ← same) (f (o .0))
 
-  pub path-symbolic : EndsAs targets.the-variants.Symbolic (targetRun im s (roomOf (length ws)) ps (s .root)) → ((bs : List Block) → replyOf ws₂ r ≡ describeEnd (length ws₁) (refused 20 bs)) → replyOf ws₂ r ≡ followed
-  path-symbolic o f = rw (follow-target im s (roomOf (length ws)) describeWalk (refused 20 []) ps (s .root), o .1, ← same) (f [])
+  pub path-symbolic : EndsAs targets.the-variants.Symbolic (targetRun im s (roomOf (length ws)) ps (s .root)) → ((bs : List Block) → replyOf ws₂ r ≡ describeEnd (length ws₁) (refused (fault 20 0) bs)) → replyOf ws₂ r ≡ followed
+  path-symbolic o f = rw (follow-target im s (roomOf (length ws)) describeWalk (refused (fault 20 0) []) ps (s .root), o .1, ← same) (f [])
 
   pub path-object : (a : ℕ) → EndsAs (targets.the-variants.Object a) (targetRun im s (roomOf (length ws)) ps (s .root)) →
       replyOf ws₂ r ≡ describeEnd (length ws₁) (run im (s .endOfFile) (roomOf (length ws₁)) (datasetAtWalk s a) []) → replyOf ws₂ r ≡ followed
-  path-object a o f = rw (follow-target im s (roomOf (length ws)) describeWalk (refused 20 []) ps (s .root), o .1, ← same) f
+  path-object a o f = rw (follow-target im s (roomOf (length ws)) describeWalk (refused (fault 20 0) []) ps (s .root), o .1, ← same) f
 
 -- whether the path has a right form, and the image can be opened
 module _ (im path ws ws₂ : List ℕ) (r : Description) {t : Bool} (sound : SoundPath path t) where
-  pub bad-is : t ≡ false → ((bs : List Block) → replyOf ws₂ r ≡ describeEnd (length ws) (refused 14 bs)) → replyOf ws₂ r ≡ describe im path (length ws)
+  pub bad-is : t ≡ false → ((bs : List Block) → replyOf ws₂ r ≡ describeEnd (length ws) (refused (fault 14 0) bs)) → replyOf ws₂ r ≡ describe im path (length ws)
   unfolding describe describeRun
   bad-is n f = rw (sound .bad n) (f [])
 
-  pub not-opened-is : t ≡ true → (x : ℕ) → notOpened x ≡ openImage im → ((bs : List Block) → replyOf ws₂ r ≡ describeEnd (length ws) (refused x bs)) → replyOf ws₂ r ≡ describe im path (length ws)
+  pub not-opened-is : t ≡ true → (x : ℕ) → notOpened x ≡ openImage im → ((bs : List Block) → replyOf ws₂ r ≡ describeEnd (length ws) (refused (fault x 0) bs)) → replyOf ws₂ r ≡ describe im path (length ws)
   unfolding describe describeRun
   not-opened-is y x e f = rw (sound .sound y, ← e) (f [])
 
   pub opened-is : t ≡ true → (s : definitions.Superblock) → opened s ≡ openImage im →
-      replyOf ws₂ r ≡ describeEnd (length ws) (follow im s (roomOf (length ws)) describeWalk (refused 20 []) (componentsOf path) (s .root)) → replyOf ws₂ r ≡ describe im path (length ws)
+      replyOf ws₂ r ≡ describeEnd (length ws) (follow im s (roomOf (length ws)) describeWalk (refused (fault 20 0) []) (componentsOf path) (s .root)) → replyOf ws₂ r ≡ describe im path (length ws)
   unfolding describe describeRun
   opened-is y s e f = rw (sound .sound y, ← e) f

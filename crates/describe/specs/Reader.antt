@@ -16,7 +16,7 @@ use Rattle.describe.specs.declared.reader.DatasetAt.the-variants.{Read, 
 abbrev pub datasetAtWalk : Superblock → ℕ → Walk Rattle.format.specs.Dataset.Dataset
 datasetAtWalk s at = superblockWalk s >> describeWalk at
 
--- the dataset, with the number of blocks then entered, or the answer
+-- the dataset, with the number of blocks then entered, or the refusal
 abbrev pub readerEnd : List ℕ → DatasetAt → Ended Rattle.format.specs.Dataset.Dataset
 readerEnd im (Read d space count) = ended (datasetOf (bodyOf im space) d) count
 readerEnd im (Stopped n) = stopped n

@@ -4,6 +4,8 @@ pub mod reader;
 
 use dataset::dataset::Dataset;
 use format::RANK_MOST;
+use format::Refusal;
+use format::number_of;
 use image::message::Body;
 use image::superblock;
 use image::superblock::Opening;
@@ -17,7 +19,7 @@ ghost use mathlib.Core.List.{List, []};
 ghost use Prim.Native.Nat.{ℕ, _≤_};
 ghost use lib.ListN.{length};
 ghost use Rattle.format.specs.Blocks.{Block, blockList, roomOf};
-ghost use Rattle.format.specs.Walk.{done, refused as refusedRun, run};
+ghost use Rattle.format.specs.Walk.{fault, done, refused as refusedRun, run};
 ghost use Rattle.format.specs.Lookup.{follow as followRun};
 ghost use Rattle.format.specs.Describe.{describeWalk};
 ghost use Rattle.format.specs.Answers.{describeEnd, describe as describeReply};
@@ -48,15 +50,15 @@ pub struct Description {
 // The answer of document 01 to a path of no right form.
 const BAD_PATH: u8 = 14;
 
-// A refusal: the list is all zeros, and so are the fields.
-fn refused(list: &mut [u64], number: u8) -> Description
-    ensures { λ r. ⌜ ((bs : List Block) → replyOf (now (list .exit)) r ≡ describeEnd (length (now (list .entry))) (refusedRun number bs)) ⌝ }
+// A refusal: the list is all zeros, and so are the fields but for the answer.
+fn refused(list: &mut [u64], refusal: Refusal) -> Description
+    ensures { λ r. ⌜ ((bs : List Block) → replyOf (now (list .exit)) r ≡ describeEnd (length (now (list .entry))) (refusedRun refusal bs)) ⌝ }
 {
     blocks::clear_from(list, 0);
     let sizes = [0u64; RANK_MOST];
     let maxima = [0u64; RANK_MOST];
     Description {
-        number,
+        number: number_of(refusal),
         block_count: 0,
         rank: 0,
         sizes,
@@ -124,11 +126,11 @@ fn describe_object(image: &[u8], list: &mut [u64], superblock: Superblock, at: u
 fn describe_path(image: &[u8], path: &[u8], list: &mut [u64], superblock: Superblock) -> Description
     requires { ⌜ Bounded (now image) superblock ⌝ }
     requires { ⌜ 1 ≤ length (now path) ⌝ }
-    ensures { λ r. ⌜ replyOf (now (list .exit)) r ≡ describeEnd (length (now (list .entry))) (followRun (now (image .entry)) (superblockOf superblock) (roomOf (length (now (list .entry)))) describeWalk (refusedRun 20 []) (componentsOf (now (path .entry))) (superblock .root)) ⌝ }
+    ensures { λ r. ⌜ replyOf (now (list .exit)) r ≡ describeEnd (length (now (list .entry))) (followRun (now (image .entry)) (superblockOf superblock) (roomOf (length (now (list .entry)))) describeWalk (refusedRun (fault 20 0) []) (componentsOf (now (path .entry))) (superblock .root)) ⌝ }
 {
     match follow::find_object(image, path, list, superblock) {
         Target::Stopped(x) => refused(list, x),
-        Target::Symbolic => refused(list, reader::NOT_A_DATASET),
+        Target::Symbolic => refused(list, Refusal::Fault(reader::NOT_A_DATASET, 0)),
         Target::Object(a) => describe_object(image, list, superblock, a),
     }
 }
@@ -138,10 +140,10 @@ pub fn describe(image: &[u8], path: &[u8], list: &mut [u64]) -> Description
     ensures { λ r. ⌜ replyOf (now (list .exit)) r ≡ describeReply (now (image .entry)) (now (path .entry)) (length (now (list .entry))) ⌝ }
 {
     if !path::is_sound(path) {
-        return refused(list, BAD_PATH);
+        return refused(list, Refusal::Fault(BAD_PATH, 0));
     }
     match superblock::open(image) {
-        Opening::NotOpened(x) => refused(list, x),
+        Opening::NotOpened(x) => refused(list, Refusal::Fault(x, 0)),
         Opening::Opened(s) => describe_path(image, path, list, s),
     }
 }

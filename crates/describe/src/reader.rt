@@ -1,6 +1,7 @@
 // The dataset at an address, walked on a block list of its own.
 use dataset::dataset::Dataset;
 use dataset::dataset::DatasetRead;
+use format::Refusal;
 use image::header;
 use image::header::HeaderRead;
 use image::message::Body;
@@ -20,14 +21,14 @@ ghost use Rattle.dataset.specs.Dataset.{BodiesInside};
 ghost use Rattle.object.specs.Object.{Opened};
 ghost use Rattle.describe.specs.Reader.{datasetAtWalk, ReaderIs};
 
-// What the messages of a dataset say, with the body of its dataspace message and the number of blocks entered, or the answer.
+// What the messages of a dataset say, with the body of its dataspace message and the number of blocks entered, or the refusal.
 pub enum DatasetAt {
     Read {
         dataset: Dataset,
         space: Body,
         count: usize,
     },
-    Stopped(u8),
+    Stopped(Refusal),
 }
 
 // The answer of document 01 to an object that isn't a dataset.
@@ -83,12 +84,12 @@ fn read_object(
 {
     match header::read(image, end_of_file, list, count, room, at) {
         HeaderRead::Stopped(x) => DatasetAt::Stopped(x),
-        HeaderRead::Committed(_) => DatasetAt::Stopped(NOT_A_DATASET),
+        HeaderRead::Committed(_) => DatasetAt::Stopped(Refusal::Fault(NOT_A_DATASET, 0)),
         HeaderRead::Group {
             tree: _,
             heap: _,
             count: _,
-        } => DatasetAt::Stopped(NOT_A_DATASET),
+        } => DatasetAt::Stopped(Refusal::Fault(NOT_A_DATASET, 0)),
         HeaderRead::Dataset {
             space,
             datatype,

@@ -8,7 +8,7 @@ use lib.ListN.{length, take, replicate}
 use lib.Dec.{leb}
 use Rattle.format.specs.Bytes.{if_then_else_}
 use Rattle.format.specs.Blocks.{roomOf, blockList}
-use Rattle.format.specs.Walk.{Outcome, done, refused}
+use Rattle.format.specs.Walk.{answerOf, Outcome, done, refused}
 use Rattle.format.specs.Front.{paddedBytes, ifDone, CReply, shortReply}
 use Rattle.walk.specs.Lent.{left}
 use Rattle.words.proofs.Words.{padded-zeros}
@@ -44,7 +44,7 @@ module _ (l r : ℕ) where
 -- the number, the block count and the list of a reply with so many words lent
 abbrev pub Ends : {A : Type 0} → ℕ → Outcome A → ℕ → ℕ → List ℕ → Type 0
 Ends lent (done a bs) n count list = (n ≡ 0) × (count ≡ length bs) × (list ≡ blockList lent bs)
-Ends lent (refused m bs) n count list = (n ≡ m) × (count ≡ 0) × (list ≡ replicate lent 0)
+Ends lent (refused m bs) n count list = (n ≡ answerOf m) × (count ≡ 0) × (list ≡ replicate lent 0)
 
 -- The same outcome, with the words of the room lent, and with those of a slice of l bytes.
 module _ {A : Type 0} (l : ℕ) (n count : ℕ) (used list : List ℕ) where

@@ -11,7 +11,7 @@ use lib.Dec.{leb, eqb}
 use Rattle.format.specs.Limits.{objectsMost}
 use Rattle.format.specs.Bytes.{if_then_else_, padded}
 use Rattle.format.specs.Blocks.{Block, roomOf, blockList}
-use Rattle.format.specs.Walk.{Outcome, done, refused}
+use Rattle.format.specs.Walk.{answerOf, Outcome, done, refused}
 use Rattle.format.specs.Ledger.{Linked, linked}
 use Rattle.format.specs.Audit.{Counted, countedIn, auditRun}
 use Rattle.format.specs.Log.{Change, logWords}
@@ -153,7 +153,7 @@ module _ (im : List ℕ) (l g r n : ℕ) where
   end-taken (done os bs) e h =
       after-alike (2 * roomOf (l / 8)) (length bs) (countedIn im os) (blockList (2 * roomOf (l / 8)) bs) (blockList (l / 8) bs) h (list-bytes l bs h) (omega (arith, length-counted im os, objects-most im (l / 8) os bs e)) 0 0
   end-taken (refused m bs) e h =
-      after-alike (2 * roomOf (l / 8)) 0 [] (replicate (2 * roomOf (l / 8)) 0) (replicate (l / 8) 0) (omega arith) (no-words l) (omega arith) m m
+      after-alike (2 * roomOf (l / 8)) 0 [] (replicate (2 * roomOf (l / 8)) 0) (replicate (l / 8) 0) (omega arith) (no-words l) (omega arith) (answerOf m) (answerOf m)
 
   -- what the mending returned and left, with these words lent
   pub taken : (lent logLent : ℕ) (x : MendReply) → lent ≡ 2 * roomOf (l / 8) → logLent ≡ logRoom (g / 8) → x ≡ mend im lent logLent n → Taken l g r x (mend im (l / 8) (g / 8) n)

@@ -8,7 +8,7 @@ use native.Mathlib.Omega.{arith}
 use Rattle.format.specs.Limits.{blocksMost}
 use Rattle.format.specs.Bytes.{isEmpty}
 use Rattle.format.specs.Blocks.{Block, roomOf}
-use Rattle.format.specs.Walk.{Walk, _>>_, Outcome, done, refused, run}
+use Rattle.format.specs.Walk.{fault, Walk, _>>_, Outcome, done, refused, run}
 use Rattle.format.specs.Superblock.{Superblock, opened, openImage, superblockWalk}
 use Rattle.format.specs.Ledger.{Linked, inLedger}
 use Rattle.format.specs.Audit.{auditWalk, auditRun}
@@ -88,4 +88,4 @@ module _ (im : List ℕ) (lent : ℕ) (s : Superblock) (os : List Linked) (bs : 
   accepted-describe path words =
       describe-one words (describeRun im path words)
       (path-only (OneOf describeNumbers) (search members depth 10) (search members depth 10) (search members depth 10) (search members depth 10) (search members depth 10) describeWalk
-      (refused 20 []) (λ at r room. describe-only (OneOf describeNumbers) (search members depth 10) im s total at r (search members depth 10) room) (search members depth 10) path words)
+      (refused (fault 20 0) []) (λ at r room. describe-only (OneOf describeNumbers) (search members depth 10) im s total at r (search members depth 10) room) (search members depth 10) path words)

@@ -4,7 +4,7 @@ use mathlib.Core.List.{List, []}
 use mathlib.Core.Logic.{_⊎_, inl, inr}
 use mathlib.Core.Path.{_≡_, refl}
 use Rattle.format.specs.Blocks.{roomOf}
-use Rattle.format.specs.Walk.{Walk, Outcome, refused}
+use Rattle.format.specs.Walk.{Walk, fault, Outcome, refused}
 use Rattle.format.specs.Superblock.{Superblock, Opening, opened, notOpened, openImage}
 use Rattle.format.specs.Path.{Parsed, components, badPath, parsePath}
 use Rattle.format.specs.Lookup.{follow, followPath}
@@ -21,7 +21,7 @@ module _ (im path : List ℕ) (lent : ℕ) {A : Type 0} (last : ℕ → Walk A) 
 
   -- 14, or the answer to an image that can't be opened
   abbrev pub Rests : Type 0
-  Rests = (n : ℕ) × ((n ≡ 14) ⊎ ((n ≤ 4) × (openImage im ≡ notOpened n))) × (followPath im (parsePath path) lent last x ≡ refused n [])
+  Rests = (n : ℕ) × ((n ≡ 14) ⊎ ((n ≤ 4) × (openImage im ≡ notOpened n))) × (followPath im (parsePath path) lent last x ≡ refused (fault n 0) [])
 
   pub asked-or-not : Walks ⊎ Rests
   asked-or-not = go (parsePath path) (openImage im) refl refl

@@ -4,16 +4,17 @@ use Prim.Native.Nat.{ℕ}
 use mathlib.Core.Bool.{Bool, true, false}
 use mathlib.Core.List.{List, []}
 use mathlib.Core.Logic.{⊎-elim, _↔_}
-use mathlib.Core.Path.{_≡_, ap, sym, _∙_}
+use mathlib.Core.Path.{_≡_, refl, ap, sym, _∙_}
 use native.Mathlib.Omega.{arith}
 use Rattle.format.specs.Blocks.{Block}
-use Rattle.format.specs.Walk.{Outcome, done, refused, run}
+use Rattle.format.specs.Walk.{Outcome, done, fault, run}
 use Rattle.format.specs.Superblock.{Superblock}
 use Rattle.format.specs.Symbols.{Entry, isHard}
 use Rattle.format.specs.Lookup.{Link, absent, hard, soft, Target, object, symbolic, targetWalk, componentWalk}
 use Rattle.group.specs.Entries.{linkTo, remembered}
 use Rattle.group.proofs.Entries.{not-remembered}
 use Rattle.found.specs.Leads.{indexWalk, IndexIs, Holds, Lacks}
+use Rattle.found.specs.Found.{RefusedWith}
 use Rattle.links.proofs.Outcomes.{then-done}
 use Rattle.found.proofs.Outcomes.{then-refused}
 use Rattle.found.proofs.Index.{component-run}
@@ -74,38 +75,38 @@ module _ (im : List ℕ) (s : Superblock) (room : ℕ) (name : List ℕ) (isLast
           index-then im (s .endOfFile) room s name isLast at (h .1 .entries) bs soft (h .1 .index) l ∙ rw (h .3)
 
   -- it is absent exactly if the sound index holds no entry of the name
-  pub component-absent : (bs : List Block) → (component ≡ refused 15 bs) ↔ Lacks im s room at name bs
+  pub component-absent : (bs : List Block) → RefusedWith component 15 bs ↔ Lacks im s room at name bs
   unfolding targetWalk run
   component-absent bs = (forth, back)
     where
-      forth : component ≡ refused 15 bs → Lacks im s room at name bs
+      forth : RefusedWith component 15 bs → Lacks im s room at name bs
       forth c =
-          ⊎-elim (λ r. ⊎-elim (λ n. absurd (omega arith)) (λ n. absurd (omega arith)) (index-number im s room at 15 bs r))
+          ⊎-elim (λ r. ⊎-elim (λ n. absurd (omega (arith, c .2))) (λ n. absurd (omega (arith, c .2))) (index-number im s room at (c .0) bs r))
           (λ b.
-          let t = target-absent im (s .endOfFile) room isLast (remembered name (b .0) absent) (b .1) bs (b .3) in
+          let t = target-absent im (s .endOfFile) room isLast (remembered name (b .0) absent) (b .1) (c .0) bs (c .2) (b .3) in
           let i : IndexIs im s room at (b .0) bs = rw (t .1) at (b .2) in
           record { entries = b .0; index = i; none = says-absent name (b .0) (index-rising im s room at (b .0) bs i) (t .0) })
-          (then-refused (run im (s .endOfFile) room (indexWalk s at) []) ending 15 bs (sym (component-run s name im (s .endOfFile) room isLast at) ∙ c))
+          (then-refused (run im (s .endOfFile) room (indexWalk s at) []) ending (c .0) bs (sym (component-run s name im (s .endOfFile) room isLast at) ∙ c .1))
 
-      back : Lacks im s room at name bs → component ≡ refused 15 bs
-      back h = index-then im (s .endOfFile) room s name isLast at (h .entries) bs absent (h .index) (not-remembered name (h .entries) absent (h .none))
+      back : Lacks im s room at name bs → RefusedWith component 15 bs
+      back h = (fault 15 0, index-then im (s .endOfFile) room s name isLast at (h .entries) bs absent (h .index) (not-remembered name (h .entries) absent (h .none)), refl)
 
   -- it is a symbolic link before the last component exactly if the sound index holds it as one and it isn't the last
-  pub component-early : (bs : List Block) → (component ≡ refused 16 bs) ↔ ((e : Entry) × Holds im s room at name e bs × (isHard e ≡ false) × (isLast ≡ false))
+  pub component-early : (bs : List Block) → RefusedWith component 16 bs ↔ ((e : Entry) × Holds im s room at name e bs × (isHard e ≡ false) × (isLast ≡ false))
   unfolding targetWalk run
   component-early bs = (forth, back)
     where
-      forth : component ≡ refused 16 bs → (e : Entry) × Holds im s room at name e bs × (isHard e ≡ false) × (isLast ≡ false)
+      forth : RefusedWith component 16 bs → (e : Entry) × Holds im s room at name e bs × (isHard e ≡ false) × (isLast ≡ false)
       forth c =
-          ⊎-elim (λ r. ⊎-elim (λ n. absurd (omega arith)) (λ n. absurd (omega arith)) (index-number im s room at 16 bs r))
+          ⊎-elim (λ r. ⊎-elim (λ n. absurd (omega (arith, c .2))) (λ n. absurd (omega (arith, c .2))) (index-number im s room at (c .0) bs r))
           (λ b.
-          let t = target-early im (s .endOfFile) room isLast (remembered name (b .0) absent) (b .1) bs (b .3) in
+          let t = target-early im (s .endOfFile) room isLast (remembered name (b .0) absent) (b .1) (c .0) bs (c .2) (b .3) in
           let i : IndexIs im s room at (b .0) bs = rw (t .2) at (b .2) in
           let h = says-soft name (b .0) (index-rising im s room at (b .0) bs i) (t .0) in
           (h .0, record { entries = b .0; index = i; member = h .1; named = h .2 }, h .3, t .1))
-          (then-refused (run im (s .endOfFile) room (indexWalk s at) []) ending 16 bs (sym (component-run s name im (s .endOfFile) room isLast at) ∙ c))
+          (then-refused (run im (s .endOfFile) room (indexWalk s at) []) ending (c .0) bs (sym (component-run s name im (s .endOfFile) room isLast at) ∙ c .1))
 
-      back : (e : Entry) × Holds im s room at name e bs × (isHard e ≡ false) × (isLast ≡ false) → component ≡ refused 16 bs
+      back : (e : Entry) × Holds im s room at name e bs × (isHard e ≡ false) × (isLast ≡ false) → RefusedWith component 16 bs
       back h =
           let l : remembered name (h .1 .entries) absent ≡ soft = entry-link (h .0) bs (h .1) ∙ rw (h .2) in
-          index-then im (s .endOfFile) room s name isLast at (h .1 .entries) bs soft (h .1 .index) l ∙ rw (h .3)
+          (fault 16 0, index-then im (s .endOfFile) room s name isLast at (h .1 .entries) bs soft (h .1 .index) l ∙ rw (h .3), refl)

@@ -7,21 +7,22 @@ use mathlib.Core.Path.{_≡_, refl, ap, sym, _∙_}
 use native.Mathlib.Omega.{arith}
 use Rattle.format.specs.Bytes.{isEmpty}
 use Rattle.format.specs.Blocks.{Block}
+use Rattle.format.specs.declared.Refusal.{Refusal}
 use Rattle.format.specs.Walk.{Walk, Outcome, done, refused, run, _>>_}
 use Rattle.format.specs.Superblock.{Superblock, superblockWalk}
 use Rattle.format.specs.Lookup.{Target, object, symbolic, componentWalk, follow}
 use Rattle.found.specs.Leads.{Leads, here, byLink, toSymbolic}
 use Rattle.found.proofs.ComponentFound.{component-found, component-symbolic}
 
--- the components ps, from the object at this address, are refused with n at one of them
-pub record Stopped (im : List ℕ) (s : Superblock) (room at : ℕ) (ps : List (List ℕ)) (n : ℕ) (bs : List Block) : Type 0 where
+-- the components ps, from the object at this address, are refused with r at one of them
+pub record Stopped (im : List ℕ) (s : Superblock) (room at : ℕ) (ps : List (List ℕ)) (r : Refusal) (bs : List Block) : Type 0 where
   pub before : List (List ℕ)
   pub next : List ℕ
   pub after : List (List ℕ)
   pub all : ps ≡ before ++ (next ∷ after)
   pub reached : ℕ
   pub leads : Leads im s room at before (object reached)
-  pub stops : run im (s .endOfFile) room (componentWalk s next (isEmpty after) reached) [] ≡ refused n bs
+  pub stops : run im (s .endOfFile) room (componentWalk s next (isEmpty after) reached) [] ≡ refused r bs
 
 empty-none : {A : Type 0} (xs : List A) → isEmpty xs ≡ true → xs ≡ []
 empty-none [] e = refl
@@ -59,7 +60,7 @@ module _ (im : List ℕ) (s : Superblock) (room : ℕ) {A : Type 0} (last : ℕ 
   AtSymbolic at ps = Leads im s room at ps symbolic × (follow im s room last x ps at ≡ x)
 
   abbrev pub AtRefusal : ℕ → List (List ℕ) → Type 0
-  AtRefusal at ps = (n : ℕ) × (bs : List Block) × Stopped im s room at ps n bs × (follow im s room last x ps at ≡ refused n bs)
+  AtRefusal at ps = (r : Refusal) × (bs : List Block) × Stopped im s room at ps r bs × (follow im s room last x ps at ≡ refused r bs)
 
   pub follow-cases : (ps : List (List ℕ)) (at : ℕ) → AtObject at ps ⊎ (AtSymbolic at ps ⊎ AtRefusal at ps)
   unfolding follow
@@ -102,4 +103,4 @@ module _ (im : List ℕ) (s : Superblock) (room : ℕ) {A : Type 0} (last : ℕ 
           let h = component-symbolic im s room p (isEmpty ps) at bs .0 e in
           let none : ps ≡ [] = empty-none ps (h .3) in
           inr (inl (rw none (toSymbolic (h .1) (h .2)), rw e))
-      go (refused n bs) e later = inr (inr (n, bs, record { before = []; next = p; after = ps; all = refl; reached = at; leads = here; stops = e }, rw e))
+      go (refused r bs) e later = inr (inr (r, bs, record { before = []; next = p; after = ps; all = refl; reached = at; leads = here; stops = e }, rw e))

@@ -3,10 +3,11 @@ use Prim.Native.Nat.{ℕ, _≤_}
 use mathlib.Core.Bool.{false}
 use mathlib.Core.List.{List, []}
 use mathlib.Core.Logic.{_⊎_, inl, inr, ⊎-elim}
-use mathlib.Core.Path.{_≡_}
+use mathlib.Core.Path.{_≡_, ap, sym}
 use native.Mathlib.Omega.{arith}
 use Rattle.format.specs.Blocks.{Block}
-use Rattle.format.specs.Walk.{_>>=_, Outcome, done, refused, run}
+use Rattle.format.specs.declared.Refusal.{Refusal}
+use Rattle.format.specs.Walk.{fault, answerOf, _>>=_, Outcome, done, refused, run}
 use Rattle.format.specs.Superblock.{Superblock, superblockWalk}
 use Rattle.format.specs.Header.{Object, group, dataset, committed, headerWalk}
 use Rattle.format.specs.Symbols.{Entry}
@@ -59,18 +60,18 @@ module _ (im : List ℕ) (s : Superblock) (room : ℕ) where
   pub index-rising : (at : ℕ) (es : List Entry) (bs : List Block) → IndexIs im s room at es bs → Rising es
   index-rising at es bs i = let h = index-object at es bs i in entries-rising (h .0) (h .2) es bs (h .5)
 
-  of-number : (o : Object) (bs : List Block) (n : ℕ) (ms : List Block) → run im (s .endOfFile) room (indexOf s o) bs ≡ refused n ms → (n ≤ 13) ⊎ (n ≡ 17)
+  of-number : (o : Object) (bs : List Block) (r : Refusal) (ms : List Block) → run im (s .endOfFile) room (indexOf s o) bs ≡ refused r ms → (answerOf r ≤ 13) ⊎ (answerOf r ≡ 17)
   unfolding indexOf run
-  of-number (group tree heap) bs n ms e = inl (run-number im (s .endOfFile) room (entriesWalk (s .leafK) (s .internalK) tree heap) bs n ms (entries-numbered (s .leafK) (s .internalK) tree heap) e .1)
-  of-number (dataset space type layout) bs n ms e = inr (cc)
-  of-number committed bs n ms e = inr (cc)
+  of-number (group tree heap) bs r ms e = inl (run-number im (s .endOfFile) room (entriesWalk (s .leafK) (s .internalK) tree heap) bs r ms (entries-numbered (s .leafK) (s .internalK) tree heap) e .1)
+  of-number (dataset space type layout) bs r ms e = let same : fault 17 0 ≡ r = cc in inr (ap answerOf (sym same))
+  of-number committed bs r ms e = let same : fault 17 0 ≡ r = cc in inr (ap answerOf (sym same))
 
   -- no step of the index refuses with 15 or 16
-  pub index-number : (at : ℕ) (n : ℕ) (ms : List Block) → run im (s .endOfFile) room (indexWalk s at) [] ≡ refused n ms → (n ≤ 13) ⊎ (n ≡ 17)
+  pub index-number : (at : ℕ) (r : Refusal) (ms : List Block) → run im (s .endOfFile) room (indexWalk s at) [] ≡ refused r ms → (answerOf r ≤ 13) ⊎ (answerOf r ≡ 17)
   unfolding indexWalk
-  index-number at n ms e =
-      ⊎-elim (λ r. inl (run-number im (s .endOfFile) room (superblockWalk s) [] n ms (superblock-numbered s) r .1))
+  index-number at r ms e =
+      ⊎-elim (λ q. inl (run-number im (s .endOfFile) room (superblockWalk s) [] r ms (superblock-numbered s) q .1))
       (λ b.
-      ⊎-elim (λ r. inl (run-number im (s .endOfFile) room (headerWalk at) (b .1) n ms (header-numbered at) r .1)) (λ h. of-number (h .0) (h .1) n ms (h .3))
-      (bind-refused im (s .endOfFile) room (headerWalk at) (indexOf s) (b .1) n ms (b .3)))
-      (bind-refused im (s .endOfFile) room (superblockWalk s) (λ _. headerWalk at >>= indexOf s) [] n ms e)
+      ⊎-elim (λ q. inl (run-number im (s .endOfFile) room (headerWalk at) (b .1) r ms (header-numbered at) q .1)) (λ h. of-number (h .0) (h .1) r ms (h .3))
+      (bind-refused im (s .endOfFile) room (headerWalk at) (indexOf s) (b .1) r ms (b .3)))
+      (bind-refused im (s .endOfFile) room (superblockWalk s) (λ _. headerWalk at >>= indexOf s) [] r ms e)

@@ -39,7 +39,7 @@ module _ (im : List ℕ) (eof : ℕ) where
 
   header-shown : (at room : ℕ) (bs : List Block) (o : _) (ms : List Block) → run im eof room (headerWalk at) bs ≡ done o ms → List·Memᴰ (contents headerBlock at (headerSize im at)) (whole im eof (headerWalk at))
   unfolding headerWalk headerMessages _>>=_
-  header-shown at room bs o ms e = first-shown headerBlock at (stored 16 (λ p. u32 p 8)) (λ b. headerContents at b >>= objectOf) room bs o ms e
+  header-shown at room bs o ms e = first-shown headerBlock at (stored 16 (λ p. u32 p 8)) (λ b. headerContents at b >>= objectOf at) room bs o ms e
 
   superblock-shown : (s : Superblock) (room : ℕ) (bs ms : List Block) → run im eof room (superblockWalk s) bs ≡ done tt ms → List·Memᴰ (contents superblockBlock 0 (s .size)) (whole im eof (superblockWalk s))
   unfolding superblockWalk _>>=_

@@ -5,14 +5,14 @@ use mathlib.Core.Logic.{_⊎_, inl, inr, _↔_}
 use mathlib.Core.Path.{_≡_, ap, sym, subst, _∙_}
 use native.Mathlib.Omega.{arith}
 use Rattle.format.specs.Blocks.{Block, roomOf}
-use Rattle.format.specs.Walk.{Walk, ret, Outcome, done, refused, run, andThen, _>>_}
+use Rattle.format.specs.Walk.{Walk, ret, Outcome, done, run, andThen, _>>_}
 use Rattle.format.specs.Superblock.{Superblock, superblockWalk}
 use Rattle.format.specs.Header.{Object, headerWalk}
 use Rattle.format.specs.Lookup.{Located, kindNumber, locateWalk, lookupRun}
 use Rattle.walk.proofs.Bind.{bind-assoc, run-bind}
 use Rattle.links.proofs.Numbered.{Numbered, numbers, run-number}
 use Rattle.links.proofs.NumberedHeader.{header-numbered}
-use Rattle.found.specs.Found.{HeaderIs, LeadsToObject, LeadsToSymbolic, IsFound, IsAbsent}
+use Rattle.found.specs.Found.{RefusedWith, HeaderIs, LeadsToObject, LeadsToSymbolic, IsFound, IsAbsent}
 use Rattle.links.proofs.Outcomes.{then-done}
 use Rattle.found.proofs.Outcomes.{done-refused}
 use Rattle.found.proofs.IndexLaws.{superblock-numbered}
@@ -76,8 +76,9 @@ module _ (im path : List ℕ) (lent : ℕ) where
       back f = path-done im path lent locateWalk link (record { kind = k; address = a }) bs .1 (f .parts, f .superblock, f .asked, ends (f .parts) (f .superblock) (f .leads))
 
   -- absent: the path leads to a group whose sound index lacks the next component
-  pub lookup-absent : (bs : List Block) → (lookupRun im path lent ≡ refused 15 bs) ↔ IsAbsent im path lent bs
+  pub lookup-absent : (bs : List Block) → RefusedWith (lookupRun im path lent) 15 bs ↔ IsAbsent im path lent bs
   unfolding lookupRun
   lookup-absent bs =
       path-absent im path lent locateWalk link bs
-      (λ s room a e. omega (arith, run-number im (s .endOfFile) room (superblockWalk s >> locateWalk a) [] 15 bs (locate-numbered s a) e .1)) (done-refused (record { kind = 4; address = 0 }) [] 15 bs)
+      (λ s room a e. omega (arith, e .2, run-number im (s .endOfFile) room (superblockWalk s >> locateWalk a) [] (e .0) bs (locate-numbered s a) (e .1) .1))
+      (λ e. done-refused (record { kind = 4; address = 0 }) [] (e .0) bs (e .1))

@@ -5,7 +5,8 @@ use mathlib.Core.List.{List, []}
 use mathlib.Core.Logic.{_⊎_, inl, inr, ⊎-elim}
 use mathlib.Core.Path.{_≡_, refl, ap, sym, _∙_}
 use Rattle.format.specs.Blocks.{Block}
-use Rattle.format.specs.Walk.{Walk, ret, refuse, _>>=_, _>>_, done, run, andThen}
+use Rattle.format.specs.declared.Refusal.{Refusal}
+use Rattle.format.specs.Walk.{fault, answerOf, Walk, ret, refuse, _>>=_, _>>_, done, run, andThen}
 use Rattle.format.specs.Superblock.{Superblock, superblockWalk}
 use Rattle.format.specs.Header.{Object, group, dataset, committed, headerWalk}
 use Rattle.format.specs.Dataset.{datasetWalk}
@@ -39,9 +40,9 @@ module _ (N : ℕ → Type 0) (full : N 13) (im : List ℕ) (s : Superblock) (ss
 
   -- what comes behind the header is done, or is refused with one of the numbers
   abbrev Ends : {B : Type 0} → Walk B → Type 0
-  Ends {B} w = ((x : B) × (ms : List Block) × (run im eof (r .room) w (steps .second) ≡ done x ms)) ⊎ ((n : ℕ) × N n × (w ≡ refuse n))
+  Ends {B} w = ((x : B) × (ms : List Block) × (run im eof (r .room) w (steps .second) ≡ done x ms)) ⊎ ((n : Refusal) × N (answerOf n) × (w ≡ refuse n))
 
-  refused-only : {B : Type 0} (w : Walk B) (n : ℕ) → N n → w ≡ refuse n → (room : ℕ) (cs : List Block) → Only N (run im eof room w cs)
+  refused-only : {B : Type 0} (w : Walk B) (n : Refusal) → N (answerOf n) → w ≡ refuse n → (room : ℕ) (cs : List Block) → Only N (run im eof room w cs)
   unfolding run
   refused-only w n h q room cs = rw q h
 
@@ -50,7 +51,7 @@ module _ (N : ℕ → Type 0) (full : N 13) (im : List ℕ) (s : Superblock) (ss
       only-full N full im eof (superblockWalk s >>= λ _. headerWalk at >>= f) (r .room) (h .0) (h .1) (behind-header f (r .room) ∙ rw header-done (h .2)) room
   object-only f (inr h) room =
       rw (behind-header f room)
-      (⊎-elim (λ q. rw q (refused-only (f (steps .object)) (h .0) (h .1) (h .2) room (steps .second))) (λ q. rw (q .1) full) (done-or-full im eof (superblockWalk s >> headerWalk at) (r .room) (steps .object) (steps .second) header-done room))
+      (⊎-elim (λ q. rw q (refused-only (f (steps .object)) (h .0) (h .1) (h .2) room (steps .second))) (λ q. rw (q .2, q .3) full) (done-or-full im eof (superblockWalk s >> headerWalk at) (r .room) (steps .object) (steps .second) header-done room))
 
   -- the header, for its kind and address
   pub locate-only : (room : ℕ) → Only N (run im eof room (superblockWalk s >> locateWalk at) [])
@@ -62,8 +63,8 @@ module _ (N : ℕ → Type 0) (full : N 13) (im : List ℕ) (s : Superblock) (ss
     index-ends : (o : Object) → run im eof (r .room) (contentEntries s o) (steps .second) ≡ done (r .entries) (r .left) → Ends (indexOf s o)
     unfolding contentEntries indexOf
     index-ends (group tree heap) e = inl (r .entries, r .left, e)
-    index-ends (dataset space type layout) e = inr (17, other, refl)
-    index-ends committed e = inr (17, other, refl)
+    index-ends (dataset space type layout) e = inr (fault 17 0, other, refl)
+    index-ends committed e = inr (fault 17 0, other, refl)
 
     index-only : (room : ℕ) → Only N (run im eof room (indexWalk s at) [])
     unfolding indexWalk
@@ -87,11 +88,11 @@ module _ (N : ℕ → Type 0) (full : N 13) (im : List ℕ) (s : Superblock) (ss
   module _ (other : N 20) where
     dataset-ends : (o : Object) → run im eof (r .room) (contentEntries s o) (steps .second) ≡ done (r .entries) (r .left) → Ends (datasetOf o)
     unfolding contentEntries datasetOf
-    dataset-ends (group tree heap) e = inr (20, other, refl)
+    dataset-ends (group tree heap) e = inr (fault 20 0, other, refl)
     dataset-ends (dataset space type layout) e =
         let d = bind-done im eof (r .room) (datasetWalk space type layout) (λ _. ret []) (steps .second) (r .entries) (r .left) e in
         inl (d .0, d .1, d .2)
-    dataset-ends committed e = inr (20, other, refl)
+    dataset-ends committed e = inr (fault 20 0, other, refl)
 
     pub describe-only : (room : ℕ) → Only N (run im eof room (superblockWalk s >> describeWalk at) [])
     unfolding describeWalk

@@ -5,19 +5,20 @@ use mathlib.Core.Logic.{_⊎_, inl, inr}
 use mathlib.Core.Path.{_≡_, refl, sym, _∙_}
 use native.Mathlib.Omega.{arith}
 use Rattle.format.specs.Blocks.{Block}
+use Rattle.format.specs.declared.Refusal.{Refusal}
 use Rattle.format.specs.Walk.{Walk, _>>=_, Outcome, done, refused, run, andThen}
 use Rattle.walk.proofs.Bind.{run-bind}
 
-pub then-refused : {A B : Type 0} (o : Outcome A) (f : A → List Block → Outcome B) (n : ℕ) (ms : List Block) → andThen o f ≡ refused n ms →
-    (o ≡ refused n ms) ⊎ ((a : A) × (cs : List Block) × (o ≡ done a cs) × (f a cs ≡ refused n ms))
-then-refused (done a cs) f n ms e = inr (a, cs, refl, e)
-then-refused (refused m cs) f n ms e = inl (cc)
+pub then-refused : {A B : Type 0} (o : Outcome A) (f : A → List Block → Outcome B) (r : Refusal) (ms : List Block) → andThen o f ≡ refused r ms →
+    (o ≡ refused r ms) ⊎ ((a : A) × (cs : List Block) × (o ≡ done a cs) × (f a cs ≡ refused r ms))
+then-refused (done a cs) f r ms e = inr (a, cs, refl, e)
+then-refused (refused q cs) f r ms e = inl (cc)
 
 -- one walk after another is refused: the first is, or it is done and the second is
-pub bind-refused : (im : List ℕ) (eof room : ℕ) {A B : Type 0} (w : Walk A) (f : A → Walk B) (bs : List Block) (n : ℕ) (ms : List Block) → run im eof room (w >>= f) bs ≡ refused n ms →
-    (run im eof room w bs ≡ refused n ms) ⊎ ((a : A) × (cs : List Block) × (run im eof room w bs ≡ done a cs) × (run im eof room (f a) cs ≡ refused n ms))
-bind-refused im eof room w f bs n ms e = then-refused (run im eof room w bs) (λ a cs. run im eof room (f a) cs) n ms (sym (run-bind im eof room w f bs) ∙ e)
+pub bind-refused : (im : List ℕ) (eof room : ℕ) {A B : Type 0} (w : Walk A) (f : A → Walk B) (bs : List Block) (r : Refusal) (ms : List Block) → run im eof room (w >>= f) bs ≡ refused r ms →
+    (run im eof room w bs ≡ refused r ms) ⊎ ((a : A) × (cs : List Block) × (run im eof room w bs ≡ done a cs) × (run im eof room (f a) cs ≡ refused r ms))
+bind-refused im eof room w f bs r ms e = then-refused (run im eof room w bs) (λ a cs. run im eof room (f a) cs) r ms (sym (run-bind im eof room w f bs) ∙ e)
 
 -- a value and a refusal are never one outcome
-pub done-refused : {A : Type 0} (a : A) (bs : List Block) (n : ℕ) (ms : List Block) → done a bs ≡ refused n ms → ⊥
-done-refused a bs n ms e = let z : _≡_ {A = ℕ} 0 1 = cc in omega arith
+pub done-refused : {A : Type 0} (a : A) (bs : List Block) (r : Refusal) (ms : List Block) → done a bs ≡ refused r ms → ⊥
+done-refused a bs r ms e = let z : _≡_ {A = ℕ} 0 1 = cc in omega arith

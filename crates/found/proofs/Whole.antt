@@ -6,7 +6,8 @@ use mathlib.Core.Path.{_≡_, refl, ap}
 use lib.Dec.{leb}
 use Rattle.format.specs.Bytes.{if_then_else_, part}
 use Rattle.format.specs.Blocks.{Block, block}
-use Rattle.format.specs.Walk.{shown, lengthIn, Walk, ret, refuse, enter, _>>=_, done, run}
+use Rattle.format.specs.declared.Refusal.{Refusal}
+use Rattle.format.specs.Walk.{kindNumber, shown, lengthIn, Walk, ret, refuse, enter, _>>=_, done, run}
 use Rattle.walk.proofs.Plan.{fault, step, plan, EndsIn}
 use Rattle.walk.proofs.Restart.{run-done}
 use Rattle.walk.proofs.Follows.{Follows}
@@ -28,14 +29,14 @@ module _ (im : List ℕ) (eof : ℕ) where
   whole-bind (refuse n) f x e = absurd e
   whole-bind {A} {B} (enter v a l k) f x e =
       let n = lengthIn im v a l in
-      go n (leb (a + n) eof) e (whole-bind (k (shown v (part im a n))) f x)
+      go _ n (leb (a + n) eof) e (whole-bind (k (shown v (part im a n))) f x)
     where
-      go : (n : ℕ) (t : Bool) → EndsIn x (if t then step (block a n) (plan im eof (k (shown v (part im a n)))) else fault 5) →
+      go : (r : Refusal) (n : ℕ) (t : Bool) → EndsIn x (if t then step (kindNumber v) (block a n) (plan im eof (k (shown v (part im a n)))) else fault r) →
           (EndsIn x (plan im eof (k (shown v (part im a n)))) → whole im eof (k (shown v (part im a n)) >>= f) ≡ whole im eof (k (shown v (part im a n))) ++ whole im eof (f x)) →
           (if t then contents v a n ∷ whole im eof (k (shown v (part im a n)) >>= f) else size v a l ∷ []) ≡
           (if t then contents v a n ∷ whole im eof (k (shown v (part im a n))) else size v a l ∷ []) ++ whole im eof (f x)
-      go n true h rest = ap (λ (ss : List Shown). contents v a n ∷ ss) (rest h)
-      go n false h rest = absurd h
+      go r n true h rest = ap (λ (ss : List Shown). contents v a n ∷ ss) (rest h)
+      go r n false h rest = absurd h
 
   -- what is shown nothing adds nothing
   pub whole-quiet : {A B : Type 0} (w : Walk A) (f : A → Walk B) → ((x : A) → whole im eof (f x) ≡ []) → whole im eof (w >>= f) ≡ whole im eof w
@@ -53,14 +54,14 @@ module _ (im : List ℕ) (eof : ℕ) where
   whole-follow exact R (refuse n) w′ x h e = absurd e
   whole-follow {S} {T} exact R (enter v a l k) w′ x h e =
       let n = lengthIn im v a l in
-      rw (h .1) (go n (leb (a + n) eof) e (whole-follow exact R (k (shown v (part im a n))) (h .0 (shown v (part im a n))) x (h .2 (shown v (part im a n)))))
+      rw (h .1) (go _ n (leb (a + n) eof) e (whole-follow exact R (k (shown v (part im a n))) (h .0 (shown v (part im a n))) x (h .2 (shown v (part im a n)))))
     where
-      go : (n : ℕ) (t : Bool) → EndsIn x (if t then step (block a n) (plan im eof (k (shown v (part im a n)))) else fault 5) →
+      go : (r : Refusal) (n : ℕ) (t : Bool) → EndsIn x (if t then step (kindNumber v) (block a n) (plan im eof (k (shown v (part im a n)))) else fault r) →
           (EndsIn x (plan im eof (k (shown v (part im a n)))) → whole im eof (h .0 (shown v (part im a n))) ≡ whole im eof (k (shown v (part im a n)))) →
           (if t then contents v a n ∷ whole im eof (h .0 (shown v (part im a n))) else size v a l ∷ []) ≡
           (if t then contents v a n ∷ whole im eof (k (shown v (part im a n))) else size v a l ∷ [])
-      go n true q rest = ap (λ (ss : List Shown). contents v a n ∷ ss) (rest q)
-      go n false q rest = refl
+      go r n true q rest = ap (λ (ss : List Shown). contents v a n ∷ ss) (rest q)
+      go r n false q rest = refl
 
   -- the same, by a run that is done
   pub whole-then : {A B : Type 0} (w : Walk A) (f : A → Walk B) (room : ℕ) (bs : List Block) (x : A) (ms : List Block) → run im eof room w bs ≡ done x ms →

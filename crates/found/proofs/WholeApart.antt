@@ -8,7 +8,8 @@ use native.Mathlib.Omega.{arith}
 use lib.Dec.{leb}
 use Rattle.format.specs.Bytes.{if_then_else_, part}
 use Rattle.format.specs.Blocks.{Block, block, overlapsAny}
-use Rattle.format.specs.Walk.{Kind, Length, shown, lengthIn, Walk, ret, refuse, enter, done, run}
+use Rattle.format.specs.declared.Refusal.{Refusal}
+use Rattle.format.specs.Walk.{Kind, kindNumber, Length, shown, lengthIn, Walk, ret, refuse, enter, done, run}
 use Rattle.walk.proofs.Disjoint.{Apart, Fresh, fresh-apart, apart-second, apart-order}
 use Rattle.walk.proofs.Plan.{fault, step, plan, blocks, EndsIn}
 use Rattle.walk.proofs.Restart.{run-done}
@@ -31,22 +32,22 @@ module _ (im : List ℕ) (eof : ℕ) {A : Type 0} where
   shown-apart (refuse k) x bs e h v a n m = absurd (List·Memᴰ·not-nil m)
   shown-apart (enter u b l k) x bs e h v a n m =
       let size = lengthIn im u b l in
-      go size (leb (b + size) eof) e h m (shown-apart (k (shown u (part im b size))) x bs)
+      go _ size (leb (b + size) eof) e h m (shown-apart (k (shown u (part im b size))) x bs)
     where
-      go : (c : ℕ) (t : Bool) → EndsIn x (if t then step (block b c) (plan im eof (k (shown u (part im b c)))) else fault 5) →
-          Apart bs (blocks (if t then step (block b c) (plan im eof (k (shown u (part im b c)))) else fault 5)) →
+      go : (r : Refusal) (c : ℕ) (t : Bool) → EndsIn x (if t then step (kindNumber u) (block b c) (plan im eof (k (shown u (part im b c)))) else fault r) →
+          Apart bs (blocks (if t then step (kindNumber u) (block b c) (plan im eof (k (shown u (part im b c)))) else fault r)) →
           List·Memᴰ (contents v a n) (if t then contents u b c ∷ whole im eof (k (shown u (part im b c))) else size u b l ∷ []) →
           (EndsIn x (plan im eof (k (shown u (part im b c)))) → Apart bs (blocks (plan im eof (k (shown u (part im b c))))) → (v : Kind) (a n : ℕ) →
           List·Memᴰ (contents v a n) (whole im eof (k (shown u (part im b c)))) → overlapsAny bs a n ≡ false) →
           overlapsAny bs a n ≡ false
-      go c true q p i rest =
+      go r c true q p i rest =
           ⊎-elim
           (λ same.
           let at : a ≡ b = cc in
           let long : n ≡ c = cc in
           rw (at, long) (p .0))
           (λ later. rest q (p .1) v a n later) (List·Memᴰ·cases-cons i)
-      go c false q p i rest = absurd q
+      go r c false q p i rest = absurd q
 
   no-size : (w : Walk A) (x : A) → EndsIn x (plan im eof w) → (v : Kind) (a : ℕ) (l : Length) → List·Memᴰ (size v a l) (whole im eof w) → ⊥
   unfolding whole plan
@@ -54,13 +55,13 @@ module _ (im : List ℕ) (eof : ℕ) {A : Type 0} where
   no-size (refuse k) x e v a l m = List·Memᴰ·not-nil m
   no-size (enter u b l k) x e v a j m =
       let size = lengthIn im u b l in
-      go size (leb (b + size) eof) e m (no-size (k (shown u (part im b size))) x)
+      go _ size (leb (b + size) eof) e m (no-size (k (shown u (part im b size))) x)
     where
-      go : (c : ℕ) (t : Bool) → EndsIn x (if t then step (block b c) (plan im eof (k (shown u (part im b c)))) else fault 5) →
+      go : (r : Refusal) (c : ℕ) (t : Bool) → EndsIn x (if t then step (kindNumber u) (block b c) (plan im eof (k (shown u (part im b c)))) else fault r) →
           List·Memᴰ (size v a j) (if t then contents u b c ∷ whole im eof (k (shown u (part im b c))) else size u b l ∷ []) →
           (EndsIn x (plan im eof (k (shown u (part im b c)))) → (v : Kind) (a : ℕ) (l : Length) → List·Memᴰ (size v a l) (whole im eof (k (shown u (part im b c)))) → ⊥) → ⊥
-      go c true q i rest = ⊎-elim (λ same. let z : _≡_ {A = ℕ} 0 1 = cc in omega arith) (λ later. rest q v a j later) (List·Memᴰ·cases-cons i)
-      go c false q i rest = absurd q
+      go r c true q i rest = ⊎-elim (λ same. let z : _≡_ {A = ℕ} 0 1 = cc in omega arith) (λ later. rest q v a j later) (List·Memᴰ·cases-cons i)
+      go r c false q i rest = absurd q
 
   two-beside : (w : Walk A) (x : A) (bs : List Block) → EndsIn x (plan im eof w) → Fresh bs (blocks (plan im eof w)) → (v v′ : Kind) (a n a′ n′ : ℕ) →
       List·Memᴰ (contents v a n) (whole im eof w) → List·Memᴰ (contents v′ a′ n′) (whole im eof w) → (contents v a n ≡ contents v′ a′ n′) ⊎ Beside a n a′ n′
@@ -69,7 +70,7 @@ module _ (im : List ℕ) (eof : ℕ) {A : Type 0} where
   two-beside (refuse k) x bs e h v v′ a n a′ n′ m m′ = absurd (List·Memᴰ·not-nil m)
   two-beside (enter u b l k) x bs e h v v′ a n a′ n′ m m′ =
       let size = lengthIn im u b l in
-      go size (leb (b + size) eof) e h m m′ (two-beside (k (shown u (part im b size))) x (bs ++ (block b size ∷ [])))
+      go _ size (leb (b + size) eof) e h m m′ (two-beside (k (shown u (part im b size))) x (bs ++ (block b size ∷ [])))
     where
       -- the first block, and a later one
       apart : (c : ℕ) → EndsIn x (plan im eof (k (shown u (part im b c)))) → Fresh (bs ++ (block b c ∷ [])) (blocks (plan im eof (k (shown u (part im b c))))) → (y : Kind) (d o : ℕ) →
@@ -78,15 +79,15 @@ module _ (im : List ℕ) (eof : ℕ) {A : Type 0} where
           apart-order (block b c) d o
           (shown-apart (k (shown u (part im b c))) x (block b c ∷ []) q (apart-second bs (block b c ∷ []) (blocks (plan im eof (k (shown u (part im b c))))) (fresh-apart (bs ++ (block b c ∷ [])) (blocks (plan im eof (k (shown u (part im b c))))) f)) y d o i)
 
-      go : (c : ℕ) (t : Bool) → EndsIn x (if t then step (block b c) (plan im eof (k (shown u (part im b c)))) else fault 5) →
-          Fresh bs (blocks (if t then step (block b c) (plan im eof (k (shown u (part im b c)))) else fault 5)) →
+      go : (r : Refusal) (c : ℕ) (t : Bool) → EndsIn x (if t then step (kindNumber u) (block b c) (plan im eof (k (shown u (part im b c)))) else fault r) →
+          Fresh bs (blocks (if t then step (kindNumber u) (block b c) (plan im eof (k (shown u (part im b c)))) else fault r)) →
           List·Memᴰ (contents v a n) (if t then contents u b c ∷ whole im eof (k (shown u (part im b c))) else size u b l ∷ []) →
           List·Memᴰ (contents v′ a′ n′) (if t then contents u b c ∷ whole im eof (k (shown u (part im b c))) else size u b l ∷ []) →
           (EndsIn x (plan im eof (k (shown u (part im b c)))) → Fresh (bs ++ (block b c ∷ [])) (blocks (plan im eof (k (shown u (part im b c))))) → (v v′ : Kind) (a n a′ n′ : ℕ) →
           List·Memᴰ (contents v a n) (whole im eof (k (shown u (part im b c)))) → List·Memᴰ (contents v′ a′ n′) (whole im eof (k (shown u (part im b c)))) →
           (contents v a n ≡ contents v′ a′ n′) ⊎ Beside a n a′ n′) →
           (contents v a n ≡ contents v′ a′ n′) ⊎ Beside a n a′ n′
-      go c true q p i i′ rest =
+      go r c true q p i i′ rest =
           ⊎-elim
           (λ same.
           let at : a ≡ b = cc in
@@ -100,7 +101,7 @@ module _ (im : List ℕ) (eof : ℕ) {A : Type 0} where
           inr (rw (at, long) (apart c q (p .1) v a n later)))
           (λ later′. rest q (p .1) v v′ a n a′ n′ later later′) (List·Memᴰ·cases-cons i′))
           (List·Memᴰ·cases-cons i)
-      go c false q p i i′ rest = absurd q
+      go r c false q p i i′ rest = absurd q
 
   module _ (w : Walk A) (room : ℕ) (bs : List Block) (x : A) (ms : List Block) (e : run im eof room w bs ≡ done x ms) where
     pub no-length : (v : Kind) (a : ℕ) (l : Length) → List·Memᴰ (size v a l) (whole im eof w) → ⊥

@@ -10,6 +10,7 @@ use lib.Dec.{leb, ltb}
 use lib.ListN.{length}
 use Rattle.format.specs.Bytes.{if_then_else_, part}
 use Rattle.format.specs.Blocks.{Block, block, overlapsAny, entryAnswer}
+use Rattle.format.specs.declared.Refusal.{Refusal}
 use Rattle.format.specs.Walk.{Kind, Length, shown, lengthIn, Walk, ret, refuse, enter, Outcome, done, refused, ifEntered, run}
 use Rattle.walk.proofs.Agreement.{Shown, contents, size, shownBy}
 use Rattle.links.proofs.Outcomes.{enter-inside}
@@ -54,10 +55,10 @@ module _ (im : List ℕ) where
         let n = lengthIn im v a l in
         block-begun x v a l _ _ (shown-begun (k (shown v (part im a n))) room (bs ++ (block a n ∷ [])) x) (leb (a + n) eof) (overlapsAny bs a n) (ltb (length bs) room) m
 
-    entered-whole : (n : ℕ) (c : Shown) (ss ts us : List Shown) (o : Outcome A) (x : A) (bs ms : List Block) → ifEntered n o (λ m. refused m bs) ≡ done x ms → (o ≡ done x ms → ss ≡ ts) →
+    entered-whole : (n : ℕ) (g : ℕ → Refusal) (c : Shown) (ss ts us : List Shown) (o : Outcome A) (x : A) (bs ms : List Block) → ifEntered n o (λ m. refused (g m) bs) ≡ done x ms → (o ≡ done x ms → ss ≡ ts) →
         ifEntered n (c ∷ ss) (λ _. us) ≡ c ∷ ts
-    entered-whole zero c ss ts us o x bs ms e f = ap (λ (r : List Shown). c ∷ r) (f e)
-    entered-whole (suc n) c ss ts us o x bs ms e f = let z : _≡_ {A = ℕ} 0 1 = cc in absurd (omega arith)
+    entered-whole zero g c ss ts us o x bs ms e f = ap (λ (r : List Shown). c ∷ r) (f e)
+    entered-whole (suc n) g c ss ts us o x bs ms e f = let z : _≡_ {A = ℕ} 0 1 = cc in absurd (omega arith)
 
     -- a run that is done is shown all
     pub done-shown : (w : Walk A) (room : ℕ) (bs : List Block) (x : A) (ms : List Block) → run im eof room w bs ≡ done x ms → shownBy im eof room w bs ≡ whole im eof w
@@ -68,7 +69,7 @@ module _ (im : List ℕ) where
         let n = lengthIn im v a l in
         let inside = le-leb (a + n) eof (enter-inside im eof room v a l k bs x ms e) in
         rw inside
-        (entered-whole (entryAnswer eof room bs a n) (contents v a n) _ _ _ _ x bs ms e (done-shown (k (shown v (part im a n))) room (bs ++ (block a n ∷ [])) x ms))
+        (entered-whole (entryAnswer eof room bs a n) _ (contents v a n) _ _ _ _ x bs ms e (done-shown (k (shown v (part im a n))) room (bs ++ (block a n ∷ [])) x ms))
 
   -- among all that a walk is shown whose run is done
   pub begun-covered : (eof : ℕ) {A : Type 0} (w : Walk A) (room : ℕ) (bs : List Block) (x : A) (ms : List Block) → run im eof room w bs ≡ done x ms → (y : Shown) → Begun (whole im eof w) y → Covered im (whole im eof w) y

@@ -4,7 +4,8 @@ use mathlib.Core.List.{List, [], _∷_, _++_}
 use mathlib.Core.Logic.{_⊎_}
 use mathlib.Core.Path.{_≡_}
 use Rattle.format.specs.Blocks.{Block, roomOf}
-use Rattle.format.specs.Walk.{done, run, _>>_}
+use Rattle.format.specs.declared.Refusal.{Refusal}
+use Rattle.format.specs.Walk.{Outcome, done, refused, answerOf, run, _>>_}
 use Rattle.format.specs.Superblock.{Superblock, opened, openImage, superblockWalk}
 use Rattle.format.specs.Header.{Object, headerWalk}
 use Rattle.format.specs.Dataset.{Dataset}
@@ -12,6 +13,10 @@ use Rattle.format.specs.Path.{components, parsePath}
 use Rattle.format.specs.Lookup.{object, symbolic, kindNumber}
 use Rattle.format.specs.Describe.{describeWalk}
 use Rattle.found.specs.Leads.{Leads, Lacks}
+
+-- the outcome is a refusal with this answer, and these are the blocks that it leaves
+abbrev pub RefusedWith : {A : Type 0} → Outcome A → ℕ → List Block → Type 0
+RefusedWith o n bs = (r : Refusal) × (o ≡ refused r bs) × (answerOf r ≡ n)
 
 -- the path has these components, and the image can be walked, by this superblock
 pub record Asked (im path : List ℕ) (ps : List (List ℕ)) (s : Superblock) : Type 0 where

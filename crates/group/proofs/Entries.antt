@@ -6,7 +6,7 @@ use native.Mathlib.Omega.{arith}
 use mathlib.Core.Path.{_≡_, refl, ap, sym, _∙_, fun-ext}
 use Rattle.format.specs.Bytes.{if_then_else_, sameBytes}
 use Rattle.format.specs.Blocks.{Block}
-use Rattle.format.specs.Walk.{Walk, ret, refuse, _>>=_, run}
+use Rattle.format.specs.Walk.{answer, Walk, ret, refuse, _>>=_, run}
 use Rattle.format.specs.Names.{below}
 use Rattle.format.specs.Symbols.{Entry, isHard}
 use Rattle.format.specs.Tree.{groupWalk}
@@ -35,7 +35,7 @@ remembered-last name (x ∷ es) e l = remembered-last name es e _
 
 pub discover-ends : (e : Entry) (os : List Linked) → Ends (discover e os)
 unfolding discover countLink Ends
-discover-ends e os = ends-if (isHard e) _ _ (ends-if (inLedger (e .header) os) _ _ tt (ends-if (ltb (length os) objectsMost) (ret (os ++ (linked (e .header) 1 ∷ []))) (refuse 12) tt tt)) tt
+discover-ends e os = ends-if (isHard e) _ _ (ends-if (inLedger (e .header) os) _ _ tt (ends-if (ltb (length os) objectsMost) (ret (os ++ (linked (e .header) 1 ∷ []))) (refuse (answer 12)) tt tt)) tt
 
 -- names rise
 above-last : (n : List ℕ) (es : List Entry) (e : Entry) → AllAbove n es → below n (e .name) ≡ true → AllAbove n (es ++ (e ∷ []))

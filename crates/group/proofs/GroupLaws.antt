@@ -4,6 +4,7 @@ use mathlib.Core.List.{List, []}
 use mathlib.Core.Path.{_≡_}
 use lib.ListN.{length}
 use mathlib.Core.Bool.{Bool}
+use Rattle.format.specs.declared.Refusal.{Refusal}
 use Rattle.format.specs.Walk.{Walk, ret, _>>=_, run}
 use Rattle.format.specs.Heap.{Heap, heapWalk}
 use Rattle.format.specs.Symbols.{Entry, Group, GroupState}
@@ -32,7 +33,7 @@ module _ {S : Type 0} (im : List ℕ) (eof room : ℕ) (ws : List ℕ) (count : 
   abbrev first : GroupState S
   first = record { last = []; found = found }
 
-  pub heap-stopped : (x : ℕ) → Walked ws ws₁ (stopped x) (run im eof room (heapWalk heap) (blocksOf count ws)) → Walked ws ws₁ (stopped x) (run im eof room w (blocksOf count ws))
+  pub heap-stopped : (x : Refusal) → Walked ws ws₁ (stopped x) (run im eof room (heapWalk heap) (blocksOf count ws)) → Walked ws ws₁ (stopped x) (run im eof room w (blocksOf count ws))
   unfolding groupWalk
   heap-stopped x h = callee-stopped ws₁ (heapWalk heap) _ (start im eof room w count ws l) h
 
@@ -42,7 +43,7 @@ module _ {S : Type 0} (im : List ℕ) (eof room : ℕ) (ws : List ℕ) (count : 
     at-tree = callee-done ws₁ (heapWalk heap) _ (start im eof room w count ws l) same h
 
     module _ (ws₂ : List ℕ) where
-      pub tree-stopped : (x : ℕ) → Walked ws₁ ws₂ (stopped x) (run im eof room (treeWalk (groupWith hp) tree first) (blocksOf m ws₁)) → Walked ws ws₂ (stopped x) (run im eof room w (blocksOf count ws))
+      pub tree-stopped : (x : Refusal) → Walked ws₁ ws₂ (stopped x) (run im eof room (treeWalk (groupWith hp) tree first) (blocksOf m ws₁)) → Walked ws ws₂ (stopped x) (run im eof room w (blocksOf count ws))
       tree-stopped x t = callee-stopped ws₂ (treeWalk (groupWith hp) tree first) _ at-tree t
 
       pub tree-done : (s : GroupState S) (n : ℕ) → length ws₂ ≡ length ws₁ → Walked ws₁ ws₂ (ended s n) (run im eof room (treeWalk (groupWith hp) tree first) (blocksOf m ws₁)) →

@@ -8,7 +8,8 @@ use lib.ListN.{getD, drop}
 use Rattle.format.specs.Limits.{blocksMost}
 use Rattle.format.specs.Bytes.{inRange, part, u8, u16, u32}
 use Rattle.format.specs.Blocks.{entryAnswer}
-use Rattle.format.specs.Walk.{Walk, ret, refuse, shown, check, _>>=_, _>>_, run}
+use Rattle.format.specs.declared.Refusal.{Refusal}
+use Rattle.format.specs.Walk.{fault, Walk, ret, refuse, shown, check, _>>=_, _>>_, run}
 use Rattle.format.specs.Names.{Bound}
 use Rattle.format.specs.Symbols.{SNOD, GroupState, entries, symbolWalk}
 use Rattle.walk.specs.Lent.{blocksOf, Lent, Walked, stopped, entering, entered}
@@ -41,9 +42,9 @@ module _ (im : List ℕ) (eof room : ℕ) (ws : List ℕ) (count at : ℕ) (l : 
   b = part im at size
 
   module _ (ws₁ : List ℕ) (q : ws₁ ≡ entered (entryAnswer eof room (blocksOf count ws) at size) ws count at size) where
-    module _ (m : ℕ) (e : Entered m ≡ entering (entryAnswer eof room (blocksOf count ws) at size) count) where
+    module _ (m : ℕ) (e : Entered m ≡ entering (entryAnswer eof room (blocksOf count ws) at size) 7 at size (blocksOf count ws) count) where
       pub symbols-counted : m ≡ count + 1
-      symbols-counted = entered-zero (entryAnswer eof room (blocksOf count ws) at size) count m e .1
+      symbols-counted = entered-zero 7 at size (blocksOf count ws) (entryAnswer eof room (blocksOf count ws) at size) count m e .1
 
     -- for any group with this K, any keys and any state
     module _ (g : Rattle.format.specs.Symbols.Group Both) (kk : g .leafK ≡ k) (bounds : List Bound) (s : GroupState Both) where
@@ -56,19 +57,19 @@ module _ (im : List ℕ) (eof room : ℕ) (ws : List ℕ) (count at : ℕ) (l : 
       sized : size ≡ 8 + 80 * g .leafK
       sized = rw kk
 
-      pub symbols-refused : (x : ℕ) → Refused x ≡ entering (entryAnswer eof room (blocksOf count ws) at size) count → Walked ws ws₁ (stopped x) (run im eof room w (blocksOf count ws))
+      pub symbols-refused : (x : Refusal) → Refused x ≡ entering (entryAnswer eof room (blocksOf count ws) at size) 7 at size (blocksOf count ws) count → Walked ws ws₁ (stopped x) (run im eof room w (blocksOf count ws))
       unfolding symbolWalk _>>=_
-      symbols-refused x e = block-refused size sized ws₁ begun q x e
+      symbols-refused x e = block-refused size sized (sym sized) ws₁ begun q x e
 
-      module _ (m : ℕ) (e : Entered m ≡ entering (entryAnswer eof room (blocksOf count ws) at size) count) where
+      module _ (m : ℕ) (e : Entered m ≡ entering (entryAnswer eof room (blocksOf count ws) at size) 7 at size (blocksOf count ws) count) where
         pub symbols-inside : at + size ≤ eof
         unfolding symbolWalk _>>=_
-        symbols-inside = entered-inside size sized ws₁ begun q m e
+        symbols-inside = entered-inside size sized (sym sized) ws₁ begun q m e
 
         at-signature : Simulation im eof room w count ws
-            (check (eqb (u32 b 0) SNOD) 7 >> (check (eqb (u8 b 4) 1) 7 >> (check (inRange 1 (2 * g .leafK) (u16 b 6)) 8 >> entries g bounds (u16 b 6) (drop 8 b) s))) m ws₁
+            (check (eqb (u32 b 0) SNOD) (fault 7 at) >> (check (eqb (u8 b 4) 1) (fault 7 at) >> (check (inRange 1 (2 * g .leafK) (u16 b 6)) (fault 8 at) >> entries g bounds (u16 b 6) (at + 8) (drop 8 b) s))) m ws₁
         unfolding symbolWalk _>>=_ shown
-        at-signature = block-entered size sized ws₁ begun q m e
+        at-signature = block-entered size sized (sym sized) ws₁ begun q m e
 
         pub symbols-lent : Lent ws₁ m room
         symbols-lent = at-signature .lent
@@ -77,42 +78,42 @@ module _ (im : List ℕ) (eof room : ℕ) (ws : List ℕ) (count at : ℕ) (l : 
           signature-there : u32 b 0 ≡ signature
           signature-there = part-first-number im at size 4 (omega arith) ∙ sym (n .value)
 
-          pub signature-wrong : (signature ≡ SNOD → ⊥) → Walked ws ws₁ (stopped 7) (run im eof room w (blocksOf count ws))
-          signature-wrong h = failed (eqb (u32 b 0) SNOD) 7 _ (field-unequal signature-there h) at-signature
+          pub signature-wrong : (signature ≡ SNOD → ⊥) → Walked ws ws₁ (stopped (fault 7 at)) (run im eof room w (blocksOf count ws))
+          signature-wrong h = failed (eqb (u32 b 0) SNOD) (fault 7 at) _ (field-unequal signature-there h) at-signature
 
           module _ (h : signature ≡ SNOD) where
-            at-version : Simulation im eof room w count ws (check (eqb (u8 b 4) 1) 7 >> (check (inRange 1 (2 * g .leafK) (u16 b 6)) 8 >> entries g bounds (u16 b 6) (drop 8 b) s)) m ws₁
-            at-version = passed (eqb (u32 b 0) SNOD) 7 _ (field-equal signature-there h) at-signature
+            at-version : Simulation im eof room w count ws (check (eqb (u8 b 4) 1) (fault 7 at) >> (check (inRange 1 (2 * g .leafK) (u16 b 6)) (fault 8 at) >> entries g bounds (u16 b 6) (at + 8) (drop 8 b) s)) m ws₁
+            at-version = passed (eqb (u32 b 0) SNOD) (fault 7 at) _ (field-equal signature-there h) at-signature
 
             version-there : u8 b 4 ≡ getD im (at + 4) 0
             version-there = part-byte im at size 4 (omega arith)
 
-            pub version-wrong : (getD im (at + 4) 0 ≡ 1 → ⊥) → Walked ws ws₁ (stopped 7) (run im eof room w (blocksOf count ws))
-            version-wrong o = failed (eqb (u8 b 4) 1) 7 _ (field-unequal version-there o) at-version
+            pub version-wrong : (getD im (at + 4) 0 ≡ 1 → ⊥) → Walked ws ws₁ (stopped (fault 7 at)) (run im eof room w (blocksOf count ws))
+            version-wrong o = failed (eqb (u8 b 4) 1) (fault 7 at) _ (field-unequal version-there o) at-version
 
             module _ (o : getD im (at + 4) 0 ≡ 1) (used : ℕ) (u : Number im (at + 6) 2 used) where
-              at-count : Simulation im eof room w count ws (check (inRange 1 (2 * g .leafK) (u16 b 6)) 8 >> entries g bounds (u16 b 6) (drop 8 b) s) m ws₁
-              at-count = passed (eqb (u8 b 4) 1) 7 _ (field-equal version-there o) at-version
+              at-count : Simulation im eof room w count ws (check (inRange 1 (2 * g .leafK) (u16 b 6)) (fault 8 at) >> entries g bounds (u16 b 6) (at + 8) (drop 8 b) s) m ws₁
+              at-count = passed (eqb (u8 b 4) 1) (fault 7 at) _ (field-equal version-there o) at-version
 
               used-there : u16 b 6 ≡ used
               used-there = part-number im at size 6 2 (omega arith) ∙ sym (u .value)
 
-              pub count-low : used < 1 → Walked ws ws₁ (stopped 8) (run im eof room w (blocksOf count ws))
-              count-low p = failed (inRange 1 (2 * g .leafK) (u16 b 6)) 8 _ (rw used-there (range-below 1 (2 * g .leafK) used p)) at-count
+              pub count-low : used < 1 → Walked ws ws₁ (stopped (fault 8 at)) (run im eof room w (blocksOf count ws))
+              count-low p = failed (inRange 1 (2 * g .leafK) (u16 b 6)) (fault 8 at) _ (rw used-there (range-below 1 (2 * g .leafK) used p)) at-count
 
-              pub count-high : 2 * k < used → Walked ws ws₁ (stopped 8) (run im eof room w (blocksOf count ws))
-              count-high p = failed (inRange 1 (2 * g .leafK) (u16 b 6)) 8 _ (rw (used-there, kk) (range-above 1 (2 * k) used p)) at-count
+              pub count-high : 2 * k < used → Walked ws ws₁ (stopped (fault 8 at)) (run im eof room w (blocksOf count ws))
+              count-high p = failed (inRange 1 (2 * g .leafK) (u16 b 6)) (fault 8 at) _ (rw (used-there, kk) (range-above 1 (2 * k) used p)) at-count
 
               module _ (p : 1 ≤ used) (r : used ≤ 2 * k) where
-                at-entries : Simulation im eof room w count ws (entries g bounds used (part im (at + 8) (80 * k)) s) m ws₁
+                at-entries : Simulation im eof room w count ws (entries g bounds used (at + 8) (part im (at + 8) (80 * k)) s) m ws₁
                 at-entries =
                     let z : 8 + 80 * k - 8 ≡ 80 * k = omega arith in
                     let d : drop 8 b ≡ part im (at + 8) (80 * k) = drop-part im at size 8 ∙ ap (part im (at + 8)) z in
-                    same-walk _ (rw (used-there, d)) (passed (inRange 1 (2 * g .leafK) (u16 b 6)) 8 _ (rw (used-there, kk) (range-inside 1 (2 * k) used p r)) at-count)
+                    same-walk _ (rw (used-there, d)) (passed (inRange 1 (2 * g .leafK) (u16 b 6)) (fault 8 at) _ (rw (used-there, kk) (range-inside 1 (2 * k) used p r)) at-count)
 
                 -- the entries' answer is the node's
                 pub symbols-end : (seg addresses counts : List ℕ) (x : Step) → ((t : State) → x ≡ Done t → t .count ≡ m) →
-                    stepOf seg addresses counts x ≡ entries g bounds used (part im (at + 8) (80 * k)) s → Walked ws ws₁ (stepEnd seg addresses counts x) (run im eof room w (blocksOf count ws))
+                    stepOf seg addresses counts x ≡ entries g bounds used (at + 8) (part im (at + 8) (80 * k)) s → Walked ws ws₁ (stepEnd seg addresses counts x) (run im eof room w (blocksOf count ws))
                 symbols-end seg addresses counts (Done t) c v = rw (c t refl) (returned (same-walk (ret (stateOf seg addresses counts t)) (sym v) at-entries))
                 symbols-end seg addresses counts (Stopped y) c v = refusal (same-walk (refuse y) (sym v) at-entries)
 

@@ -8,7 +8,8 @@ use mathlib.Core.Path.{_≡_, refl, ap, sym, _∙_}
 use native.Mathlib.Omega.{arith}
 use lib.ListN.{length, drop}
 use Rattle.format.specs.Bytes.{if_then_else_, part, u8, u16, u32, u64}
-use Rattle.format.specs.Walk.{Kind, shown, treeBlock, Walk, ret, enterBlock, check, _>>=_, _>>_, run}
+use Rattle.format.specs.declared.Refusal.{Refusal}
+use Rattle.format.specs.Walk.{fault, Kind, shown, treeBlock, Walk, ret, enterBlock, check, _>>=_, _>>_, run}
 use Rattle.format.specs.Heap.{Heap}
 use Rattle.format.specs.Names.{Bound, within, stringAt}
 use Rattle.format.specs.Symbols.{GroupState, symbolWalk}
@@ -71,7 +72,7 @@ module _ (im : List ℕ) (eof room : ℕ) (ws : List ℕ) (count : ℕ) (l : Len
       same-walk (branchWalk (g .heap) k level at >>= λ b. children (g .heap) (subtree g level) (u16 b 6) (drop 24 b) bounds s)
       (ap (λ (x : ℕ). subtree g x at bounds s) hh ∙ subtree-split g level at bounds s ∙ ap (λ (x : ℕ). branchWalk (g .heap) x level at >>= λ b. children (g .heap) (subtree g level) (u16 b 6) (drop 24 b) bounds s) kk) (start im eof room w count ws l)
 
-  pub node-stopped : (x : ℕ) → Walked ws ws₁ (stopped x) (run im eof room (branchWalk (g .heap) k level at) (blocksOf count ws)) → Walked ws ws₁ (stopped x) (run im eof room w (blocksOf count ws))
+  pub node-stopped : (x : Refusal) → Walked ws ws₁ (stopped x) (run im eof room (branchWalk (g .heap) k level at) (blocksOf count ws)) → Walked ws ws₁ (stopped x) (run im eof room w (blocksOf count ws))
   node-stopped x h = callee-stopped ws₁ (branchWalk (g .heap) k level at) _ split h
 
   pub node-done : (m n : ℕ) → length ws₁ ≡ length ws → n ≡ u16 im (at + 6) → Walked ws ws₁ (ended node m) (run im eof room (branchWalk (g .heap) k level at) (blocksOf count ws)) →
@@ -99,10 +100,10 @@ unfolding run _>>=_
 run-enter-same im eof room bs v a n f f′ e = rw e
 
 -- a node's tests, and what follows
-abbrev nodeTests : {A : Type 0} → ℕ → List ℕ → Walk A → Walk A
-nodeTests k b rest = check (eqb (u32 b 0) TREE) 7 >> (check (eqb (u8 b 4) 0) 8 >> (check (leb (u8 b 5) levelMost) 8 >> (check (leb (u16 b 6) (2 * k)) 8 >> rest)))
+abbrev nodeTests : {A : Type 0} → ℕ → ℕ → List ℕ → Walk A → Walk A
+nodeTests k at b rest = check (eqb (u32 b 0) TREE) (fault 7 at) >> (check (eqb (u8 b 4) 0) (fault 8 at) >> (check (leb (u8 b 5) levelMost) (fault 8 at) >> (check (leb (u16 b 6) (2 * k)) (fault 8 at) >> rest)))
 
-node-then : {A : Type 0} (k at : ℕ) (f : List ℕ → Walk A) → nodeWalk k at >>= f ≡ enterBlock treeBlock at (32 + 32 * k) >>= λ b. nodeTests k b (f b)
+node-then : {A : Type 0} (k at : ℕ) (f : List ℕ → Walk A) → nodeWalk k at >>= f ≡ enterBlock treeBlock at (32 + 32 * k) >>= λ b. nodeTests k at b (f b)
 unfolding nodeWalk
 node-then k at f = simp (bind-assoc, ret-bind)
 
@@ -112,10 +113,10 @@ module _ (im : List ℕ) (g : Rattle.format.specs.Symbols.Group Both) (at : ℕ
 
   -- what follows the root's tests, and what follows those of a node of this level
   abbrev afterRoot : List ℕ → Walk (GroupState Both)
-  afterRoot b = if eqb (u16 b 6) 0 then check (eqb (u8 b 5) 0) 8 >> ret s else branches (g .heap) (subtree g (u8 b 5)) b [] s
+  afterRoot b = if eqb (u16 b 6) 0 then check (eqb (u8 b 5) 0) (fault 8 at) >> ret s else branches (g .heap) (subtree g (u8 b 5)) at b [] s
 
   abbrev afterNode : ℕ → List ℕ → Walk (GroupState Both)
-  afterNode level b = check (eqb (u8 b 5) level) 8 >> (check (leb 1 (u16 b 6)) 8 >> branches (g .heap) (subtree g level) b [] s)
+  afterNode level b = check (eqb (u8 b 5) level) (fault 8 at) >> (check (leb 1 (u16 b 6)) (fault 8 at) >> branches (g .heap) (subtree g level) at b [] s)
 
   root-entries : u16 rootBytes 6 ≡ u16 im (at + 6)
   root-entries = part-number im at (32 + 32 * g .internalK) 6 2 (omega arith)
@@ -129,14 +130,14 @@ module _ (im : List ℕ) (g : Rattle.format.specs.Symbols.Group Both) (at : ℕ
       let a : eqb (u16 rootBytes 6) 0 ≡ false = field-unequal root-entries h in
       let c : leb 1 (u16 rootBytes 6) ≡ true = field-least root-entries (omega (arith, h)) in
       let d : eqb (u8 rootBytes 5) (u8 im (at + 5)) ≡ true = field-equal root-level refl in
-      rw (a, d, c) (ap (λ (x : ℕ). branches (g .heap) (subtree g x) rootBytes [] s) root-level)
+      rw (a, d, c) (ap (λ (x : ℕ). branches (g .heap) (subtree g x) at rootBytes [] s) root-level)
 
   -- a root with entries is a subtree of the root's level
   pub root-used : (eof room : ℕ) (bs : List Block) → (u16 im (at + 6) ≡ 0 → ⊥) → run im eof room (treeWalk g at s) bs ≡ run im eof room (subtree g (suc (u8 im (at + 5))) at [] s) bs
   unfolding treeWalk subtree shown
   root-used eof room bs h =
       ap (λ (w : Walk (GroupState Both)). run im eof room w bs) (node-then (g .internalK) at afterRoot)
-      ∙ run-enter-same im eof room bs treeBlock at (32 + 32 * g .internalK) _ _ (ap (nodeTests (g .internalK) rootBytes) (same-after h))
+      ∙ run-enter-same im eof room bs treeBlock at (32 + 32 * g .internalK) _ _ (ap (nodeTests (g .internalK) at rootBytes) (same-after h))
       ∙ sym (ap (λ (w : Walk (GroupState Both)). run im eof room w bs) (node-then (g .internalK) at (afterNode (u8 im (at + 5)))))
 
   -- an empty root, or one that can't be read
@@ -145,22 +146,22 @@ module _ (im : List ℕ) (g : Rattle.format.specs.Symbols.Group Both) (at : ℕ
     unfolding treeWalk
     root-start = same-walk _ (ap (λ (x : ℕ). nodeWalk x at >>= afterRoot) kk) (start im eof room (treeWalk g at s) count ws l)
 
-    pub root-stopped : (x : ℕ) → Walked ws ws₁ (stopped x) (run im eof room (nodeWalk k at) (blocksOf count ws)) → Walked ws ws₁ (stopped x) (run im eof room (treeWalk g at s) (blocksOf count ws))
+    pub root-stopped : (x : Refusal) → Walked ws ws₁ (stopped x) (run im eof room (nodeWalk k at) (blocksOf count ws)) → Walked ws ws₁ (stopped x) (run im eof room (treeWalk g at s) (blocksOf count ws))
     root-stopped x h = callee-stopped ws₁ (nodeWalk k at) _ root-start h
 
     module _ (m : ℕ) (same : length ws₁ ≡ length ws) (e : u16 im (at + 6) ≡ 0) (h : Walked ws ws₁ (ended (part im at (32 + 32 * k)) m) (run im eof room (nodeWalk k at) (blocksOf count ws))) where
-      pub root-empty : Simulation im eof room (treeWalk g at s) count ws (check (eqb (u8 (part im at (32 + 32 * k)) 5) 0) 8 >> ret s) m ws₁
+      pub root-empty : Simulation im eof room (treeWalk g at s) count ws (check (eqb (u8 (part im at (32 + 32 * k)) 5) 0) (fault 8 at) >> ret s) m ws₁
       root-empty = chosen-then _ _ _ (field-equal (part-number im at (32 + 32 * k) 6 2 (omega arith)) e) (callee-done ws₁ (nodeWalk k at) afterRoot root-start same h)
 
       module _ (level : ℕ) (o : level ≡ u8 im (at + 5)) where
         level-there : u8 (part im at (32 + 32 * k)) 5 ≡ level
         level-there = part-byte im at (32 + 32 * k) 5 (omega arith) ∙ sym o
 
-        pub empty-level-wrong : (level ≡ 0 → ⊥) → Walked ws ws₁ (stopped 8) (run im eof room (treeWalk g at s) (blocksOf count ws))
-        empty-level-wrong x = failed _ 8 _ (field-unequal level-there x) root-empty
+        pub empty-level-wrong : (level ≡ 0 → ⊥) → Walked ws ws₁ (stopped (fault 8 at)) (run im eof room (treeWalk g at s) (blocksOf count ws))
+        empty-level-wrong x = failed _ (fault 8 at) _ (field-unequal level-there x) root-empty
 
         pub empty-read : level ≡ 0 → Walked ws ws₁ (ended s m) (run im eof room (treeWalk g at s) (blocksOf count ws))
-        empty-read x = returned (passed _ 8 _ (field-equal level-there x) root-empty)
+        empty-read x = returned (passed _ (fault 8 at) _ (field-equal level-there x) root-empty)
 
 -- the whole tree has no keys above it
 pub no-bounds : (seg : List ℕ) (r : Range) → r .bounded ≡ false → Tight seg r []

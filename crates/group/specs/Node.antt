@@ -5,7 +5,7 @@ use mathlib.Core.Path.{_≡_}
 use lib.Dec.{eqb, leb}
 use lib.ListN.{length, drop}
 use Rattle.format.specs.Bytes.{part, littleEndian, u8, u16}
-use Rattle.format.specs.Walk.{Walk, ret, check, _>>=_, _>>_, run}
+use Rattle.format.specs.Walk.{fault, Walk, ret, check, _>>=_, _>>_, run}
 use Rattle.format.specs.Heap.{Heap}
 use Rattle.format.specs.Tree.{nodeWalk, keysWalk}
 use Rattle.heap.specs.Segment.{heapWith}
@@ -39,9 +39,9 @@ pub record NodeIs (im ws : List ℕ) (g : Group) (count at : ℕ) (ws′ : List 
 unfoldable pub branchWalk : Heap → ℕ → ℕ → ℕ → Walk (List ℕ)
 branchWalk h k level at = do
   b ← nodeWalk k at
-  check (eqb (u8 b 5) level) 8
-  check (leb 1 (u16 b 6)) 8
-  keysWalk h (u16 b 6 + 1) (drop 24 b)
+  check (eqb (u8 b 5) level) (fault 8 at)
+  check (leb 1 (u16 b 6)) (fault 8 at)
+  keysWalk h (u16 b 6 + 1) (at + 24) (drop 24 b)
   ret b
 
 abbrev pub branchEnd : List ℕ → Group → ℕ → BranchRead → Ended (List ℕ)

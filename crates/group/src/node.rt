@@ -1,9 +1,11 @@
 // A node of the tree.
+use format::Refusal;
 use symbol::entry::Group;
 use symbol::key;
 use symbol::key::Keys;
 use walk::blocks;
 use walk::blocks::Entry;
+use walk::kinds;
 use walk::numbers::u16_at;
 use walk::numbers::u32_at;
 ghost use Prim.Native.Nat.{_≤_, _<_};
@@ -21,7 +23,7 @@ pub enum NodeRead {
         entries: usize,
         count: usize,
     },
-    Stopped(u8),
+    Stopped(Refusal),
 }
 
 // The node at `at`: entered, its signature, type, level and number of entries.
@@ -32,24 +34,32 @@ pub fn read_node(image: &[u8], list: &mut [u64], group: Group, count: usize, at:
     ensures { λ r. ⌜ NodeIs (now (image .entry)) (now (list .entry)) group count at (now (list .exit)) r ⌝ }
 {
     let k = group.internal_k;
-    match blocks::enter(group.end_of_file, list, count, group.room, at, 32 + 32 * k) {
+    match blocks::enter(
+        group.end_of_file,
+        list,
+        count,
+        group.room,
+        kinds::TREE,
+        at,
+        32 + 32 * k,
+    ) {
         Entry::Refused(x) => NodeRead::Stopped(x),
         Entry::Entered(c) => {
             let start = at as usize;
             if u32_at(image, start) != TREE {
-                return NodeRead::Stopped(7);
+                return NodeRead::Stopped(Refusal::Fault(7, start));
             }
             if image[start + 4] != 0 {
-                return NodeRead::Stopped(8);
+                return NodeRead::Stopped(Refusal::Fault(8, start));
             }
             let limits = format::the_limits();
             let level = image[start + 5];
             if limits.level_most < level {
-                return NodeRead::Stopped(8);
+                return NodeRead::Stopped(Refusal::Fault(8, start));
             }
             let entries = u16_at(image, start + 6);
             if 2 * k < entries {
-                return NodeRead::Stopped(8);
+                return NodeRead::Stopped(Refusal::Fault(8, start));
             }
             NodeRead::Read {
                 level,
@@ -62,7 +72,7 @@ pub fn read_node(image: &[u8], list: &mut [u64], group: Group, count: usize, at:
 
 pub enum BranchRead {
     Read { entries: usize, count: usize },
-    Stopped(u8),
+    Stopped(Refusal),
 }
 
 // A node below the root, or a root that isn't empty: of this level, with an entry or more, all keys sound.
@@ -88,10 +98,10 @@ pub fn read_branch(
             count: c,
         } => {
             if own as u64 != level {
-                return BranchRead::Stopped(8);
+                return BranchRead::Stopped(Refusal::Fault(8, at as usize));
             }
             if entries < 1 {
-                return BranchRead::Stopped(8);
+                return BranchRead::Stopped(Refusal::Fault(8, at as usize));
             }
             match key::check_keys(image, segment, at as usize + 24, entries + 1) {
                 Keys::Unsound(x) => BranchRead::Stopped(x),

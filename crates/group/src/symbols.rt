@@ -1,4 +1,5 @@
 // A symbol table node.
+use format::Refusal;
 use symbol::entry;
 use symbol::entry::Group;
 use symbol::entry::State;
@@ -6,6 +7,7 @@ use symbol::entry::Step;
 use symbol::range::Range;
 use walk::blocks;
 use walk::blocks::Entry;
+use walk::kinds;
 use walk::numbers::u16_at;
 use walk::numbers::u32_at;
 ghost use Prim.Native.Nat.{_*_, _+_, _≤_};
@@ -37,6 +39,7 @@ pub fn symbol_node(
         list,
         state.count,
         group.room,
+        kinds::SYMBOL_NODE,
         at,
         8 + 80 * k,
     ) {
@@ -44,17 +47,17 @@ pub fn symbol_node(
         Entry::Entered(c) => {
             let start = at as usize;
             if u32_at(image, start) != SNOD {
-                return Step::Stopped(7);
+                return Step::Stopped(Refusal::Fault(7, start));
             }
             if image[start + 4] != 1 {
-                return Step::Stopped(7);
+                return Step::Stopped(Refusal::Fault(7, start));
             }
             let n = u16_at(image, start + 6);
             if n < 1 {
-                return Step::Stopped(8);
+                return Step::Stopped(Refusal::Fault(8, start));
             }
             if 2 * k < n {
-                return Step::Stopped(8);
+                return Step::Stopped(Refusal::Fault(8, start));
             }
             let objects = state.objects;
             let last = state.last;

@@ -3,6 +3,7 @@ use crate::node;
 use crate::node::BranchRead;
 use crate::node::NodeRead;
 use crate::symbols;
+use format::Refusal;
 use symbol::entry::Group;
 use symbol::entry::State;
 use symbol::entry::Step;
@@ -168,7 +169,7 @@ pub fn tree(
             count,
         } => {
             if level != 0 {
-                return Step::Stopped(8);
+                return Step::Stopped(Refusal::Fault(8, at as usize));
             }
             let objects = state.objects;
             let last = state.last;

@@ -10,6 +10,7 @@ use lib.Seq.{drop-set-add}
 use Rattle.format.specs.Limits.{blocksMost}
 use Rattle.format.specs.Bytes.{part, littleEndian, u16, u64}
 use Rattle.format.specs.Blocks.{Block, block, entryAnswer}
+use Rattle.format.specs.declared.Refusal.{Refusal}
 use Rattle.format.specs.Walk.{Walk, ret, refuse, enter, fixed, lengthIn, continuationBlock, isHeader, shown, _>>=_, run}
 use Rattle.format.specs.Message.{Message, ofType, messages}
 use Rattle.format.specs.Header.{continuations}
@@ -175,24 +176,24 @@ module _ (im : List ℕ) (eof room : ℕ) (w₀ : Walk (List Message)) (n₀ : �
         (enter continuationBlock address (fixed size) (λ b. messages (length b) address b >>= λ new. continuations k (found .rest ++ ofType 0x0010 new) (f .sofar ++ new))) n ws
     at-entry = same-walk _ (one-waits im (f .fuel) k (c .at) address size (f .waiting) (found .rest) (f .sofar) (fuel-left .1) (found .first) (found .long) a s) (f .come)
 
-    pub not-entered : (x : ℕ) → Refused x ≡ entering (entryAnswer eof room (blocksOf n ws) address size) n → Walked ws₀ ws₁ (stopped x) (run im eof room w₀ (blocksOf n₀ ws₀))
-    not-entered x e = block-refused size refl ws₁ at-entry q x e
+    pub not-entered : (x : Refusal) → Refused x ≡ entering (entryAnswer eof room (blocksOf n ws) address size) 3 address size (blocksOf n ws) n → Walked ws₀ ws₁ (stopped x) (run im eof room w₀ (blocksOf n₀ ws₀))
+    not-entered x e = block-refused size refl refl ws₁ at-entry q x e
 
-    module _ (m : ℕ) (e : Entered m ≡ entering (entryAnswer eof room (blocksOf n ws) address size) n) (i : eof ≤ length im) where
+    module _ (m : ℕ) (e : Entered m ≡ entering (entryAnswer eof room (blocksOf n ws) address size) 3 address size (blocksOf n ws) n) (i : eof ≤ length im) where
       pub inside : address + size ≤ eof
-      inside = entered-inside size refl ws₁ at-entry q m e
+      inside = entered-inside size refl refl ws₁ at-entry q m e
 
       behind-entry : Simulation im eof room w₀ n₀ ws₀
           (messages (length (part im address size)) address (part im address size) >>= λ new. continuations k (found .rest ++ ofType 0x0010 new) (f .sofar ++ new)) m ws₁
       unfolding shown
-      behind-entry = block-entered size refl ws₁ at-entry q m e
+      behind-entry = block-entered size refl refl ws₁ at-entry q m e
 
       -- the list may be lent on, with one block more
       pub entry-lent : Lent ws₁ m room
       entry-lent = behind-entry .lent
 
       pub one-more : m ≡ n + 1
-      one-more = entered-zero (entryAnswer eof room (blocksOf n ws) address size) n m e .1
+      one-more = entered-zero 3 address size (blocksOf n ws) (entryAnswer eof room (blocksOf n ws) address size) n m e .1
 
       block-is : (w : Walk (List Message)) → MessagesAre im address (address + size) w → messages (length (part im address size)) address (part im address size) ≡ w
       block-is w h =
@@ -200,7 +201,7 @@ module _ (im : List ℕ) (eof room : ℕ) (w₀ : Walk (List Message)) (n₀ : �
           let z : length (part im address size) ≡ size = part-length im address size (omega (arith, inside)) in
           rw z (rw d at (h size (omega arith)))
 
-      pub not-read : (x : ℕ) → MessagesAre im address (address + size) (refuse x) → Walked ws₀ ws₁ (stopped x) (run im eof room w₀ (blocksOf n₀ ws₀))
+      pub not-read : (x : Refusal) → MessagesAre im address (address + size) (refuse x) → Walked ws₀ ws₁ (stopped x) (run im eof room w₀ (blocksOf n₀ ws₀))
       not-read x h = callee-refusal _ _ x (block-is (refuse x) h) behind-entry
 
       module _ (new : List Message) (h : MessagesAre im address (address + size) (ret new)) (t′ : Tally)
@@ -210,7 +211,7 @@ module _ (im : List ℕ) (eof room : ℕ) (w₀ : Walk (List Message)) (n₀ : �
 
         pub waits : Waiting im ws₁ m (cursor (c .block) (c .at + 8 + u16 im (c .at + 2)) (c .end)) (found .rest ++ ofType 0x0010 new)
         waits =
-            let z = entered-zero (entryAnswer eof room (blocksOf n ws) address size) n m e in
+            let z = entered-zero 3 address size (blocksOf n ws) (entryAnswer eof room (blocksOf n ws) address size) n m e in
             let w : ws₁ ≡ set (set ws (n + n) address) (n + n + 1) size = q ∙ ap (λ (x : ℕ). entered x ws n address size) (z .0) in
             let l : n + n + 2 ≤ length ws = omega (arith, f .come .lent .lent, behind-entry .lent .counted, z .1) in
             rw (w, z .1) (waiting-more im ws n (cursor (c .block) (c .at + 8 + u16 im (c .at + 2)) (c .end)) (found .rest) new address size l holds-new (found .next))
@@ -223,5 +224,5 @@ module _ (im : List ℕ) (eof room : ℕ) (w₀ : Walk (List Message)) (n₀ : �
           come = callee-value _ _ new (block-is (ret new) h) behind-entry;
           sought = o;
           tally = more (f .sofar) (f .tally);
-          lasts = omega (arith, f .lasts, fuel-left .1, entered-zero (entryAnswer eof room (blocksOf n ws) address size) n m e .1);
+          lasts = omega (arith, f .lasts, fuel-left .1, entered-zero 3 address size (blocksOf n ws) (entryAnswer eof room (blocksOf n ws) address size) n m e .1);
         }

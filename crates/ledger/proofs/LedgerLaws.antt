@@ -10,7 +10,8 @@ use lib.Dec.{eqb, ltb}
 use lib.ListN.{length, length-append}
 use Rattle.format.specs.Limits.{objectsMost}
 use Rattle.format.specs.Bytes.{if_then_else_}
-use Rattle.format.specs.Walk.{ret, refuse}
+use Rattle.format.specs.declared.Refusal.{Refusal}
+use Rattle.format.specs.Walk.{answer, ret, refuse}
 use Rattle.format.specs.Symbols.{Entry, isHard}
 use Rattle.format.specs.Ledger.{Linked, linked, inLedger, addLink, countLink, discover}
 use Rattle.ledger.specs.Links.{addressesOf, countsOf, linkSum, linksTo, oneFor, Distinct}
@@ -25,7 +26,7 @@ module _ (a : ℕ) (os : List Linked) where
   unfolding countLink
   count-new e h = rw (e, lt-ltb (length os) objectsMost h)
 
-  pub count-full : inLedger a os ≡ false → objectsMost ≤ length os → countLink a os ≡ refuse 12
+  pub count-full : inLedger a os ≡ false → objectsMost ≤ length os → countLink a os ≡ refuse (answer 12)
   unfolding countLink
   count-full e h = rw (e, le-ltb (length os) objectsMost h)
 
@@ -36,20 +37,20 @@ module _ (a : ℕ) (os : List Linked) where
   count-cases os′ e = go (inLedger a os) (ltb (length os) objectsMost) refl refl e
     where
       go : (t u : Bool) → inLedger a os ≡ t → ltb (length os) objectsMost ≡ u →
-          (if t then ret (addLink a os) else if u then ret (os ++ (linked a 1 ∷ [])) else refuse 12) ≡ ret os′ →
+          (if t then ret (addLink a os) else if u then ret (os ++ (linked a 1 ∷ [])) else refuse (answer 12)) ≡ ret os′ →
           ((inLedger a os ≡ true) × (os′ ≡ addLink a os)) ⊎ ((inLedger a os ≡ false) × (length os < objectsMost) × (os′ ≡ os ++ (linked a 1 ∷ [])))
       go true u p q r = inl (p, cc)
       go false true p q r = inr (p, ltb-true _ _ q, cc)
       go false false p q r = let z : _≡_ {A = ℕ} 0 1 = cc in absurd (omega arith)
 
   -- a link is refused only with 12, for a new address and a full ledger
-  pub count-refused : (n : ℕ) → countLink a os ≡ refuse n → (n ≡ 12) × (inLedger a os ≡ false) × (objectsMost ≤ length os)
+  pub count-refused : (n : Refusal) → countLink a os ≡ refuse n → (n ≡ answer 12) × (inLedger a os ≡ false) × (objectsMost ≤ length os)
   unfolding countLink
   count-refused n e = go (inLedger a os) (ltb (length os) objectsMost) refl refl e
     where
       go : (t u : Bool) → inLedger a os ≡ t → ltb (length os) objectsMost ≡ u →
-          (if t then ret (addLink a os) else if u then ret (os ++ (linked a 1 ∷ [])) else refuse 12) ≡ refuse n →
-          (n ≡ 12) × (inLedger a os ≡ false) × (objectsMost ≤ length os)
+          (if t then ret (addLink a os) else if u then ret (os ++ (linked a 1 ∷ [])) else refuse (answer 12)) ≡ refuse n →
+          (n ≡ answer 12) × (inLedger a os ≡ false) × (objectsMost ≤ length os)
       go true u p q r = let z : _≡_ {A = ℕ} 0 1 = cc in absurd (omega arith)
       go false true p q r = let z : _≡_ {A = ℕ} 0 1 = cc in absurd (omega arith)
       go false false p q r = (cc, p, ltb-false _ _ q)

@@ -2,14 +2,15 @@
 use Prim.Native.Nat.{ℕ, zero, suc, _+_, _≤_}
 use mathlib.Core.Bool.{Bool, true, false, not}
 use mathlib.Core.List.{List, [], _∷_}
-use mathlib.Core.Path.{_≡_, refl}
+use mathlib.Core.Path.{_≡_, refl, ap, sym}
 use native.Mathlib.Omega.{arith}
 use lib.ListN.{drop, length}
 use lib.Dec.{eqb}
 use Rattle.format.specs.Limits.{imageLeast, imageMost}
 use Rattle.format.specs.Bytes.{if_then_else_, withFirst, inRange, u64}
 use Rattle.format.specs.Blocks.{Block, roomOf}
-use Rattle.format.specs.Walk.{ret, Outcome, done, refused, run, _>>=_}
+use Rattle.format.specs.declared.Refusal.{Refusal}
+use Rattle.format.specs.Walk.{fault, answerOf, ret, Outcome, done, refused, run, _>>=_}
 use Rattle.format.specs.Superblock.{Superblock, Opening, opened, notOpened, openImage, runOpened, signature, superblockRead, superblockSound, superblockFields, superblockWalk}
 use Rattle.format.specs.Header.{Object, group, dataset, committed}
 use Rattle.format.specs.Symbols.{Entry}
@@ -17,7 +18,7 @@ use Rattle.format.specs.Ledger.{Linked, countLink, discover}
 use Rattle.format.specs.Object.{contentWalk, objectWalk}
 use Rattle.format.specs.Audit.{objectsWalk, auditWalk, auditRun}
 use Rattle.format.specs.Answers.{auditEnd, audit}
-use Rattle.links.proofs.Numbered.{Refusal, Numbered, numbers, run-number}
+use Rattle.links.proofs.Numbered.{AuditNumber, Numbered, numbers, run-number}
 use Rattle.links.proofs.NumberedHeader.{header-numbered}
 use Rattle.links.proofs.NumberedDataset.{dataset-numbered}
 use Rattle.links.proofs.NumberedGroup.{group-numbered}
@@ -62,14 +63,15 @@ not-opened-number im n e = go (not (inRange imageLeast imageMost (length im))) (
     go false false false false q = let z : _≡_ {A = ℕ} 0 1 = cc in absurd (omega arith)
 
 -- an audit that is refused has one of the numbers 1 to 13
-pub audit-refusal : (im : List ℕ) (lent n : ℕ) (bs : List Block) → auditRun im lent ≡ refused n bs → (1 ≤ n) × (n ≤ 13)
+pub audit-refusal : (im : List ℕ) (lent : ℕ) (r : Refusal) (bs : List Block) → auditRun im lent ≡ refused r bs → (1 ≤ answerOf r) × (answerOf r ≤ 13)
 unfolding auditRun
-audit-refusal im lent n bs e = go (openImage im) refl e
+audit-refusal im lent r bs e = go (openImage im) refl e
   where
-    go : (o : Opening) → openImage im ≡ o → runOpened o (λ s. run im (s .endOfFile) (roomOf lent) (auditWalk s) []) ≡ refused n bs → Refusal n
-    go (opened s) p r = run-number im (s .endOfFile) (roomOf lent) (auditWalk s) [] n bs (audit-numbered s) r
-    go (notOpened m) p r =
-        let same : m ≡ n = cc in
+    go : (o : Opening) → openImage im ≡ o → runOpened o (λ s. run im (s .endOfFile) (roomOf lent) (auditWalk s) []) ≡ refused r bs → AuditNumber (answerOf r)
+    go (opened s) p q = run-number im (s .endOfFile) (roomOf lent) (auditWalk s) [] r bs (audit-numbered s) q
+    go (notOpened m) p q =
+        let same : fault m 0 ≡ r = cc in
+        let number : answerOf r ≡ m = ap answerOf (sym same) in
         let b = not-opened-number im m p in
         (omega (arith, b .0), omega (arith, b .1))
 
@@ -79,7 +81,7 @@ audit-answers im lent = go (auditRun im lent) refl
   where
     go : (o : Outcome (List Linked)) → auditRun im lent ≡ o → auditEnd im lent o .number ≤ 13
     go (done os bs) e = omega arith
-    go (refused n bs) e = audit-refusal im lent n bs e .1
+    go (refused r bs) e = audit-refusal im lent r bs e .1
 
 -- 0 is "done"
 pub audit-zero : (im : List ℕ) (lent : ℕ) → audit im lent .number ≡ 0 → (os : List Linked) × (bs : List Block) × (auditRun im lent ≡ done os bs)
@@ -88,4 +90,4 @@ audit-zero im lent = go (auditRun im lent) refl
   where
     go : (o : Outcome (List Linked)) → auditRun im lent ≡ o → auditEnd im lent o .number ≡ 0 → (os : List Linked) × (bs : List Block) × (auditRun im lent ≡ done os bs)
     go (done os bs) e z = (os, bs, e)
-    go (refused n bs) e z = absurd (omega (arith, audit-refusal im lent n bs e .0))
+    go (refused r bs) e z = absurd (omega (arith, audit-refusal im lent r bs e .0))

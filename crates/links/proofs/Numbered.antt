@@ -2,49 +2,57 @@
 use Prim.Native.Nat.{ℕ, zero, suc, _+_, _≤_}
 use mathlib.Core.Bool.{Bool, true, false}
 use mathlib.Core.List.{List, [], _∷_, _++_}
-use mathlib.Core.Path.{_≡_}
+use mathlib.Core.Path.{_≡_, refl}
 use native.Mathlib.Omega.{arith}
 use lib.Dec.{leb, ltb, lit≤}
 use lib.ListN.{length}
 use Rattle.format.specs.Bytes.{if_then_else_, part}
 use Rattle.format.specs.Blocks.{Block, block, overlapsAny, entryAnswer}
-use Rattle.format.specs.Walk.{Kind, Length, shown, lengthIn, Walk, ret, refuse, enter, check, _>>=_, Outcome, refused, ifEntered, run}
+use Rattle.format.specs.declared.Refusal.{Refusal}
+use Rattle.format.specs.Walk.{Kind, kindNumber, Length, shown, lengthIn, knownLength, fault as faultAt, notEntered, answerOf, Walk, ret, refuse, enter, check, located, _>>=_, Outcome, refused, ifEntered, run}
 use Rattle.format.specs.Names.{Text, text, fault, outside, noNul, badForm, inFreeBlock, faultNumber, textWalk}
 
 -- the numbers with which an audit is refused
-abbrev pub Refusal : ℕ → Type 0
-Refusal n = (1 ≤ n) × (n ≤ 13)
+abbrev pub AuditNumber : ℕ → Type 0
+AuditNumber n = (1 ≤ n) × (n ≤ 13)
 
 -- every refusal in the walk, whatever it is shown, has one of these numbers
 unfoldable pub Numbered : {A : Type 0} → Walk A → Type 0
 Numbered (ret a) = Unit {0}
-Numbered (refuse n) = Refusal n
+Numbered (refuse r) = AuditNumber (answerOf r)
 Numbered (enter v a l k) = (b : List ℕ) → Numbered (k b)
 
 -- one walk after another
 pub numbered-bind : {A B : Type 0} (w : Walk A) (f : A → Walk B) → Numbered w → ((a : A) → Numbered (f a)) → Numbered (w >>= f)
 unfolding Numbered _>>=_
 numbered-bind (ret a) f h c = c a
-numbered-bind (refuse n) f h c = h
+numbered-bind (refuse r) f h c = h
 numbered-bind (enter v a l k) f h c = λ b. numbered-bind (k b) f (h b) c
 
 pub numbered-ret : {A : Type 0} (a : A) → Numbered (ret a)
 unfolding Numbered
 numbered-ret a = tt
 
-pub numbered-refuse : (A : Type 0) (n : ℕ) → 1 ≤ n → n ≤ 13 → Numbered {A = A} (refuse n)
+pub numbered-refuse : (A : Type 0) (n at : ℕ) → 1 ≤ n → n ≤ 13 → Numbered {A = A} (refuse (faultAt n at))
 unfolding Numbered
-numbered-refuse A n l m = (l, m)
+numbered-refuse A n at l m = (l, m)
 
 pub numbered-enter : {A : Type 0} (v : Kind) (a : ℕ) (l : Length) (k : List ℕ → Walk A) → ((b : List ℕ) → Numbered (k b)) → Numbered (enter v a l k)
 unfolding Numbered
 numbered-enter v a l k h = h
 
 -- a test, and what follows
-pub numbered-check : {A : Type 0} (t : Bool) (n : ℕ) (w : Walk A) → 1 ≤ n → n ≤ 13 → Numbered w → Numbered (check t n >>= λ _. w)
+pub numbered-check : {A : Type 0} (t : Bool) (n at : ℕ) (w : Walk A) → 1 ≤ n → n ≤ 13 → Numbered w → Numbered (check t (faultAt n at) >>= λ _. w)
 unfolding Numbered _>>=_
-numbered-check true n w l m h = h
-numbered-check false n w l m h = (l, m)
+numbered-check true n at w l m h = h
+numbered-check false n at w l m h = (l, m)
+
+-- a part of a block has the numbers of its own walk
+pub numbered-located : {A : Type 0} (at : ℕ) (w : Walk A) → Numbered w → Numbered (located at w)
+unfolding Numbered located
+numbered-located at (ret a) h = h
+numbered-located at (refuse r) h = h
+numbered-located at (enter v a l k) h = λ b. numbered-located at (k b) (h b)
 
 pub numbered-if : {A : Type 0} (t : Bool) (x y : Walk A) → Numbered x → Numbered y → Numbered (if t then x else y)
 numbered-if true x y h k = h
@@ -69,18 +77,22 @@ entry-number eof room bs a n = go (leb (a + n) eof) (overlapsAny bs a n) (ltb (l
     go true false false = omega arith
     go false u v = omega arith
 
-entered-number : {A : Type 0} (g : ℕ) (o : Outcome A) (bs : List Block) (n : ℕ) (ms : List Block) → g ≤ 13 → (o ≡ refused n ms → Refusal n) → ifEntered g o (λ m. refused m bs) ≡ refused n ms → Refusal n
-entered-number zero o bs n ms l c e = c e
-entered-number (suc g) o bs n ms l c e = let same : suc g ≡ n = cc in (omega arith, omega arith)
+entered-number : {A : Type 0} (g : ℕ) (f : ℕ → Refusal) (o : Outcome A) (bs : List Block) (r : Refusal) (ms : List Block) → ((m : ℕ) → answerOf (f m) ≡ m) → g ≤ 13 →
+    (o ≡ refused r ms → AuditNumber (answerOf r)) → ifEntered g o (λ m. refused (f m) bs) ≡ refused r ms → AuditNumber (answerOf r)
+entered-number zero f o bs r ms n l c e = c e
+entered-number (suc g) f o bs r ms n l c e =
+    let same : f (suc g) ≡ r = cc in
+    let number : answerOf r ≡ suc g = rw same at (n (suc g)) in
+    (omega arith, omega arith)
 
 -- a run of such a walk is refused with one of these numbers
-pub run-number : (im : List ℕ) (eof room : ℕ) {A : Type 0} (w : Walk A) (bs : List Block) (n : ℕ) (ms : List Block) → Numbered w → run im eof room w bs ≡ refused n ms → Refusal n
+pub run-number : (im : List ℕ) (eof room : ℕ) {A : Type 0} (w : Walk A) (bs : List Block) (r : Refusal) (ms : List Block) → Numbered w → run im eof room w bs ≡ refused r ms → AuditNumber (answerOf r)
 unfolding Numbered run
-run-number im eof room (ret a) bs n ms h e = let z : _≡_ {A = ℕ} 0 1 = cc in absurd (omega arith)
-run-number im eof room (refuse m) bs n ms h e = let same : m ≡ n = cc in rw same at h
-run-number im eof room (enter v a l k) bs n ms h e =
+run-number im eof room (ret a) bs r ms h e = let z : _≡_ {A = ℕ} 0 1 = cc in absurd (omega arith)
+run-number im eof room (refuse q) bs r ms h e = let same : q ≡ r = cc in rw same at h
+run-number im eof room (enter v a l k) bs r ms h e =
     let b = shown v (part im a (lengthIn im v a l)) in
-    entered-number _ _ bs n ms (entry-number eof room bs a (lengthIn im v a l)) (run-number im eof room (k b) (bs ++ (block a (lengthIn im v a l) ∷ [])) n ms (h b)) e
+    entered-number _ (λ m. notEntered m (kindNumber v) a (knownLength im eof v a l) bs) _ bs r ms (λ m. refl) (entry-number eof room bs a (lengthIn im v a l)) (run-number im eof room (k b) (bs ++ (block a (lengthIn im v a l) ∷ [])) r ms (h b)) e
 
 -- the laws of such walks, for `search`
-pub ruleset numbers = (numbered-bind, numbered-ret, numbered-refuse, numbered-enter, numbered-check, numbered-if, numbered-text, tt, lit≤)
+pub ruleset numbers = (numbered-bind, numbered-ret, numbered-refuse, numbered-enter, numbered-check, numbered-if, numbered-located, numbered-text, tt, lit≤)

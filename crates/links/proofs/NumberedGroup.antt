@@ -24,10 +24,10 @@ heap-numbered : (at : ℕ) → Numbered (heapWalk at)
 unfolding heapWalk freeList
 heap-numbered at = search (numbers, free-numbered) depth 12
 
-keys-numbered : (h : Heap) (n : ℕ) (b : List ℕ) → Numbered (keysWalk h n b)
+keys-numbered : (h : Heap) (n at : ℕ) (b : List ℕ) → Numbered (keysWalk h n at b)
 unfolding keysWalk
-keys-numbered h zero b = search numbers
-keys-numbered h (suc n) b = let rest = keys-numbered h n (drop 16 b) in search numbers
+keys-numbered h zero at b = search numbers
+keys-numbered h (suc n) at b = let rest = keys-numbered h n (at + 16) (drop 16 b) in search numbers
 
 value-numbered : (h : Heap) (b : List ℕ) → Numbered (valueWalk h b)
 unfolding valueWalk
@@ -43,10 +43,10 @@ module _ {S : Type 0} (g : Group S) (visited : (e : Entry) (s : S) → Numbered 
   unfolding entryWalk
   entry-numbered bounds b s = search (numbers, value-numbered) depth 12
 
-  entries-numbered : (bounds : List Bound) (n : ℕ) (b : List ℕ) (s : GroupState S) → Numbered (entries g bounds n b s)
+  entries-numbered : (bounds : List Bound) (n at : ℕ) (b : List ℕ) (s : GroupState S) → Numbered (entries g bounds n at b s)
   unfolding entries
-  entries-numbered bounds zero b s = search numbers
-  entries-numbered bounds (suc n) b s = let rest = entries-numbered bounds n (drop 40 b) in search (numbers, entry-numbered)
+  entries-numbered bounds zero at b s = search numbers
+  entries-numbered bounds (suc n) at b s = let rest = entries-numbered bounds n (at + 40) (drop 40 b) in search (numbers, entry-numbered)
 
   symbol-numbered : (at : ℕ) (bounds : List Bound) (s : GroupState S) → Numbered (symbolWalk g at bounds s)
   unfolding symbolWalk
@@ -58,21 +58,21 @@ module _ {S : Type 0} (g : Group S) (visited : (e : Entry) (s : S) → Numbered 
     children-numbered zero b bounds s = search numbers
     children-numbered (suc n) b bounds s = let rest = children-numbered n (drop 16 b) bounds in search numbers
 
-    branches-numbered : (b : List ℕ) (bounds : List Bound) (s : GroupState S) → Numbered (branches h walk b bounds s)
+    branches-numbered : (at : ℕ) (b : List ℕ) (bounds : List Bound) (s : GroupState S) → Numbered (branches h walk at b bounds s)
     unfolding branches
-    branches-numbered b bounds s = search (numbers, keys-numbered, children-numbered)
+    branches-numbered at b bounds s = search (numbers, keys-numbered, children-numbered)
 
   subtree-numbered : (height at : ℕ) (bounds : List Bound) (s : GroupState S) → Numbered (subtree g height at bounds s)
   unfolding subtree
   subtree-numbered zero at bounds s = symbol-numbered at bounds s
   subtree-numbered (suc level) at bounds s =
       numbered-bind (nodeWalk (g .internalK) at) _ (node-numbered (g .internalK) at) λ b.
-      numbered-check (eqb (u8 b 5) level) 8 _ (omega arith) (omega arith) (numbered-check (leb 1 (u16 b 6)) 8 _ (omega arith) (omega arith) (branches-numbered (g .heap) (subtree g level) (subtree-numbered level) b bounds s))
+      numbered-check (eqb (u8 b 5) level) 8 at _ (omega arith) (omega arith) (numbered-check (leb 1 (u16 b 6)) 8 at _ (omega arith) (omega arith) (branches-numbered (g .heap) (subtree g level) (subtree-numbered level) at b bounds s))
 
   tree-numbered : (at : ℕ) (s : GroupState S) → Numbered (treeWalk g at s)
   unfolding treeWalk
   tree-numbered at s =
-      let rest : (level : ℕ) (b : List ℕ) → Numbered (branches (g .heap) (subtree g level) b [] s) = λ level b. branches-numbered (g .heap) (subtree g level) (subtree-numbered level) b [] s in
+      let rest : (level : ℕ) (b : List ℕ) → Numbered (branches (g .heap) (subtree g level) at b [] s) = λ level b. branches-numbered (g .heap) (subtree g level) (subtree-numbered level) at b [] s in
       search (numbers, node-numbered) depth 8
 
 pub group-numbered : {S : Type 0} (leafK internalK tree heap : ℕ) (visit : Entry → S → Walk S) (found : S) → ((e : Entry) (s : S) → Numbered (visit e s)) → Numbered (groupWalk leafK internalK tree heap visit found)

@@ -30,9 +30,9 @@ contents-numbered : (at : ℕ) (b : List ℕ) → Numbered (headerContents at b)
 unfolding headerContents
 contents-numbered at b = search (numbers, messages-numbered, continuations-numbered) depth 8
 
-object-numbered : (ms : List Message) → Numbered (objectOf ms)
+object-numbered : (at : ℕ) (ms : List Message) → Numbered (objectOf at ms)
 unfolding objectOf
-object-numbered ms = search numbers depth 8
+object-numbered at ms = search numbers depth 8
 
 pub header-numbered : (at : ℕ) → Numbered (headerWalk at)
 unfolding headerWalk headerMessages

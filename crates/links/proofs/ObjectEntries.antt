@@ -54,5 +54,5 @@ module _ (im : List ℕ) (room : ℕ) (s : Superblock) where
   unfolding entriesAt headerWalk headerMessages
   header-inside at bs es ms e =
       let d = bind-done im (s .endOfFile) room (headerWalk at) (λ o. contentEntries s o) bs es ms e in
-      let h = bind-done im (s .endOfFile) room (headerMessages at) objectOf bs (d .0) (d .1) (d .2) in
+      let h = bind-done im (s .endOfFile) room (headerMessages at) (objectOf at) bs (d .0) (d .1) (d .2) in
       omega (arith, enter-inside im (s .endOfFile) room headerBlock at (stored 16 (λ p. u32 p 8)) (headerContents at) bs (h .0) (h .1) (h .2))

@@ -5,6 +5,7 @@ use mathlib.Core.Path.{_≡_, refl, sym, _∙_}
 use native.Mathlib.Omega.{arith}
 use lib.ListN.{length}
 use Rattle.format.specs.Blocks.{Block, entryAnswer}
+use Rattle.format.specs.declared.Refusal.{Refusal}
 use Rattle.format.specs.Walk.{Kind, Length, lengthIn, Walk, enter, _>>=_, Outcome, done, refused, ifEntered, run, andThen}
 use Rattle.walk.proofs.Bind.{run-bind}
 use Rattle.walk.proofs.Growth.{run-grown}
@@ -14,9 +15,9 @@ pub then-done : {A B : Type 0} (o : Outcome A) (f : A → List Block → Outcome
 then-done (done a cs) f b ms e = (a, cs, refl, e)
 then-done (refused n cs) f b ms e = let z : _≡_ {A = ℕ} 0 1 = cc in absurd (omega arith)
 
-entered-done : {A : Type 0} (n : ℕ) (o : Outcome A) (bs : List Block) (a : A) (ms : List Block) → ifEntered n o (λ m. refused m bs) ≡ done a ms → (n ≡ 0) × (o ≡ done a ms)
-entered-done zero o bs a ms e = (refl, e)
-entered-done (suc n) o bs a ms e = let z : _≡_ {A = ℕ} 0 1 = cc in absurd (omega arith)
+entered-done : {A : Type 0} (n : ℕ) (f : ℕ → Refusal) (o : Outcome A) (bs : List Block) (a : A) (ms : List Block) → ifEntered n o (λ m. refused (f m) bs) ≡ done a ms → (n ≡ 0) × (o ≡ done a ms)
+entered-done zero f o bs a ms e = (refl, e)
+entered-done (suc n) f o bs a ms e = let z : _≡_ {A = ℕ} 0 1 = cc in absurd (omega arith)
 
 module _ (im : List ℕ) (eof room : ℕ) where
   -- one walk after another is done: each is
@@ -29,7 +30,7 @@ module _ (im : List ℕ) (eof room : ℕ) where
       run im eof room (enter v a l k) bs ≡ done x ms → a + lengthIn im v a l ≤ eof
   unfolding run
   enter-inside v a l k bs x ms e =
-      entryAnswer-zero eof room bs a (lengthIn im v a l) (entered-done (entryAnswer eof room bs a (lengthIn im v a l)) _ bs x ms e .0) .0
+      entryAnswer-zero eof room bs a (lengthIn im v a l) (entered-done (entryAnswer eof room bs a (lengthIn im v a l)) _ _ bs x ms e .0) .0
 
   -- the blocks of a run that is done are no more than the room
   pub done-fits : {A : Type 0} (w : Walk A) (bs : List Block) (a : A) (ms : List Block) → length bs ≤ room → run im eof room w bs ≡ done a ms → length ms ≤ room

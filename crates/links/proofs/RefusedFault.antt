@@ -1,84 +1,90 @@
--- "each refusal has one cause in the walk": a run is refused exactly where its walk comes to a fault, with the fault's answer and the blocks before it.
+-- "each refusal has one cause in the walk": a run is refused exactly where its walk comes to a fault, with the fault's refusal and the blocks before it.
 use Prim.Native.Nat.{ℕ, zero, suc}
 use mathlib.Core.List.{List, [], _∷_, _++_}
 use mathlib.Core.Logic.{_⊎_, inl, inr, ⊎-elim}
-use mathlib.Core.Path.{_≡_, refl, ap}
+use mathlib.Core.Path.{_≡_, refl}
 use native.Mathlib.Omega.{arith}
 use Rattle.format.specs.Bytes.{part}
 use Rattle.format.specs.Blocks.{Block, block, entryAnswer, roomOf}
-use Rattle.format.specs.Walk.{shown, lengthIn, Walk, ret, refuse, enter, Outcome, done, refused, ifEntered, run}
+use Rattle.format.specs.declared.Refusal.{Refusal}
+use Rattle.format.specs.Walk.{kindNumber, shown, lengthIn, knownLength, fault, notEntered, Walk, ret, refuse, enter, Outcome, done, refused, ifEntered, run}
 use Rattle.format.specs.Superblock.{Superblock, Opening, opened, notOpened, openImage, runOpened}
 use Rattle.format.specs.Ledger.{Linked}
 use Rattle.format.specs.Audit.{auditWalk, auditRun}
-use Rattle.links.specs.Fault.{Fault, here, notEntered, later, AuditFault}
+use Rattle.links.specs.Fault.{Fault, here, atEntry, later, AuditFault}
 
-entered-refused : {A : Type 0} (g : ℕ) (o : Outcome A) (bs : List Block) (n : ℕ) (ms : List Block) → ifEntered g o (λ m. refused m bs) ≡ refused n ms →
-    ((g ≡ n) × (n ≡ 0 → ⊥) × (bs ≡ ms)) ⊎ ((g ≡ 0) × (o ≡ refused n ms))
-entered-refused zero o bs n ms e = inr (refl, e)
-entered-refused (suc g) o bs n ms e = let same : suc g ≡ n = cc in inl (same, (λ z. omega arith), cc)
+entered-refused : {A : Type 0} (g : ℕ) (f : ℕ → Refusal) (o : Outcome A) (bs : List Block) (r : Refusal) (ms : List Block) → ifEntered g o (λ m. refused (f m) bs) ≡ refused r ms →
+    ((f g ≡ r) × (g ≡ 0 → ⊥) × (bs ≡ ms)) ⊎ ((g ≡ 0) × (o ≡ refused r ms))
+entered-refused zero f o bs r ms e = inr (refl, e)
+entered-refused (suc g) f o bs r ms e = inl (cc, (λ z. omega arith), cc)
 
-not-entered : {A : Type 0} (g : ℕ) (o : Outcome A) (bs : List Block) → (g ≡ 0 → ⊥) → ifEntered g o (λ m. refused m bs) ≡ refused g bs
-not-entered zero o bs h = absurd (h refl)
-not-entered (suc g) o bs h = refl
+not-entered : {A : Type 0} (g : ℕ) (f : ℕ → Refusal) (o : Outcome A) (bs : List Block) → (g ≡ 0 → ⊥) → ifEntered g o (λ m. refused (f m) bs) ≡ refused (f g) bs
+not-entered zero f o bs h = absurd (h refl)
+not-entered (suc g) f o bs h = refl
 
 module _ (im : List ℕ) (eof room : ℕ) {A : Type 0} where
-  pub refused-fault : (w : Walk A) (bs : List Block) (n : ℕ) (ms : List Block) → run im eof room w bs ≡ refused n ms → Fault im eof room w bs n ms
+  pub refused-fault : (w : Walk A) (bs : List Block) (r : Refusal) (ms : List Block) → run im eof room w bs ≡ refused r ms → Fault im eof room w bs r ms
   unfolding run
-  refused-fault (ret a) bs n ms e = let z : _≡_ {A = ℕ} 0 1 = cc in absurd (omega arith)
-  refused-fault (refuse m) bs n ms e =
-      let answer : m ≡ n = cc in
+  refused-fault (ret a) bs r ms e = let z : _≡_ {A = ℕ} 0 1 = cc in absurd (omega arith)
+  refused-fault (refuse q) bs r ms e =
+      let same : q ≡ r = cc in
       let blocks : bs ≡ ms = cc in
-      rw (answer, blocks) here
-  refused-fault (enter v a l k) bs n ms e =
+      rw (same, blocks) here
+  refused-fault (enter v a l k) bs r ms e =
       let size = lengthIn im v a l in
-      let f = refused-fault (k (shown v (part im a size))) (bs ++ (block a size ∷ [])) n ms in
-      ⊎-elim (λ h. let stay : bs ≡ ms = h .2 in rw (← stay) (notEntered (h .0) (h .1))) (λ h. later (h .0) (f (h .1)))
-      (entered-refused (entryAnswer eof room bs a size) (run im eof room (k (shown v (part im a size))) (bs ++ (block a size ∷ []))) bs n ms e)
+      let f = refused-fault (k (shown v (part im a size))) (bs ++ (block a size ∷ [])) r ms in
+      ⊎-elim
+      (λ h.
+      let stay : bs ≡ ms = h .2 in
+      let same : notEntered (entryAnswer eof room bs a size) (kindNumber v) a (knownLength im eof v a l) bs ≡ r = h .0 in
+      rw (← stay, ← same) (atEntry refl (h .1)))
+      (λ h. later (h .0) (f (h .1)))
+      (entered-refused (entryAnswer eof room bs a size) (λ m. notEntered m (kindNumber v) a (knownLength im eof v a l) bs) (run im eof room (k (shown v (part im a size))) (bs ++ (block a size ∷ []))) bs r ms e)
 
-  pub fault-refused : {w : Walk A} {bs : List Block} {n : ℕ} {ms : List Block} → Fault im eof room w bs n ms → run im eof room w bs ≡ refused n ms
+  pub fault-refused : {w : Walk A} {bs : List Block} {r : Refusal} {ms : List Block} → Fault im eof room w bs r ms → run im eof room w bs ≡ refused r ms
   unfolding run
   fault-refused here = refl
-  fault-refused (notEntered {v = v} {a = a} {l = l} {k = k} {n = n} {bs = bs} g h) = rw g (not-entered n _ bs h)
-  fault-refused (later {v = v} {a = a} {l = l} {k = k} {n = n} {bs = bs} {ms = ms} g f) = rw g (fault-refused f)
+  fault-refused (atEntry {v = v} {a = a} {l = l} {k = k} {n = n} {bs = bs} g h) = rw g (not-entered n (λ m. notEntered m (kindNumber v) a (knownLength im eof v a l) bs) _ bs h)
+  fault-refused (later {v = v} {a = a} {l = l} {k = k} {r = r} {bs = bs} {ms = ms} g f) = rw g (fault-refused f)
 
   -- a run that isn't done has a fault
-  pub done-or-fault : (w : Walk A) (bs : List Block) → ((a : A) × (ms : List Block) × (run im eof room w bs ≡ done a ms)) ⊎ ((n : ℕ) × (ms : List Block) × Fault im eof room w bs n ms)
+  pub done-or-fault : (w : Walk A) (bs : List Block) → ((a : A) × (ms : List Block) × (run im eof room w bs ≡ done a ms)) ⊎ ((r : Refusal) × (ms : List Block) × Fault im eof room w bs r ms)
   done-or-fault w bs = go (run im eof room w bs) refl
     where
-      go : (o : Outcome A) → run im eof room w bs ≡ o → ((a : A) × (ms : List Block) × (run im eof room w bs ≡ done a ms)) ⊎ ((n : ℕ) × (ms : List Block) × Fault im eof room w bs n ms)
+      go : (o : Outcome A) → run im eof room w bs ≡ o → ((a : A) × (ms : List Block) × (run im eof room w bs ≡ done a ms)) ⊎ ((r : Refusal) × (ms : List Block) × Fault im eof room w bs r ms)
       go (done a ms) e = inl (a, ms, e)
-      go (refused n ms) e = inr (n, ms, refused-fault w bs n ms e)
+      go (refused r ms) e = inr (r, ms, refused-fault w bs r ms e)
 
   -- one cause: two faults of one run are at one place
-  pub fault-one : {w : Walk A} {bs : List Block} {n n′ : ℕ} {ms ms′ : List Block} → Fault im eof room w bs n ms → Fault im eof room w bs n′ ms′ → (n ≡ n′) × (ms ≡ ms′)
+  pub fault-one : {w : Walk A} {bs : List Block} {r r′ : Refusal} {ms ms′ : List Block} → Fault im eof room w bs r ms → Fault im eof room w bs r′ ms′ → (r ≡ r′) × (ms ≡ ms′)
   fault-one f f′ =
       let e = fault-refused f in
       let e′ = fault-refused f′ in
       (cc, cc)
 
-opened-refused : {A : Type 0} (o : Opening) (f : Superblock → Outcome A) (n : ℕ) (bs : List Block) → runOpened o f ≡ refused n bs →
-    ((o ≡ notOpened n) × (bs ≡ [])) ⊎ ((s : Superblock) × (o ≡ opened s) × (f s ≡ refused n bs))
-opened-refused (opened s) f n bs e = inr (s, refl, e)
-opened-refused (notOpened m) f n bs e = inl (ap notOpened (cc), cc)
+opened-refused : {A : Type 0} (o : Opening) (f : Superblock → Outcome A) (r : Refusal) (bs : List Block) → runOpened o f ≡ refused r bs →
+    ((n : ℕ) × (o ≡ notOpened n) × (r ≡ fault n 0) × (bs ≡ [])) ⊎ ((s : Superblock) × (o ≡ opened s) × (f s ≡ refused r bs))
+opened-refused (opened s) f r bs e = inr (s, refl, e)
+opened-refused (notOpened m) f r bs e = inl (m, refl, cc, cc)
 
 -- the audit
-module _ (im : List ℕ) (lent n : ℕ) (bs : List Block) where
+module _ (im : List ℕ) (lent : ℕ) (r : Refusal) (bs : List Block) where
   abbrev walked : Superblock → Outcome (List Linked)
   walked s = run im (s .endOfFile) (roomOf lent) (auditWalk s) []
 
-  pub audit-refused-fault : auditRun im lent ≡ refused n bs → AuditFault im lent n bs
+  pub audit-refused-fault : auditRun im lent ≡ refused r bs → AuditFault im lent r bs
   unfolding auditRun
   audit-refused-fault e =
-      ⊎-elim (λ h. inl h) (λ h. inr (h .0, h .1, refused-fault im (h .0 .endOfFile) (roomOf lent) (auditWalk (h .0)) [] n bs (h .2)))
-      (opened-refused (openImage im) walked n bs e)
+      ⊎-elim (λ h. inl h) (λ h. inr (h .0, h .1, refused-fault im (h .0 .endOfFile) (roomOf lent) (auditWalk (h .0)) [] r bs (h .2)))
+      (opened-refused (openImage im) walked r bs e)
 
-  pub audit-fault-refused : AuditFault im lent n bs → auditRun im lent ≡ refused n bs
+  pub audit-fault-refused : AuditFault im lent r bs → auditRun im lent ≡ refused r bs
   unfolding auditRun
-  audit-fault-refused f = ⊎-elim (λ h. rw (h .0, h .1)) (λ h. rw (h .1) (fault-refused im (h .0 .endOfFile) (roomOf lent) (h .2))) f
+  audit-fault-refused f = ⊎-elim (λ h. rw (h .1, h .2, h .3)) (λ h. rw (h .1) (fault-refused im (h .0 .endOfFile) (roomOf lent) (h .2))) f
 
 -- an audit is refused for one cause
-pub audit-fault-one : (im : List ℕ) (lent n n′ : ℕ) (bs bs′ : List Block) → AuditFault im lent n bs → AuditFault im lent n′ bs′ → (n ≡ n′) × (bs ≡ bs′)
-audit-fault-one im lent n n′ bs bs′ f f′ =
-    let e = audit-fault-refused im lent n bs f in
-    let e′ = audit-fault-refused im lent n′ bs′ f′ in
+pub audit-fault-one : (im : List ℕ) (lent : ℕ) (r r′ : Refusal) (bs bs′ : List Block) → AuditFault im lent r bs → AuditFault im lent r′ bs′ → (r ≡ r′) × (bs ≡ bs′)
+audit-fault-one im lent r r′ bs bs′ f f′ =
+    let e = audit-fault-refused im lent r bs f in
+    let e′ = audit-fault-refused im lent r′ bs′ f′ in
     (cc, cc)

@@ -6,7 +6,8 @@ use mathlib.Core.Path.{_≡_, refl, ap, sym, subst, _∙_}
 use native.Mathlib.Omega.{arith}
 use lib.ListN.{length}
 use Rattle.format.specs.Blocks.{Block}
-use Rattle.format.specs.Walk.{Walk, refuse, _>>=_, _>>_, Outcome, done, refused, run, andThen}
+use Rattle.format.specs.declared.Refusal.{Refusal}
+use Rattle.format.specs.Walk.{Walk, refuse, fault, _>>=_, _>>_, Outcome, done, refused, run, andThen}
 use Rattle.format.specs.Superblock.{superblockWalk}
 use Rattle.format.specs.Message.{Message}
 use Rattle.format.specs.Header as headers
@@ -49,7 +50,7 @@ lookup-done ws ws′ addresses counts os s (refused m bs) o′ n w =
     let z : _≡_ {A = ℕ} 0 1 = cc (u .answer) in
     absurd (omega arith)
 
-lookup-refused : (ws ws′ addresses counts : List ℕ) (os : List Linked) (m : ℕ) (o : Outcome lookup.Link) (o′ : Outcome Both) →
+lookup-refused : (ws ws′ addresses counts : List ℕ) (os : List Linked) (m : Refusal) (o : Outcome lookup.Link) (o′ : Outcome Both) →
     Ran true (λ x b. (last : List ℕ) × (b ≡ record { ledger = os; link = x })) o o′ → Walked ws ws′ (groupEnd addresses counts (steps.the-variants.Stopped m)) o′ →
     (bs : List Block) × (o ≡ refused m bs)
 unfolding Ran
@@ -89,7 +90,7 @@ module _ (im name ws addresses counts : List ℕ) (s : Superblock) (room tree he
   bound e = run-bind im eof room w (targetWalk last) (blocksOf count ws) ∙ ap (λ (x : Outcome lookup.Link). andThen x (λ l cs. run im eof room (targetWalk last l) cs)) e
 
   -- the group is not sound
-  pub group-stopped : (x : ℕ) → GroupIs im name ws addresses counts eof room (s .«leaf_k») (s .«internal_k») false tree heap count 0 ws₁ addresses₁ counts₁ (steps.the-variants.Stopped x) →
+  pub group-stopped : (x : Refusal) → GroupIs im name ws addresses counts eof room (s .«leaf_k») (s .«internal_k») false tree heap count 0 ws₁ addresses₁ counts₁ (steps.the-variants.Stopped x) →
       FoundIs im name ws s room tree heap count last addresses₁ counts₁ (Stopped x)
   group-stopped x g =
       let o = lookup-refused ws ws₁ addresses₁ counts₁ (linkedOf 0 addresses counts) x _ _ part (g .walked) in
@@ -109,7 +110,7 @@ module _ (im name ws : List ℕ) (s : Superblock) (room at : ℕ) (last : Bool) 
   abbrev whole : Walk lookup.Target
   whole = componentWalk (superblockOf s) name last at
 
-  pub superblock-stopped : (addresses counts : List ℕ) (x : ℕ) → Walked ws ws₁ (stopped x) (run im (s .«end_of_file») room (superblockWalk (superblockOf s)) []) → ComponentIs im name s room at last addresses counts (Stopped x)
+  pub superblock-stopped : (addresses counts : List ℕ) (x : Refusal) → Walked ws ws₁ (stopped x) (run im (s .«end_of_file») room (superblockWalk (superblockOf s)) []) → ComponentIs im name s room at last addresses counts (Stopped x)
   unfolding componentWalk blocksOf
   superblock-stopped addresses counts x h =
       record { found = walked-refused ws ws₁ x _ (callee-stopped ws₁ (superblockWalk (superblockOf s)) _ (start im (s .«end_of_file») room whole 0 ws l) h); table = tt }
@@ -120,7 +121,7 @@ module _ (im name ws : List ℕ) (s : Superblock) (room at : ℕ) (last : Bool) 
     at-header = callee-done ws₁ (superblockWalk (superblockOf s)) _ (start im (s .«end_of_file») room whole 0 ws l) same h
 
     module _ (ws₂ : List ℕ) where
-      pub header-stopped : (addresses counts : List ℕ) (x : ℕ) → Walked ws₁ ws₂ (stopped x) (run im (s .«end_of_file») room (headerWalk at) (blocksOf n ws₁)) → ComponentIs im name s room at last addresses counts (Stopped x)
+      pub header-stopped : (addresses counts : List ℕ) (x : Refusal) → Walked ws₁ ws₂ (stopped x) (run im (s .«end_of_file») room (headerWalk at) (blocksOf n ws₁)) → ComponentIs im name s room at last addresses counts (Stopped x)
       unfolding blocksOf
       header-stopped addresses counts x k = record { found = walked-refused ws ws₂ x _ (callee-stopped ws₂ (headerWalk at) _ at-header k); table = tt }
 
@@ -129,17 +130,17 @@ module _ (im name ws : List ℕ) (s : Superblock) (room at : ℕ) (last : Bool) 
         at-kind = callee-done ws₂ (headerWalk at) _ at-header same₂ k
 
         -- it is no group
-        not-a-group : (addresses counts : List ℕ) → findWalk (superblockOf s) name o ≡ refuse 17 → ComponentIs im name s room at last addresses counts (Stopped 17)
+        not-a-group : (addresses counts : List ℕ) → findWalk (superblockOf s) name o ≡ refuse (fault 17 0) → ComponentIs im name s room at last addresses counts (Stopped (fault 17 0))
         unfolding blocksOf run _>>=_
         not-a-group addresses counts e = record { found = (blocksOf m ws₂, at-kind .sameRun ∙ rw e refl); table = tt }
 
       module _ (m : ℕ) (same₂ : length ws₂ ≡ length ws₁) where
-        pub committed-found : (addresses counts : List ℕ) → Walked ws₁ ws₂ (ended headers.committed m) (run im (s .«end_of_file») room (headerWalk at) (blocksOf n ws₁)) → ComponentIs im name s room at last addresses counts (Stopped 17)
+        pub committed-found : (addresses counts : List ℕ) → Walked ws₁ ws₂ (ended headers.committed m) (run im (s .«end_of_file») room (headerWalk at) (blocksOf n ws₁)) → ComponentIs im name s room at last addresses counts (Stopped (fault 17 0))
         unfolding findWalk
         committed-found addresses counts k = not-a-group headers.committed m same₂ k addresses counts refl
 
         pub dataset-found : (addresses counts : List ℕ) (space type layout : Message) → Walked ws₁ ws₂ (ended (headers.dataset space type layout) m) (run im (s .«end_of_file») room (headerWalk at) (blocksOf n ws₁)) →
-            ComponentIs im name s room at last addresses counts (Stopped 17)
+            ComponentIs im name s room at last addresses counts (Stopped (fault 17 0))
         unfolding findWalk
         dataset-found addresses counts space type layout k = not-a-group (headers.dataset space type layout) m same₂ k addresses counts refl
 

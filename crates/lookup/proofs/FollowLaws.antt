@@ -8,6 +8,7 @@ use borrow.Author.Tests.{le-leb, lt-leb, leb-true, leb-false, eq-eqb, ne-eqb}
 use lib.ListN.{length, drop}
 use lib.Dec.{leb, eqb}
 use Rattle.format.specs.Bytes.{if_then_else_, isEmpty, part}
+use Rattle.format.specs.declared.Refusal.{Refusal}
 use Rattle.format.specs.Walk.{Walk, Outcome, done, refused, run, andThen, _>>_}
 use Rattle.format.specs.Superblock.{Superblock, superblockWalk}
 use Rattle.format.specs.Path.{withByte, pathParts}
@@ -82,7 +83,7 @@ module _ (im path : List ℕ) (s : Superblock) (room start end at : ℕ) (h : st
   pub symbolic-next : EndsAs targets.the-variants.Symbolic found → EndsAs targets.the-variants.Symbolic (targetRun im s room (restOf path start) at)
   symbolic-next q = ([], next (q .1))
 
-  pub stopped-next : (n : ℕ) → EndsAs (targets.the-variants.Stopped n) found → EndsAs (targets.the-variants.Stopped n) (targetRun im s room (restOf path start) at)
+  pub stopped-next : (n : Refusal) → EndsAs (targets.the-variants.Stopped n) found → EndsAs (targets.the-variants.Stopped n) (targetRun im s room (restOf path start) at)
   stopped-next n q = (q .0, next (q .1))
 
 -- no component is left

@@ -3,6 +3,7 @@ use Prim.Native.Nat.{ℕ}
 use mathlib.Core.List.{List, []}
 use mathlib.Core.Path.{_≡_}
 use lib.ListN.{length}
+use Rattle.format.specs.declared.Refusal.{Refusal}
 use Rattle.format.specs.Walk.{Walk, ret, _>>=_, _>>_, run}
 use Rattle.format.specs.Superblock.{superblockWalk}
 use Rattle.format.specs.Header as headers
@@ -23,7 +24,7 @@ module _ (im ws : List ℕ) (s : Superblock) (room at : ℕ) (l : Lent ws 0 room
   abbrev whole : Walk lookup.Located
   whole = superblockWalk (superblockOf s) >> locateWalk at
 
-  pub superblock-stopped : (x : ℕ) → Walked ws ws₁ (stopped x) (run im eof room (superblockWalk (superblockOf s)) []) → KindIs im s room at (Stopped x)
+  pub superblock-stopped : (x : Refusal) → Walked ws ws₁ (stopped x) (run im eof room (superblockWalk (superblockOf s)) []) → KindIs im s room at (Stopped x)
   unfolding blocksOf
   superblock-stopped x h = walked-refused ws ws₁ x _ (callee-stopped ws₁ (superblockWalk (superblockOf s)) _ (start im eof room whole 0 ws l) h)
 
@@ -33,7 +34,7 @@ module _ (im ws : List ℕ) (s : Superblock) (room at : ℕ) (l : Lent ws 0 room
     at-header = callee-done ws₁ (superblockWalk (superblockOf s)) _ (start im eof room whole 0 ws l) same h
 
     module _ (ws₂ : List ℕ) where
-      pub header-stopped : (x : ℕ) → Walked ws₁ ws₂ (stopped x) (run im eof room (headerWalk at) (blocksOf n ws₁)) → KindIs im s room at (Stopped x)
+      pub header-stopped : (x : Refusal) → Walked ws₁ ws₂ (stopped x) (run im eof room (headerWalk at) (blocksOf n ws₁)) → KindIs im s room at (Stopped x)
       unfolding blocksOf
       header-stopped x k = walked-refused ws ws₂ x _ (callee-stopped ws₂ (headerWalk at) _ at-header k)
 

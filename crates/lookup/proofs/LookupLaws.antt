@@ -4,7 +4,8 @@ use mathlib.Core.List.{List, []}
 use mathlib.Core.Path.{_≡_, refl, ap, sym, _∙_}
 use lib.ListN.{replicate}
 use Rattle.format.specs.Blocks.{roomOf}
-use Rattle.format.specs.Walk.{Outcome, done, run, _>>_}
+use Rattle.format.specs.declared.Refusal.{Refusal}
+use Rattle.format.specs.Walk.{fault, answerOf, Outcome, done, run, _>>_}
 use Rattle.format.specs.Superblock.{superblockWalk, opened, notOpened, openImage}
 use Rattle.format.specs.Path.{components, badPath, parsePath}
 use Rattle.format.specs.Lookup as lookups
@@ -23,8 +24,8 @@ use Rattle.lookup.specs.declared.lookup.Located.{Located}
 use Rattle.lookup.proofs.FollowLaws.{afterTarget, follow-target}
 
 -- a refusal has zeros for its fields
-abbrev pub refusedWith : ℕ → Located
-refusedWith n = record { number = n; kind = 0; address = 0 }
+abbrev pub refusedWith : Refusal → Located
+refusedWith r = record { number = answerOf r; kind = 0; address = 0 }
 
 module _ (im path : List ℕ) (lent : ℕ) (s : Superblock) where
   abbrev target : Outcome Target
@@ -40,26 +41,26 @@ module _ (im path : List ℕ) (lent : ℕ) (s : Superblock) where
   ends : {r : Located} {o : Outcome lookups.Located} → follow im (superblockOf s) (roomOf lent) locateWalk (done (record { kind = 4; address = 0 }) []) (componentsOf path) (s .root) ≡ o → replyOf (replicate lent 0) r ≡ lookupEnd lent o → LocatedIs im path lent s r
   ends e q = q ∙ ap (lookupEnd lent) (sym e)
 
-  pub stopped-is : (x : ℕ) → EndsAs (targets.the-variants.Stopped x) target → LocatedIs im path lent s (refusedWith x)
+  pub stopped-is : (x : Refusal) → EndsAs (targets.the-variants.Stopped x) target → LocatedIs im path lent s (refusedWith x)
   stopped-is x h = ends (followed _ (h .1)) refl
 
   pub symbolic-is : EndsAs targets.the-variants.Symbolic target → LocatedIs im path lent s (record { number = 0; kind = 4; address = 0 })
   symbolic-is h = ends (followed _ (h .1)) refl
 
   module _ (a : ℕ) (h : EndsAs (targets.the-variants.Object a) target) where
-    pub last-stopped : (x : ℕ) → KindIs im s (roomOf lent) a (kinds.the-variants.Stopped x) → LocatedIs im path lent s (refusedWith x)
+    pub last-stopped : (x : Refusal) → KindIs im s (roomOf lent) a (kinds.the-variants.Stopped x) → LocatedIs im path lent s (refusedWith x)
     last-stopped x k = ends (followed _ (h .1) ∙ k .1) refl
 
     pub last-known : (n : ℕ) → KindIs im s (roomOf lent) a (kinds.the-variants.Known n) → LocatedIs im path lent s (record { number = 0; kind = n; address = a })
     last-known n k = ends (followed _ (h .1) ∙ k .1) refl
 
 module _ (im path : List ℕ) (lent : ℕ) (ws : List ℕ) (zeros : ws ≡ replicate lent 0) where
-  pub bad-path-is : parsePath path ≡ badPath → replyOf ws (refusedWith 14) ≡ lookup im path lent
+  pub bad-path-is : parsePath path ≡ badPath → replyOf ws (refusedWith (fault 14 0)) ≡ lookup im path lent
   unfolding lookup lookupRun
   bad-path-is e = rw (e, zeros) refl
 
   module _ (p : parsePath path ≡ components (componentsOf path)) where
-    pub not-opened-is : (x : ℕ) → notOpened x ≡ openImage im → replyOf ws (refusedWith x) ≡ lookup im path lent
+    pub not-opened-is : (x : ℕ) → notOpened x ≡ openImage im → replyOf ws (refusedWith (fault x 0)) ≡ lookup im path lent
     unfolding lookup lookupRun
     not-opened-is x o = rw (p, ← o, zeros) refl
 

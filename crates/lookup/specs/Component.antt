@@ -14,7 +14,7 @@ use Rattle.image.specs.declared.superblock.Superblock.{Superblock}
 use Rattle.lookup.specs.declared.component.Target.{Target}
 use Rattle.lookup.specs.declared.component.Target.the-variants.{Object, Symbolic, Stopped}
 
--- where a component leads, or the answer
+-- where a component leads, or the refusal
 abbrev pub targetOf : Target → Walk Rattle.format.specs.Lookup.Target
 targetOf (Object a) = ret (object a)
 targetOf Symbolic = ret symbolic

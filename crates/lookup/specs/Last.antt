@@ -11,7 +11,7 @@ use Rattle.image.specs.declared.superblock.Superblock.{Superblock}
 use Rattle.lookup.specs.declared.last.Kind.{Kind}
 use Rattle.lookup.specs.declared.last.Kind.the-variants.{Known, Stopped}
 
--- the run ended so, whatever blocks it entered: the object at this address is of this kind, or the answer
+-- the run ended so, whatever blocks it entered: the object at this address is of this kind, or the refusal
 abbrev pub LocatedAs : ℕ → Kind → Outcome Located → Type 0
 LocatedAs at (Known k) o = (bs : List Block) × (o ≡ done (record { kind = k; address = at }) bs)
 LocatedAs at (Stopped n) o = (bs : List Block) × (o ≡ refused n bs)

@@ -1,4 +1,5 @@
 // One component of a path, looked up in the object at an address, on a block list of its own.
+use format::Refusal;
 use image::header;
 use image::header::HeaderRead;
 use image::superblock;
@@ -16,11 +17,11 @@ ghost use Rattle.group.specs.Group.{Ready};
 ghost use Rattle.object.specs.Object.{Opened};
 ghost use Rattle.lookup.specs.Component.{targetOf, FoundIs, ComponentIs};
 
-// Where a component leads, or the answer.
+// Where a component leads, or the refusal.
 pub enum Target {
     Object(u64),
     Symbolic,
-    Stopped(u8),
+    Stopped(Refusal),
 }
 
 // The answers of document 01 to a name that leads nowhere.
@@ -36,13 +37,13 @@ fn target_of(state: State, last: bool) -> Target
 {
     let link = state.link;
     match link {
-        Link::Absent => Target::Stopped(ABSENT),
+        Link::Absent => Target::Stopped(Refusal::Fault(ABSENT, 0)),
         Link::Hard(a) => Target::Object(a),
         Link::Soft => {
             if last {
                 return Target::Symbolic;
             }
-            Target::Stopped(SYMBOLIC_BEFORE_LAST)
+            Target::Stopped(Refusal::Fault(SYMBOLIC_BEFORE_LAST, 0))
         }
     }
 }
@@ -112,13 +113,13 @@ pub fn component(
             let end_of_file = superblock.end_of_file;
             match header::read(image, end_of_file, list, n, room, at) {
                 HeaderRead::Stopped(x) => Target::Stopped(x),
-                HeaderRead::Committed(_) => Target::Stopped(NOT_A_GROUP),
+                HeaderRead::Committed(_) => Target::Stopped(Refusal::Fault(NOT_A_GROUP, 0)),
                 HeaderRead::Dataset {
                     space: _,
                     datatype: _,
                     layout: _,
                     count: _,
-                } => Target::Stopped(NOT_A_GROUP),
+                } => Target::Stopped(Refusal::Fault(NOT_A_GROUP, 0)),
                 HeaderRead::Group { tree, heap, count } => find(
                     image,
                     name,

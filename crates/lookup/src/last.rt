@@ -1,4 +1,5 @@
 // The kind of the object that a path leads to, by its header, read on a block list of its own.
+use format::Refusal;
 use image::header;
 use image::header::HeaderRead;
 use image::superblock;
@@ -17,7 +18,7 @@ const COMMITTED_DATATYPE: u8 = 3;
 
 pub enum Kind {
     Known(u8),
-    Stopped(u8),
+    Stopped(Refusal),
 }
 
 pub fn kind_at(image: &[u8], list: &mut [u64], superblock: Superblock, room: usize, at: u64) -> Kind

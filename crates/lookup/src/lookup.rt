@@ -3,6 +3,8 @@ use crate::component::Target;
 use crate::follow;
 use crate::last;
 use crate::last::Kind;
+use format::Refusal;
+use format::number_of;
 use image::superblock;
 use image::superblock::Opening;
 use image::superblock::Superblock;
@@ -10,6 +12,7 @@ use walk::blocks;
 ghost use mathlib.Core.Path.{_≡_};
 ghost use Prim.Native.Nat.{_≤_};
 ghost use lib.ListN.{length, replicate};
+ghost use Rattle.format.specs.Walk.{answerOf};
 ghost use Rattle.format.specs.Answers.{lookup as lookupReply};
 ghost use Rattle.object.specs.Object.{Bounded};
 ghost use Rattle.lookup.specs.Lookup.{replyOf, LocatedIs};
@@ -26,11 +29,11 @@ pub struct Located {
     pub address: u64,
 }
 
-fn refused(number: u8) -> Located
-    ensures { λ r. ⌜ r ≡ record { number = number; kind = 0; address = 0 } ⌝ }
+fn refused(refusal: Refusal) -> Located
+    ensures { λ r. ⌜ r ≡ record { number = answerOf refusal; kind = 0; address = 0 } ⌝ }
 {
     Located {
-        number,
+        number: number_of(refusal),
         kind: 0,
         address: 0,
     }
@@ -77,10 +80,10 @@ pub fn lookup(image: &[u8], path: &[u8], list: &mut [u64]) -> Located
     ensures { λ r. ⌜ replyOf (now (list .exit)) r ≡ lookupReply (now (image .entry)) (now (path .entry)) (length (now (list .entry))) ⌝ }
 {
     if !path::is_sound(path) {
-        return finish(list, refused(BAD_PATH));
+        return finish(list, refused(Refusal::Fault(BAD_PATH, 0)));
     }
     match superblock::open(image) {
-        Opening::NotOpened(x) => finish(list, refused(x)),
+        Opening::NotOpened(x) => finish(list, refused(Refusal::Fault(x, 0))),
         Opening::Opened(s) => {
             let r = locate(image, path, list, s);
             finish(list, r)

@@ -6,6 +6,7 @@ use mathlib.Core.Path.{_≡_, refl, ap, _∙_}
 use native.Mathlib.Omega.{arith}
 use lib.ListN.{length}
 use Rattle.format.specs.Blocks.{roomOf}
+use Rattle.format.specs.declared.Refusal.{Refusal}
 use Rattle.format.specs.Walk.{Walk, ret, _>>_, Outcome, done, refused, run}
 use Rattle.format.specs.Message.{Message}
 use Rattle.format.specs.Header.{Object, group, dataset, committed, headerWalk}
@@ -115,7 +116,7 @@ module _ (im : List ℕ) (s : superblocks.Superblock) (room : ℕ) (ws : List �
       abbrev w : List Linked → Walk (List Linked)
       w = objectWalk (superblockOf s) at
 
-      pub header-stopped : (x : ℕ) → Walked ws ws₁ (stopped x) (run im eof room (headerWalk at) (blocksOf count ws)) → LedgerWalked im ws addresses counts s room w count objects ws₁ addresses counts (Stopped x)
+      pub header-stopped : (x : Refusal) → Walked ws ws₁ (stopped x) (run im eof room (headerWalk at) (blocksOf count ws)) → LedgerWalked im ws addresses counts s room w count objects ws₁ addresses counts (Stopped x)
       unfolding objectWalk
       header-stopped x h = record { walked = callee-stopped ws₁ (headerWalk at) _ (start im eof room (w os) count ws (y .lent)) h; ready = tt }
 

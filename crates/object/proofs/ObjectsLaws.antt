@@ -5,6 +5,7 @@ use mathlib.Core.Path.{_≡_, refl}
 use native.Mathlib.Omega.{arith}
 use lib.ListN.{length, getD}
 use Rattle.format.specs.Limits.{objectsMost}
+use Rattle.format.specs.declared.Refusal.{Refusal}
 use Rattle.format.specs.Walk.{Walk, ret, _>>=_, run}
 use Rattle.format.specs.Ledger.{Linked}
 use Rattle.format.specs.Superblock.{Superblock}
@@ -41,7 +42,7 @@ module _ (im : List ℕ) (eof room : ℕ) (s : Superblock) {w₀ : Walk (List Li
     abbrev at-object : Simulation im eof room w₀ n₀ ws₀ (objectWalk s (getD addresses i 0) (linkedOf n addresses counts) >>= objectsWalk s (objectsMost - (i + 1)) (i + 1)) entered ws
     at-object = same-walk _ (next-object s i n addresses counts t h) m
 
-    pub object-stopped : (x : ℕ) → Walked ws ws₁ (stopped x) (run im eof room (objectWalk s (getD addresses i 0) (linkedOf n addresses counts)) (blocksOf entered ws)) → Walked ws₀ ws₁ (stopped x) (run im eof room w₀ (blocksOf n₀ ws₀))
+    pub object-stopped : (x : Refusal) → Walked ws ws₁ (stopped x) (run im eof room (objectWalk s (getD addresses i 0) (linkedOf n addresses counts)) (blocksOf entered ws)) → Walked ws₀ ws₁ (stopped x) (run im eof room w₀ (blocksOf n₀ ws₀))
     object-stopped x r = callee-stopped ws₁ (objectWalk s (getD addresses i 0) (linkedOf n addresses counts)) _ at-object r
 
     pub object-done : (os : List Linked) (c : ℕ) → length ws₁ ≡ length ws → Walked ws ws₁ (ended os c) (run im eof room (objectWalk s (getD addresses i 0) (linkedOf n addresses counts)) (blocksOf entered ws)) →

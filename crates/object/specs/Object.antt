@@ -20,7 +20,7 @@ Opened im s room = Settings im (s .«end_of_file») room (s .«leaf_k») (s .«i
 abbrev pub Bounded : List ℕ → Superblock → Type 0
 Bounded im s = FieldsBounded im (openings.Opened s)
 
--- the ledger, with the number of blocks then entered, or the answer
+-- the ledger, with the number of blocks then entered, or the refusal
 abbrev pub objectEnd : List ℕ → List ℕ → ObjectRead → Ended (List Linked)
 objectEnd addresses counts (Done count objects) = ended (linkedOf objects addresses counts) count
 objectEnd addresses counts (Stopped n) = stopped n

@@ -1,5 +1,6 @@
 // One object of the audit: its header, then what stands behind it.
 use dataset::dataset::DatasetRead;
+use format::Refusal;
 use image::header;
 use image::header::HeaderRead;
 use image::message::Body;
@@ -16,10 +17,10 @@ ghost use Rattle.dataset.specs.Dataset.{BodiesInside};
 ghost use Rattle.group.specs.Group.{Ready};
 ghost use Rattle.object.specs.Object.{Opened, LedgerWalked};
 
-// The blocks entered and the objects found, or the answer.
+// The blocks entered and the objects found, or the refusal.
 pub enum ObjectRead {
     Done { count: usize, objects: usize },
-    Stopped(u8),
+    Stopped(Refusal),
 }
 
 // A group: its hard links are counted. No name is looked for, so that any slice does as the wanted one.

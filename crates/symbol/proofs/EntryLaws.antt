@@ -6,7 +6,8 @@ use mathlib.Core.Path.{_≡_, refl, ap, sym, _∙_}
 use native.Mathlib.Omega.{arith}
 use lib.ListN.{length, drop}
 use Rattle.format.specs.Bytes.{part, littleEndian, u32, u64}
-use Rattle.format.specs.Walk.{ret, refuse, _>>=_}
+use Rattle.format.specs.declared.Refusal.{Refusal}
+use Rattle.format.specs.Walk.{fault as faultAt, answer, located, ret, refuse, _>>=_}
 use Rattle.format.specs.Names.{Bound, Text, text, fault, faultNumber, textWalk, nameText, valueText, below}
 use Rattle.format.specs.Symbols.{GroupState, valueWalk, entryWalk, entries}
 use Rattle.heap.specs.Segment.{chainedHeap}
@@ -16,7 +17,7 @@ use Rattle.heap.specs.declared.names.Text.the-variants as texts
 use Rattle.ledger.specs.Links.{linkSum}
 use Rattle.ledger.specs.Table.{linkedOf}
 use Rattle.walk.proofs.Bind.{ret-bind, refuse-bind}
-use Rattle.walk.proofs.Checks.{passes, fails, takes-then, takes-else, gives, refuses}
+use Rattle.walk.proofs.Checks.{placed-value, placed-refusal, passes, fails, takes-then, takes-else, gives, refuses}
 use Rattle.walk.proofs.Parts.{part-part, drop-part}
 use Rattle.walk.proofs.Tests.{field-equal, field-unequal, field-most, field-above}
 use Rattle.symbol.specs.Range.{nameIn, rangeHolds, Tight}
@@ -53,7 +54,7 @@ module _ (im seg : List ℕ) (head free kind at : ℕ) where
 
     pub value-refused : (f : NameFault) (n : ℕ) → n ≡ faultNumber (faultOf f) → fault (faultOf f) ≡ valueText (chainedHeap seg head free) off → ValueIs im seg head free kind at (Unsound n)
     unfolding valueWalk
-    value-refused f n p e = λ m l i k. takes-then _ _ (field-equal (sym k) two) (refuses _ (ap refuse p ∙ value-there m l (fault (faultOf f)) e))
+    value-refused f n p e = λ m l i k. takes-then _ _ (field-equal (sym k) two) (refuses _ (ap (λ (y : ℕ). refuse (answer y)) p ∙ value-there m l (fault (faultOf f)) e))
 
     pub value-read : (t : List ℕ) → text t ≡ valueText (chainedHeap seg head free) off → ValueIs im seg head free kind at Sound
     unfolding valueWalk
@@ -81,10 +82,10 @@ name-sound im seg g at off n o h =
 -- An entry, by its tests in their order.
 module _ (im seg wanted addresses counts : List ℕ) (g : Group) (r : Range) (at : ℕ) (s : State) (addresses′ counts′ : List ℕ) where
   pub name-refused : (off : ℕ) → off ≡ u64 im at → (f : NameFault) (n : ℕ) → n ≡ faultNumber (faultOf f) → fault (faultOf f) ≡ nameText (chainedHeap seg (g .head) (g .free)) off →
-      EntryIs im seg wanted addresses counts g r at s addresses′ counts′ (Stopped n)
+      EntryIs im seg wanted addresses counts g r at s addresses′ counts′ (Stopped (faultAt n at))
   unfolding entryWalk
   name-refused off o f n p e = record {
-    walk = λ bounds m t l i. refuses _ (ap refuse p ∙ ap textWalk (e ∙ ap (nameText (chainedHeap seg (g .head) (g .free))) (o ∙ sym (first-field im at m l))));
+    walk = λ bounds m t l i. placed-refusal at (refuses _ (ap (λ (y : ℕ). refuse (answer y)) p ∙ ap textWalk (e ∙ ap (nameText (chainedHeap seg (g .head) (g .free))) (o ∙ sym (first-field im at m l)))));
     kept = tt;
   }
 
@@ -92,33 +93,33 @@ module _ (im seg wanted addresses counts : List ℕ) (g : Group) (r : Range) (at
     name-there : (m : ℕ) → 40 ≤ m → ret (nameIn seg n) ≡ textWalk (nameText (chainedHeap seg (g .head) (g .free)) (u64 (part im at m) 0))
     name-there m l = ap textWalk (sym (sound .is) ∙ ap (nameText (chainedHeap seg (g .head) (g .free))) (sym (first-field im at m l)))
 
-    pub order-refused : false ≡ below (nameIn seg (s .last)) (nameIn seg n) → EntryIs im seg wanted addresses counts g r at s addresses′ counts′ (Stopped 8)
+    pub order-refused : false ≡ below (nameIn seg (s .last)) (nameIn seg n) → EntryIs im seg wanted addresses counts g r at s addresses′ counts′ (Stopped (faultAt 8 at))
     unfolding entryWalk
-    order-refused e = record { walk = λ bounds m t l i. gives _ (name-there m l) (fails _ _ (sym e)); kept = tt }
+    order-refused e = record { walk = λ bounds m t l i. placed-refusal at (gives _ (name-there m l) (fails _ _ (sym e))); kept = tt }
 
     module _ (rises : true ≡ below (nameIn seg (s .last)) (nameIn seg n)) where
-      pub range-refused : false ≡ rangeHolds seg r (nameIn seg n) → EntryIs im seg wanted addresses counts g r at s addresses′ counts′ (Stopped 8)
+      pub range-refused : false ≡ rangeHolds seg r (nameIn seg n) → EntryIs im seg wanted addresses counts g r at s addresses′ counts′ (Stopped (faultAt 8 at))
       unfolding entryWalk
-      range-refused e = record { walk = λ bounds m t l i. gives _ (name-there m l) (passes _ _ (sym rises) (fails _ _ (t (nameIn seg n) ∙ sym e))); kept = tt }
+      range-refused e = record { walk = λ bounds m t l i. placed-refusal at (gives _ (name-there m l) (passes _ _ (sym rises) (fails _ _ (t (nameIn seg n) ∙ sym e)))); kept = tt }
 
       module _ (held : true ≡ rangeHolds seg r (nameIn seg n)) (kind : ℕ) (k : kind ≡ u32 im (at + 16)) where
         kind-there : (m : ℕ) → 40 ≤ m → u32 (part im at m) 16 ≡ kind
         kind-there m l = field im at m 16 4 l (omega arith) ∙ sym k
 
-        pub type-refused : 2 < kind → EntryIs im seg wanted addresses counts g r at s addresses′ counts′ (Stopped 8)
+        pub type-refused : 2 < kind → EntryIs im seg wanted addresses counts g r at s addresses′ counts′ (Stopped (faultAt 8 at))
         unfolding entryWalk
         type-refused h = record {
-          walk = λ bounds m t l i. gives _ (name-there m l) (passes _ _ (sym rises) (passes _ _ (t (nameIn seg n) ∙ sym held) (fails _ _ (field-above (kind-there m l) h))));
+          walk = λ bounds m t l i. placed-refusal at (gives _ (name-there m l) (passes _ _ (sym rises) (passes _ _ (t (nameIn seg n) ∙ sym held) (fails _ _ (field-above (kind-there m l) h)))));
           kept = tt;
         }
 
         module _ (known : kind ≤ 2) where
-          pub link-refused : (x : ℕ) → ValueIs im seg (g .head) (g .free) kind at (Unsound x) → EntryIs im seg wanted addresses counts g r at s addresses′ counts′ (Stopped x)
+          pub link-refused : (x : ℕ) → ValueIs im seg (g .head) (g .free) kind at (Unsound x) → EntryIs im seg wanted addresses counts g r at s addresses′ counts′ (Stopped (faultAt x at))
           unfolding entryWalk
           link-refused x v = record {
             walk = λ bounds m t l i.
-                gives _ (name-there m l) (passes _ _ (sym rises) (passes _ _ (t (nameIn seg n) ∙ sym held) (passes _ _ (field-most (kind-there m l) known)
-                (refuses _ (v m l i (sym (kind-there m l)))))));
+                placed-refusal at (gives _ (name-there m l) (passes _ _ (sym rises) (passes _ _ (t (nameIn seg n) ∙ sym held) (passes _ _ (field-most (kind-there m l) known)
+                (refuses _ (v m l i (sym (kind-there m l))))))));
             kept = tt;
           }
 
@@ -133,12 +134,12 @@ module _ (im seg wanted addresses counts : List ℕ) (g : Group) (r : Range) (at
 
             pub visit-refused :
                 Visited addresses counts (s .objects) (g .auditing) (nameIn seg n) wanted kind header (s .link) addresses′ counts′ visits.Full →
-                EntryIs im seg wanted addresses counts g r at s addresses′ counts′ (Stopped 12)
+                EntryIs im seg wanted addresses counts g r at s addresses′ counts′ (Stopped (faultAt 12 at))
             unfolding entryWalk
             visit-refused d = record {
               walk = λ bounds m t l i.
-                  gives _ (name-there m l) (passes _ _ (sym rises) (passes _ _ (t (nameIn seg n) ∙ sym held) (passes _ _ (field-most (kind-there m l) known)
-                  (gives _ (v m l i (sym (kind-there m l))) (refuses _ (d .walk ∙ visit-there m l _))))));
+                  placed-refusal at (gives _ (name-there m l) (passes _ _ (sym rises) (passes _ _ (t (nameIn seg n) ∙ sym held) (passes _ _ (field-most (kind-there m l) known)
+                  (gives _ (v m l i (sym (kind-there m l))) (refuses _ (d .walk ∙ visit-there m l _)))))));
               kept = tt;
             }
 
@@ -148,8 +149,8 @@ module _ (im seg wanted addresses counts : List ℕ) (g : Group) (r : Range) (at
             unfolding entryWalk
             visited objects link d = record {
               walk = λ bounds m t l i.
-                  gives _ (name-there m l) (passes _ _ (sym rises) (passes _ _ (t (nameIn seg n) ∙ sym held) (passes _ _ (field-most (kind-there m l) known)
-                  (gives _ (v m l i (sym (kind-there m l))) (gives _ (d .walk ∙ visit-there m l _) refl)))));
+                  placed-value at (gives _ (name-there m l) (passes _ _ (sym rises) (passes _ _ (t (nameIn seg n) ∙ sym held) (passes _ _ (field-most (kind-there m l) known)
+                  (gives _ (v m l i (sym (kind-there m l))) (gives _ (d .walk ∙ visit-there m l _) refl))))));
               kept = record { blocks = refl; last = sound .inside; table = d .table .0; links = d .table .1 };
             }
 
@@ -157,8 +158,8 @@ module _ (im seg wanted addresses counts : List ℕ) (g : Group) (r : Range) (at
 pub record Reading (im seg wanted addresses₀ counts₀ : List ℕ) (g : Group) (r : Range) (from n : ℕ) (s₀ : State) (addresses counts : List ℕ) (i : ℕ) (s : State) : Type 0 where
   pub inside : i ≤ n
   pub walk : (bounds : List Bound) (m : ℕ) → Tight seg r bounds → 40 * n ≤ m → from + m ≤ length im →
-      entries (groupOf seg wanted g) bounds n (part im from m) (stateOf seg addresses₀ counts₀ s₀)
-      ≡ entries (groupOf seg wanted g) bounds (n - i) (part im (from + 40 * i) (m - 40 * i)) (stateOf seg addresses counts s)
+      entries (groupOf seg wanted g) bounds n from (part im from m) (stateOf seg addresses₀ counts₀ s₀)
+      ≡ entries (groupOf seg wanted g) bounds (n - i) (from + 40 * i) (part im (from + 40 * i) (m - 40 * i)) (stateOf seg addresses counts s)
   pub kept : Kept seg addresses₀ counts₀ s₀ i addresses counts s
   pub addressesSame : length addresses ≡ length addresses₀
   pub countsSame : length counts ≡ length counts₀
@@ -182,10 +183,10 @@ pub links-fit : (x y i n : ℕ) → x ≤ y + i → y + n < 2 ^ 32 → i < n →
 links-fit x y i n h k l = omega arith
 
 -- the next of k + 1 entries
-entries-next : {S : Type 0} (g : Rattle.format.specs.Symbols.Group S) (bounds : List Bound) (k : ℕ) (b : List ℕ) (s : GroupState S) →
-    entries g bounds (suc k) b s ≡ (entryWalk g bounds b s >>= λ s′. entries g bounds k (drop 40 b) s′)
+entries-next : {S : Type 0} (g : Rattle.format.specs.Symbols.Group S) (bounds : List Bound) (k at : ℕ) (b : List ℕ) (s : GroupState S) →
+    entries g bounds (suc k) at b s ≡ (located at (entryWalk g bounds b s) >>= λ s′. entries g bounds k (at + 40) (drop 40 b) s′)
 unfolding entries
-entries-next g bounds k b s = refl
+entries-next g bounds k at b s = refl
 
 module _ (im seg wanted addresses₀ counts₀ : List ℕ) (g : Group) (r : Range) (from n : ℕ) (s₀ : State) (addresses counts : List ℕ) (i : ℕ) (s : State)
     (reading : Reading im seg wanted addresses₀ counts₀ g r from n s₀ addresses counts i s) where
@@ -202,14 +203,14 @@ module _ (im seg wanted addresses₀ counts₀ : List ℕ) (g : Group) (r : Rang
   module _ (some : i < n) (addresses′ counts′ : List ℕ) where
     -- the walk from here on, by its next entry
     reading-next : (bounds : List Bound) (m : ℕ) → Tight seg r bounds → 40 * n ≤ m → from + m ≤ length im →
-        entries (groupOf seg wanted g) bounds n (part im from m) (stateOf seg addresses₀ counts₀ s₀)
-        ≡ (entryWalk (groupOf seg wanted g) bounds (part im (from + 40 * i) (m - 40 * i)) (stateOf seg addresses counts s)
-        >>= λ s′. entries (groupOf seg wanted g) bounds (n - (i + 1)) (drop 40 (part im (from + 40 * i) (m - 40 * i))) s′)
+        entries (groupOf seg wanted g) bounds n from (part im from m) (stateOf seg addresses₀ counts₀ s₀)
+        ≡ (located (from + 40 * i) (entryWalk (groupOf seg wanted g) bounds (part im (from + 40 * i) (m - 40 * i)) (stateOf seg addresses counts s))
+        >>= λ s′. entries (groupOf seg wanted g) bounds (n - (i + 1)) (from + 40 * i + 40) (drop 40 (part im (from + 40 * i) (m - 40 * i))) s′)
     reading-next bounds m t l j =
         let e : n - i ≡ suc (n - (i + 1)) = omega arith in
-        reading .walk bounds m t l j ∙ rw e (entries-next _ bounds (n - (i + 1)) _ _)
+        reading .walk bounds m t l j ∙ rw e (entries-next _ bounds (n - (i + 1)) (from + 40 * i) _ _)
 
-    pub reading-refused : (x : ℕ) → EntryIs im seg wanted addresses counts g r (from + 40 * i) s addresses′ counts′ (Stopped x) →
+    pub reading-refused : (x : Refusal) → EntryIs im seg wanted addresses counts g r (from + 40 * i) s addresses′ counts′ (Stopped x) →
         EntriesAre im seg wanted addresses₀ counts₀ g r from n s₀ addresses′ counts′ (Stopped x)
     reading-refused x h = record {
       walk = λ bounds m t l j. sym (reading-next bounds m t l j ∙ rw (← h .walk bounds (m - 40 * i) t (omega arith) (omega arith)) (refuse-bind x _));

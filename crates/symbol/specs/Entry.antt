@@ -4,7 +4,7 @@ use mathlib.Core.List.{List}
 use mathlib.Core.Path.{_≡_}
 use lib.ListN.{length}
 use Rattle.format.specs.Bytes.{part, littleEndian, u64}
-use Rattle.format.specs.Walk.{Walk, ret, refuse}
+use Rattle.format.specs.Walk.{Walk, ret, refuse, answer, located}
 use Rattle.format.specs.Names.{Bound, nameText, text}
 use Rattle.format.specs.Symbols.{GroupState, valueWalk, entryWalk, entries}
 use Rattle.heap.specs.FreeBlocks.{Chained}
@@ -35,7 +35,7 @@ stepOf seg addresses counts (Stopped n) = refuse n
 
 abbrev pub valueOf : Value → Walk (Unit {0})
 valueOf Sound = ret tt
-valueOf (Unsound n) = refuse n
+valueOf (Unsound n) = refuse (answer n)
 
 -- a value was read as its walk reads it, where the entry's type is this one
 abbrev pub ValueIs : List ℕ → List ℕ → ℕ → ℕ → ℕ → ℕ → Value → Type 0
@@ -68,11 +68,11 @@ KeptIf seg addresses counts s n addresses′ counts′ (Stopped x) = Unit {0}
 -- the entry at `at` was read as its walk reads it, from any part of the image that holds it
 pub record EntryIs (im seg wanted addresses counts : List ℕ) (g : Group) (r : Range) (at : ℕ) (s : State) (addresses′ counts′ : List ℕ) (x : Step) : Type 0 where
   pub walk : (bounds : List Bound) (m : ℕ) → Tight seg r bounds → 40 ≤ m → at + m ≤ length im →
-      stepOf seg addresses′ counts′ x ≡ entryWalk (groupOf seg wanted g) bounds (part im at m) (stateOf seg addresses counts s)
+      stepOf seg addresses′ counts′ x ≡ located at (entryWalk (groupOf seg wanted g) bounds (part im at m) (stateOf seg addresses counts s))
   pub kept : KeptIf seg addresses counts s 1 addresses′ counts′ x
 
 -- n entries were read as their walk reads them
 pub record EntriesAre (im seg wanted addresses counts : List ℕ) (g : Group) (r : Range) (from n : ℕ) (s : State) (addresses′ counts′ : List ℕ) (x : Step) : Type 0 where
   pub walk : (bounds : List Bound) (m : ℕ) → Tight seg r bounds → 40 * n ≤ m → from + m ≤ length im →
-      stepOf seg addresses′ counts′ x ≡ entries (groupOf seg wanted g) bounds n (part im from m) (stateOf seg addresses counts s)
+      stepOf seg addresses′ counts′ x ≡ entries (groupOf seg wanted g) bounds n from (part im from m) (stateOf seg addresses counts s)
   pub kept : KeptIf seg addresses counts s n addresses′ counts′ x

@@ -20,7 +20,7 @@ keysOf (Unsound n) = refuse n
 
 -- n keys from `from` on were read as their walk reads them, in a heap with this segment, from any part of the image that holds them
 abbrev pub KeysAre : List ℕ → List ℕ → ℕ → ℕ → Keys → Type 0
-KeysAre im seg from n r = (h : Heap) (m : ℕ) → h .segment ≡ seg → 16 * n ≤ m + 8 → from + m ≤ length im → keysOf r ≡ keysWalk h n (part im from m)
+KeysAre im seg from n r = (h : Heap) (m : ℕ) → h .segment ≡ seg → 16 * n ≤ m + 8 → from + m ≤ length im → keysOf r ≡ keysWalk h n from (part im from m)
 
 -- a key stands at `at`, and it is a string of the segment
 pub record KeyAt (im seg : List ℕ) (at : ℕ) : Type 0 where

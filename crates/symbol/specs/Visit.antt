@@ -5,7 +5,7 @@ use mathlib.Core.List.{List}
 use mathlib.Core.Path.{_≡_}
 use lib.Dec.{leb}
 use Rattle.format.specs.Bytes.{if_then_else_, sameBytes}
-use Rattle.format.specs.Walk.{Walk, ret, refuse, _>>=_}
+use Rattle.format.specs.Walk.{answer, Walk, ret, refuse, _>>=_}
 use Rattle.format.specs.Symbols.{Entry}
 use Rattle.format.specs.Ledger.{Linked, discover}
 use Rattle.format.specs.Lookup.{absent, hard, soft, compareName}
@@ -40,7 +40,7 @@ bothOf addresses counts objects l = record { ledger = linkedOf objects addresses
 
 abbrev pub visitOf : List ℕ → List ℕ → Visit → Walk Both
 visitOf addresses counts (Done objects l) = ret (bothOf addresses counts objects l)
-visitOf addresses counts Full = refuse 12
+visitOf addresses counts Full = refuse (answer 12)
 
 -- the table is one again, with one link more at most
 abbrev pub TableKept : List ℕ → List ℕ → ℕ → List ℕ → List ℕ → Visit → Type 0

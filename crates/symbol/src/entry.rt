@@ -6,6 +6,7 @@ use crate::range::Range;
 use crate::visit;
 use crate::visit::Link;
 use crate::visit::Visit;
+use format::Refusal;
 use heap::names;
 use heap::names::Text;
 use walk::numbers::u32_at;
@@ -38,7 +39,7 @@ pub struct State {
 
 pub enum Step {
     Done(State),
-    Stopped(u8),
+    Stopped(Refusal),
 }
 
 pub enum Value {
@@ -82,17 +83,17 @@ fn named_entry(
 {
     let last = state.last;
     if !range::name_below(segment, last, name) {
-        return Step::Stopped(8);
+        return Step::Stopped(Refusal::Fault(8, at));
     }
     if !range::holds(segment, range, name) {
-        return Step::Stopped(8);
+        return Step::Stopped(Refusal::Fault(8, at));
     }
     let kind = u32_at(image, at + 16);
     if 2 < kind {
-        return Step::Stopped(8);
+        return Step::Stopped(Refusal::Fault(8, at));
     }
     match check_value(image, segment, group.head, group.free, kind, at) {
-        Value::Unsound(n) => Step::Stopped(n),
+        Value::Unsound(n) => Step::Stopped(Refusal::Fault(n, at)),
         Value::Sound => {
             let from = name.at;
             let end = from + name.size;
@@ -111,7 +112,7 @@ fn named_entry(
                 header,
                 link,
             ) {
-                Visit::Full => Step::Stopped(12),
+                Visit::Full => Step::Stopped(Refusal::Fault(12, at)),
                 Visit::Done { objects, link } => Step::Done(State {
                     count: state.count,
                     objects,
@@ -142,7 +143,7 @@ fn one_entry(
 {
     let off = u64_at(image, at);
     match names::name(segment, group.head, group.free, off) {
-        Text::Fault(f) => Step::Stopped(fault_number(f)),
+        Text::Fault(f) => Step::Stopped(Refusal::Fault(fault_number(f), at)),
         Text::Sound(n) => {
             let name = Name {
                 at: off as usize,

@@ -1,5 +1,6 @@
 // The keys of a tree node: strings of the heap's segment.
 use crate::range::Name;
+use format::Refusal;
 use heap::names;
 use heap::names::NameFault;
 use heap::names::Text;
@@ -26,7 +27,7 @@ pub fn fault_number(fault: NameFault) -> u8
 
 pub enum Keys {
     Sound,
-    Unsound(u8),
+    Unsound(Refusal),
 }
 
 // Whether `n` keys are strings of the segment. The first stands at `from`, and a child's address behind each but the last.
@@ -37,7 +38,7 @@ pub fn check_keys(image: &[u8], segment: &[u8], from: usize, n: usize) -> Keys
     let mut i: usize = 0;
     while i < n {
         match names::key(segment, u64_at(image, from + 16 * i)) {
-            Text::Fault(f) => return Keys::Unsound(fault_number(f)),
+            Text::Fault(f) => return Keys::Unsound(Refusal::Fault(fault_number(f), from + 16 * i)),
             Text::Sound(_) => i += 1,
         }
     }

@@ -12,7 +12,9 @@ use lib.Seq.{drop-drop, getD-drop, take-suc-set, length-take-le}
 use lib.Dec.{leb, ltb}
 use Rattle.format.specs.Limits.{blocksMost}
 use Rattle.format.specs.Bytes.{if_then_else_}
-use Rattle.format.specs.Blocks.{Block, block, blockWords, blockList, overlaps, overlapsAny, entryAnswer, roomOf}
+use Rattle.format.specs.Blocks.{Block, block, blockWords, blockList, overlaps, overlapsAny, firstMet, entryAnswer, roomOf}
+use Rattle.format.specs.declared.Refusal.{Refusal}
+use Rattle.format.specs.Walk.{notEntered}
 use Rattle.walk.specs.Lent.{blocksOf, Lent, entering}
 use Rattle.walk.specs.declared.blocks.Entry.the-variants.{Entered, Refused}
 
@@ -118,6 +120,27 @@ pub search-end : (c i : ℕ) (ws : List ℕ) (a n : ℕ) (whole : Bool) → c �
 unfolding overlapsAny blocksOf
 search-end c i ws a n whole h e = let z : c - i ≡ 0 = omega arith in sym (e ∙ rw z)
 
+-- The search for the first block met, the same turns.
+module _ (c i : ℕ) (ws : List ℕ) (a n whole : ℕ) (h : i < c) (e : whole ≡ firstMet (blocksOf (c - i) (drop (i + i) ws)) a n) where
+  met-turn : whole ≡ firstMet (block (getD ws (i + i) 0) (getD ws (i + i + 1) 0) ∷ blocksOf (c - (i + 1)) (drop (i + 1 + (i + 1)) ws)) a n
+  met-turn = e ∙ ap (λ (bs : List Block). firstMet bs a n) (blocks-next c i ws h)
+
+  pub met-hit : getD ws (i + i) 0 < a + n → a < getD ws (i + i) 0 + getD ws (i + i + 1) 0 → getD ws (i + i) 0 ≡ whole
+  unfolding firstMet
+  met-hit l k = sym (met-turn ∙ rw (overlaps-hit (getD ws (i + i) 0) (getD ws (i + i + 1) 0) a n l k))
+
+  pub met-below : a + n ≤ getD ws (i + i) 0 → whole ≡ firstMet (blocksOf (c - (i + 1)) (drop (i + 1 + (i + 1)) ws)) a n
+  unfolding firstMet
+  met-below l = met-turn ∙ rw (overlaps-not-below (getD ws (i + i) 0) (getD ws (i + i + 1) 0) a n l)
+
+  pub met-above : getD ws (i + i) 0 + getD ws (i + i + 1) 0 ≤ a → whole ≡ firstMet (blocksOf (c - (i + 1)) (drop (i + 1 + (i + 1)) ws)) a n
+  unfolding firstMet
+  met-above l = met-turn ∙ rw (overlaps-not-above (getD ws (i + i) 0) (getD ws (i + i + 1) 0) a n l)
+
+pub met-end : (c i : ℕ) (ws : List ℕ) (a n whole : ℕ) → c ≤ i → whole ≡ firstMet (blocksOf (c - i) (drop (i + i) ws)) a n → 0 ≡ whole
+unfolding firstMet blocksOf
+met-end c i ws a n whole h e = let z : c - i ≡ 0 = omega arith in sym (e ∙ rw z)
+
 -- What entering a block answers, by the tests that lead there.
 module _ (eof room : ℕ) (bs : List Block) (a n : ℕ) where
   pub entryAnswer-outside : eof < a + n → entryAnswer eof room bs a n ≡ 5
@@ -149,10 +172,11 @@ module _ (eof room : ℕ) (bs : List Block) (a n : ℕ) where
       go false u v p q r s = absurd (omega arith)
 
 -- what was answered, by what was returned
-pub entered-zero : (answer c m : ℕ) → Entered m ≡ entering answer c → (answer ≡ 0) × (m ≡ c + 1)
-entered-zero zero c m e = (refl, cc)
-entered-zero (suc answer) c m e = let z : _≡_ {A = ℕ} 0 1 = cc in absurd (omega arith)
+module _ (kind a n : ℕ) (bs : List Block) where
+  pub entered-zero : (answer c m : ℕ) → Entered m ≡ entering answer kind a n bs c → (answer ≡ 0) × (m ≡ c + 1)
+  entered-zero zero c m e = (refl, cc)
+  entered-zero (suc answer) c m e = let z : _≡_ {A = ℕ} 0 1 = cc in absurd (omega arith)
 
-pub refused-suc : (answer c m : ℕ) → Refused m ≡ entering answer c → (h : ℕ) × (answer ≡ suc h) × (m ≡ suc h)
-refused-suc zero c m e = let z : _≡_ {A = ℕ} 0 1 = cc in absurd (omega arith)
-refused-suc (suc answer) c m e = (answer, refl, cc)
+  pub refused-suc : (answer c : ℕ) (r : Refusal) → Refused r ≡ entering answer kind a n bs c → (h : ℕ) × (answer ≡ suc h) × (r ≡ notEntered (suc h) kind a n bs)
+  refused-suc zero c m e = let z : _≡_ {A = ℕ} 0 1 = cc in absurd (omega arith)
+  refused-suc (suc answer) c m e = (answer, refl, cc)

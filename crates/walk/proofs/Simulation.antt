@@ -7,9 +7,11 @@ use native.Mathlib.Omega.{arith}
 use native.Mathlib.Numerals.{add-one}
 use lib.ListN.{length, getD, set, length-append, length-set}
 use lib.Seq.{getD-set-other}
+use borrow.Author.Tests.{lt-leb}
 use Rattle.format.specs.Bytes.{if_then_else_, part}
 use Rattle.format.specs.Blocks.{Block, block, entryAnswer}
-use Rattle.format.specs.Walk.{Kind, shown, Length, fixed, stored, lengthIn, Walk, ret, refuse, enter, enterBlock, check, _>>=_, _>>_, Outcome, done, refused, ifEntered, run, andThen}
+use Rattle.format.specs.declared.Refusal.{Refusal}
+use Rattle.format.specs.Walk.{Kind, kindNumber, notEntered, shown, Length, fixed, stored, lengthIn, knownLength, Walk, ret, refuse, enter, enterBlock, check, _>>=_, _>>_, Outcome, done, refused, ifEntered, run, andThen}
 use Rattle.walk.specs.Lent.{blocksOf, Lent, Ended, ended, stopped, endOf, left, Walked, entering, entered, entryEnd}
 use Rattle.walk.specs.declared.blocks.Entry.{Entry}
 use Rattle.walk.specs.declared.blocks.Entry.the-variants.{Entered, Refused}
@@ -37,12 +39,12 @@ walked-done ws ws′ a c (done b bs) w =
 walked-done ws ws′ a c (refused n bs) w = let z : _≡_ {A = ℕ} 0 1 = cc (w .answer) in absurd (omega arith)
 
 -- a function that stopped: the outcome is its answer
-pub walked-refused : {A : Type 0} (ws ws′ : List ℕ) (x : ℕ) (o : Outcome A) → Walked ws ws′ (stopped x) o → (bs : List Block) × (o ≡ refused x bs)
+pub walked-refused : {A : Type 0} (ws ws′ : List ℕ) (x : Refusal) (o : Outcome A) → Walked ws ws′ (stopped x) o → (bs : List Block) × (o ≡ refused x bs)
 walked-refused ws ws′ x (done a bs) w = let z : _≡_ {A = ℕ} 0 1 = cc (w .answer) in absurd (omega arith)
 walked-refused ws ws′ x (refused n bs) w = let e : n ≡ x = cc (w .answer) in (bs, rw e refl)
 
 -- a function that stopped has stopped what follows it too
-walked-stopped : {A B : Type 0} (ws ws′ : List ℕ) (n : ℕ) (o : Outcome A) (f : A → List Block → Outcome B) → Walked ws ws′ (stopped n) o → Walked ws ws′ (stopped n) (andThen o f)
+walked-stopped : {A B : Type 0} (ws ws′ : List ℕ) (n : Refusal) (o : Outcome A) (f : A → List Block → Outcome B) → Walked ws ws′ (stopped n) o → Walked ws ws′ (stopped n) (andThen o f)
 walked-stopped ws ws′ n (done b bs) f w = let z : _≡_ {A = ℕ} 0 1 = cc (w .answer) in absurd (omega arith)
 walked-stopped ws ws′ n (refused m bs) f w = let e : n ≡ m = cc (w .answer) in record { answer = ap stopped e; held = w .held; rest = w .rest }
 
@@ -68,21 +70,21 @@ module _ {im : List ℕ} {eof room : ℕ} {A : Type 0} {w₀ : Walk A} {n₀ : �
     rest = s .rest;
   }
 
-  -- the function returns, with a value or with an answer
+  -- the function returns, with a value or with a refusal
   pub returned : {a : A} → Simulation im eof room w₀ n₀ ws₀ (ret a) n ws → Walked ws₀ ws (ended a n) (run im eof room w₀ (blocksOf n₀ ws₀))
   unfolding run
   returned {a} s = rw (s .sameRun) (record { answer = ap (ended a) (sym (length-blocksOf n ws)); held = rw length-blocksOf; rest = λ k h. s .rest k (rw length-blocksOf at h) })
 
-  pub refusal : {m : ℕ} → Simulation im eof room w₀ n₀ ws₀ (refuse m) n ws → Walked ws₀ ws (stopped m) (run im eof room w₀ (blocksOf n₀ ws₀))
+  pub refusal : {m : Refusal} → Simulation im eof room w₀ n₀ ws₀ (refuse m) n ws → Walked ws₀ ws (stopped m) (run im eof room w₀ (blocksOf n₀ ws₀))
   unfolding run
   refusal s = rw (s .sameRun) (record { answer = refl; held = rw length-blocksOf; rest = λ k h. s .rest k (rw length-blocksOf at h) })
 
   -- a test that passed, and one that failed
-  pub passed : (t : Bool) (m : ℕ) (f : Unit {0} → Walk A) → t ≡ true → Simulation im eof room w₀ n₀ ws₀ (check t m >>= f) n ws → Simulation im eof room w₀ n₀ ws₀ (f tt) n ws
+  pub passed : (t : Bool) (m : Refusal) (f : Unit {0} → Walk A) → t ≡ true → Simulation im eof room w₀ n₀ ws₀ (check t m >>= f) n ws → Simulation im eof room w₀ n₀ ws₀ (f tt) n ws
   unfolding _>>=_
   passed t m f e s = same-walk (f tt) (rw e) s
 
-  pub failed : (t : Bool) (m : ℕ) (f : Unit {0} → Walk A) → t ≡ false → Simulation im eof room w₀ n₀ ws₀ (check t m >>= f) n ws → Walked ws₀ ws (stopped m) (run im eof room w₀ (blocksOf n₀ ws₀))
+  pub failed : (t : Bool) (m : Refusal) (f : Unit {0} → Walk A) → t ≡ false → Simulation im eof room w₀ n₀ ws₀ (check t m >>= f) n ws → Walked ws₀ ws (stopped m) (run im eof room w₀ (blocksOf n₀ ws₀))
   unfolding _>>=_
   failed t m f e s = refusal (same-walk (refuse m) (rw e) s)
 
@@ -98,32 +100,32 @@ module _ {im : List ℕ} {eof room : ℕ} {A : Type 0} {w₀ : Walk A} {n₀ : �
   unfolding _>>=_
   callee-value w f b e s = same-walk (f b) (rw e) s
 
-  pub callee-refusal : {B : Type 0} (w : Walk B) (f : B → Walk A) (m : ℕ) → w ≡ refuse m → Simulation im eof room w₀ n₀ ws₀ (w >>= f) n ws → Walked ws₀ ws (stopped m) (run im eof room w₀ (blocksOf n₀ ws₀))
+  pub callee-refusal : {B : Type 0} (w : Walk B) (f : B → Walk A) (m : Refusal) → w ≡ refuse m → Simulation im eof room w₀ n₀ ws₀ (w >>= f) n ws → Walked ws₀ ws (stopped m) (run im eof room w₀ (blocksOf n₀ ws₀))
   unfolding _>>=_
   callee-refusal w f m e s = refusal (same-walk (refuse m) (rw e) s)
 
   -- a block whose prefix, or whose whole, isn't inside
   pub outside : {v : Kind} {a p : ℕ} {rest : List ℕ → ℕ} {k : List ℕ → Walk A} → eof < a + p → Simulation im eof room w₀ n₀ ws₀ (enter v a (stored p rest) k) n ws →
-      Walked ws₀ ws (stopped 5) (run im eof room w₀ (blocksOf n₀ ws₀))
+      Walked ws₀ ws (stopped (notEntered 5 (kindNumber v) a p [])) (run im eof room w₀ (blocksOf n₀ ws₀))
   unfolding run
   outside {v} {a} {p} {rest} {k} h s =
-      let e : run im eof room w₀ (blocksOf n₀ ws₀) ≡ refused 5 (blocksOf n ws) =
-      s .sameRun ∙ rw (entryAnswer-outside eof room (blocksOf n ws) a (lengthIn im v a (stored p rest)) (omega arith)) in
+      let e : run im eof room w₀ (blocksOf n₀ ws₀) ≡ refused (notEntered 5 (kindNumber v) a p []) (blocksOf n ws) =
+      s .sameRun ∙ rw (entryAnswer-outside eof room (blocksOf n ws) a (lengthIn im v a (stored p rest)) (omega arith), lt-leb (a + p) eof h) in
       rw e (record { answer = refl; held = rw length-blocksOf; rest = λ k h. s .rest k (rw length-blocksOf at h) })
 
   -- the function `enter`, called for a block of m bytes
-  module _ {v : Kind} {a : ℕ} {l : Length} {k : List ℕ → Walk A} (m : ℕ) (sized : m ≡ lengthIn im v a l) (ws₁ : List ℕ)
+  module _ {v : Kind} {a : ℕ} {l : Length} {k : List ℕ → Walk A} (m : ℕ) (sized : m ≡ lengthIn im v a l) (known : knownLength im eof v a l ≡ m) (ws₁ : List ℕ)
       (s : Simulation im eof room w₀ n₀ ws₀ (enter v a l k) n ws) (q : ws₁ ≡ entered (entryAnswer eof room (blocksOf n ws) a m) ws n a m) where
     abbrev answer : ℕ
     answer = entryAnswer eof room (blocksOf n ws) a m
 
-    pub entered-inside : (c : ℕ) → Entered c ≡ entering answer n → a + m ≤ eof
-    entered-inside c p = entryAnswer-zero eof room (blocksOf n ws) a m (entered-zero answer n c p .0) .0
+    pub entered-inside : (c : ℕ) → Entered c ≡ entering answer (kindNumber v) a m (blocksOf n ws) n → a + m ≤ eof
+    entered-inside c p = entryAnswer-zero eof room (blocksOf n ws) a m (entered-zero (kindNumber v) a m (blocksOf n ws) answer n c p .0) .0
 
-    pub block-entered : (c : ℕ) → Entered c ≡ entering answer n → Simulation im eof room w₀ n₀ ws₀ (k (shown v (part im a m))) c ws₁
+    pub block-entered : (c : ℕ) → Entered c ≡ entering answer (kindNumber v) a m (blocksOf n ws) n → Simulation im eof room w₀ n₀ ws₀ (k (shown v (part im a m))) c ws₁
     unfolding run
     block-entered c p =
-        let z = entered-zero answer n c p in
+        let z = entered-zero (kindNumber v) a m (blocksOf n ws) answer n c p in
         let y : n < room = rw length-blocksOf at (entryAnswer-zero eof room (blocksOf n ws) a m (z .0) .2) in
         let w : ws₁ ≡ set (set ws (n + n) a) (n + n + 1) m = rw (z .0) at q in
         let b : blocksOf c ws₁ ≡ blocksOf n ws ++ (block a m ∷ []) = rw (w, z .1, add-one, add-one) (blocks-snoc a m n (n + n) ws refl (omega (arith, s .lent .lent))) in
@@ -139,15 +141,15 @@ module _ {im : List ℕ} {eof room : ℕ} {A : Type 0} {w₀ : Walk A} {n₀ : �
               ∙ s .rest i (omega (arith, z .1)));
         }
 
-    pub block-refused : (x : ℕ) → Refused x ≡ entering answer n → Walked ws₀ ws₁ (stopped x) (run im eof room w₀ (blocksOf n₀ ws₀))
+    pub block-refused : (x : Refusal) → Refused x ≡ entering answer (kindNumber v) a m (blocksOf n ws) n → Walked ws₀ ws₁ (stopped x) (run im eof room w₀ (blocksOf n₀ ws₀))
     unfolding run
     block-refused x p =
-        let z = refused-suc answer n x p in
+        let z = refused-suc (kindNumber v) a m (blocksOf n ws) answer n x p in
         let w : ws₁ ≡ ws = rw (z .1) at q in
-        let e : run im eof room w₀ (blocksOf n₀ ws₀) ≡ refused (suc (z .0)) (blocksOf n ws) =
+        let e : run im eof room w₀ (blocksOf n₀ ws₀) ≡ refused (notEntered (suc (z .0)) (kindNumber v) a (knownLength im eof v a l) (blocksOf n ws)) (blocksOf n ws) =
         (rw (← sized) at (s .sameRun))
-        ∙ ap (λ (y : ℕ). ifEntered y (run im eof room (k (shown v (part im a m))) (blocksOf n ws ++ (block a m ∷ []))) (λ j. refused j (blocksOf n ws))) (z .1) in
-        rw (e, w) (record { answer = ap stopped (z .2); held = rw length-blocksOf; rest = λ k h. s .rest k (rw length-blocksOf at h) })
+        ∙ ap (λ (y : ℕ). ifEntered y (run im eof room (k (shown v (part im a m))) (blocksOf n ws ++ (block a m ∷ []))) (λ j. refused (notEntered j (kindNumber v) a (knownLength im eof v a l) (blocksOf n ws)) (blocksOf n ws))) (z .1) in
+        rw (e, w) (record { answer = ap stopped (z .2 ∙ ap (λ (y : ℕ). notEntered (suc (z .0)) (kindNumber v) a y (blocksOf n ws)) (sym known)); held = rw length-blocksOf; rest = λ k h. s .rest k (rw length-blocksOf at h) })
 
   -- a callee that walks w and leaves the list ws₁
   module _ (ws₁ : List ℕ) where
@@ -160,7 +162,7 @@ module _ {im : List ℕ} {eof room : ℕ} {A : Type 0} {w₀ : Walk A} {n₀ : �
 
     module _ {B : Type 0} (w : Walk B) (f : B → Walk A) (s : Simulation im eof room w₀ n₀ ws₀ (w >>= f) n ws) where
       -- it stopped, and so does the function
-      pub callee-stopped : {x : ℕ} → Walked ws ws₁ (stopped x) (run im eof room w (blocksOf n ws)) → Walked ws₀ ws₁ (stopped x) (run im eof room w₀ (blocksOf n₀ ws₀))
+      pub callee-stopped : {x : Refusal} → Walked ws ws₁ (stopped x) (run im eof room w (blocksOf n ws)) → Walked ws₀ ws₁ (stopped x) (run im eof room w₀ (blocksOf n₀ ws₀))
       callee-stopped {x} h = callee-last s (rw run-bind (walked-stopped ws ws₁ x (run im eof room w (blocksOf n ws)) (λ a cs. run im eof room (f a) cs) h))
 
       -- it returned a value, and the function goes on
@@ -180,8 +182,8 @@ module _ {im : List ℕ} {eof room : ℕ} {A : Type 0} {w₀ : Walk A} {n₀ : �
 
 -- a function that only enters a block of m bytes
 pub one-block : (im : List ℕ) (eof room : ℕ) (v : Kind) (a m n : ℕ) (ws ws₁ : List ℕ) (r : Entry) → Lent ws n room →
-    r ≡ entering (entryAnswer eof room (blocksOf n ws) a m) n → ws₁ ≡ entered (entryAnswer eof room (blocksOf n ws) a m) ws n a m →
+    r ≡ entering (entryAnswer eof room (blocksOf n ws) a m) (kindNumber v) a m (blocksOf n ws) n → ws₁ ≡ entered (entryAnswer eof room (blocksOf n ws) a m) ws n a m →
     Walked ws ws₁ (entryEnd r) (run im eof room (enterBlock v a m >> ret tt) (blocksOf n ws))
 unfolding _>>=_
-one-block im eof room v a m n ws ws₁ (Entered c) l e q = returned (block-entered m refl ws₁ (start im eof room (enterBlock v a m >> ret tt) n ws l) q c e)
-one-block im eof room v a m n ws ws₁ (Refused x) l e q = block-refused m refl ws₁ (start im eof room (enterBlock v a m >> ret tt) n ws l) q x e
+one-block im eof room v a m n ws ws₁ (Entered c) l e q = returned (block-entered m refl refl ws₁ (start im eof room (enterBlock v a m >> ret tt) n ws l) q c e)
+one-block im eof room v a m n ws ws₁ (Refused x) l e q = block-refused m refl refl ws₁ (start im eof room (enterBlock v a m >> ret tt) n ws l) q x e

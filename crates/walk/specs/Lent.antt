@@ -4,7 +4,8 @@ use mathlib.Core.Path.{_≡_}
 use mathlib.Core.List.{List, [], _∷_}
 use lib.ListN.{length, getD, drop, set}
 use Rattle.format.specs.Blocks.{Block, block}
-use Rattle.format.specs.Walk.{Outcome, done, refused, ifEntered}
+use Rattle.format.specs.declared.Refusal.{Refusal}
+use Rattle.format.specs.Walk.{Outcome, done, refused, ifEntered, notEntered}
 use Rattle.walk.specs.declared.blocks.Entry.{Entry}
 use Rattle.walk.specs.declared.blocks.Entry.the-variants.{Entered, Refused}
 
@@ -18,20 +19,20 @@ pub record Lent (ws : List ℕ) (count room : ℕ) : Type 0 where
   pub counted : count ≤ room
   pub lent : room + room ≤ length ws
 
--- how a run ends, without its list: its value and the number of its blocks, or the answer
+-- how a run ends, without its list: its value and the number of its blocks, or the refusal
 pub data Ended (A : Type 0) : Type 0 where
   ended : A → ℕ → Ended A
-  stopped : ℕ → Ended A
+  stopped : Refusal → Ended A
 
 -- the end of a run with this outcome
 abbrev pub endOf : {A : Type 0} → Outcome A → Ended A
 endOf (done a bs) = ended a (length bs)
-endOf (refused n bs) = stopped n
+endOf (refused r bs) = stopped r
 
 -- the blocks of an outcome
 abbrev pub left : {A : Type 0} → Outcome A → List Block
 left (done a bs) = bs
-left (refused n bs) = bs
+left (refused r bs) = bs
 
 -- a function that was lent ws left ws′ and returned r, as the run's outcome o asks
 pub record Walked {A : Type 0} (ws ws′ : List ℕ) (r : Ended A) (o : Outcome A) : Type 0 where
@@ -39,16 +40,16 @@ pub record Walked {A : Type 0} (ws ws′ : List ℕ) (r : Ended A) (o : Outcome 
   pub held : blocksOf (length (left o)) ws′ ≡ left o
   pub rest : (k : ℕ) → length (left o) + length (left o) ≤ k → getD ws′ k 0 ≡ getD ws k 0
 
--- what entering a block returns, by its answer
-abbrev pub entering : ℕ → ℕ → Entry
-entering zero count = Entered (count + 1)
-entering (suc answer) count = Refused (suc answer)
+-- what entering a block returns, by its answer; the block of n bytes at a, of a kind, comes behind the blocks bs
+abbrev pub entering : ℕ → ℕ → ℕ → ℕ → List Block → ℕ → Entry
+entering zero kind a n bs count = Entered (count + 1)
+entering (suc answer) kind a n bs count = Refused (notEntered (suc answer) kind a n bs)
 
 -- what entering a block leaves of the list, by its answer
 abbrev pub entered : ℕ → List ℕ → ℕ → ℕ → ℕ → List ℕ
 entered answer ws count a n = ifEntered answer (set (set ws (count + count) a) (count + count + 1) n) (λ _. ws)
 
--- entering a block as the end of a run: the number of blocks then entered, or the answer
+-- entering a block as the end of a run: the number of blocks then entered, or the refusal
 abbrev pub entryEnd : Entry → Ended (Unit {0})
 entryEnd (Entered c) = ended tt c
-entryEnd (Refused n) = stopped n
+entryEnd (Refused r) = stopped r

@@ -1,9 +1,12 @@
 // The blocks entered, in a list of words that the caller lends: two words a block, its address and its length.
+use crate::met::first_met;
+use format::Refusal;
 ghost use mathlib.Core.Path.{_≡_};
 ghost use mathlib.Core.List.{_++_};
 ghost use Prim.Native.Nat.{_+_, _-_, _^_, _<_, _≤_};
 ghost use lib.ListN.{length, take, replicate};
 ghost use Rattle.format.specs.Blocks.{overlapsAny, entryAnswer, roomOf};
+ghost use Rattle.format.specs.Walk.{notEntered};
 ghost use Rattle.walk.specs.Lent.{Lent, blocksOf, entering, entered};
 
 // Sets the words from a place on to zero.
@@ -63,7 +66,7 @@ const NO_ROOM: u8 = 13;
 
 pub enum Entry {
     Entered(usize),
-    Refused(u8),
+    Refused(Refusal),
 }
 
 // Enters the block of `size` bytes at `at`: 5 if it isn't inside, 6 if it overlaps, 13 if there is no room, or the new count.
@@ -72,24 +75,49 @@ pub fn enter(
     blocks: &mut [u64],
     count: usize,
     room: usize,
+    kind: u8,
     at: u64,
     size: u64,
 ) -> Entry
     requires { ⌜ Lent (now blocks) count room ⌝ }
-    ensures { λ r. ⌜ r ≡ entering (entryAnswer «end_of_file» room (blocksOf count (now (blocks .entry))) at size) count ⌝ }
+    ensures { λ r. ⌜ r ≡ entering (entryAnswer «end_of_file» room (blocksOf count (now (blocks .entry))) at size) kind at size (blocksOf count (now (blocks .entry))) count ⌝ }
     ensures { λ r. ⌜ now (blocks .exit) ≡ entered (entryAnswer «end_of_file» room (blocksOf count (now (blocks .entry))) at size) (now (blocks .entry)) count at size ⌝ }
 {
     if end_of_file < at {
-        return Entry::Refused(OUTSIDE);
+        return Entry::Refused(Refusal::NotEntered {
+            number: OUTSIDE,
+            kind,
+            at,
+            size,
+            met: 0,
+        });
     }
     if end_of_file - at < size {
-        return Entry::Refused(OUTSIDE);
+        return Entry::Refused(Refusal::NotEntered {
+            number: OUTSIDE,
+            kind,
+            at,
+            size,
+            met: 0,
+        });
     }
     if overlaps(blocks, count, at, size) {
-        return Entry::Refused(OVERLAP);
+        return Entry::Refused(Refusal::NotEntered {
+            number: OVERLAP,
+            kind,
+            at,
+            size,
+            met: first_met(blocks, count, at, size),
+        });
     }
     if room <= count {
-        return Entry::Refused(NO_ROOM);
+        return Entry::Refused(Refusal::NotEntered {
+            number: NO_ROOM,
+            kind,
+            at,
+            size,
+            met: 0,
+        });
     }
     blocks[count + count] = at;
     blocks[count + count + 1] = size;

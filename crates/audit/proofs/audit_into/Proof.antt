@@ -62,7 +62,7 @@ returns : tie.Need-returns
 returns c =
     let r = c .before .before .refused .ensures in
     let e = (rw (c .before .before .before .before .before .x .given .1) at (c .before .before .before .before .before .before .before .open .ensures)) .0 in
-    rw (r .0) (not-opened-is (now (c .before .before .before .before .before .before .before .before .before .before .before .before .before .args .image)) (length (now (c .before .before .before .before .before .before .before .before .before .before .before .before .before .args .list))) (c .before .before .before .before .before .x .given .0 .0) _ _ _ _ (r .1) e)
+    rw (r .0) (not-opened-is (now (c .before .before .before .before .before .before .before .before .before .before .before .before .before .args .image)) (length (now (c .before .before .before .before .before .before .before .before .before .before .before .before .before .args .list))) _ _ _ _ (r .1) (c .before .before .before .before .before .x .given .0 .0) e)
 
 same-length-2 : tie.Need-same-length-2
 same-length-2 c = search needs

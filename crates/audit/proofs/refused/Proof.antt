@@ -1,4 +1,4 @@
--- All words are cleared.
+-- All words are cleared, and the number is the answer.
 use borrow.Author.Needs.{needs}
 use Rattle.audit.proofs.refused.Statement.{statement}
 use Rattle.audit.proofs.refused.Tie as tie
@@ -9,11 +9,14 @@ use Rattle.walk.proofs.BlockList.{all-cleared}
 clear-from-requires : tie.Need-clear-from-requires
 clear-from-requires c κs = search needs
 
+number-of-requires : tie.Need-number-of-requires
+number-of-requires c κs = search needs
+
 same-length : tie.Need-same-length
 same-length c = search needs
 
 returns : tie.Need-returns
-returns c = (refl, all-cleared (now (c .before .before .before .before .before .args .list)) _ (c .before .before .clear-from .ensures))
+returns c = (rw (c .number-of .ensures) refl, all-cleared (now (c .before .before .before .before .before .before .args .list)) _ (c .before .before .before .clear-from .ensures))
 
 pub refused-spec : {M : Type 1} → statement M
-refused-spec = tie.close (tie.spec clear-from-requires same-length returns)
+refused-spec = tie.close (tie.spec clear-from-requires number-of-requires same-length returns)

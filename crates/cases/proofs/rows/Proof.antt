@@ -4,7 +4,7 @@ use lib.Dec.{T}
 use Rattle.format.specs.Limits.{imageLeast, imageMost, inputMost, levelMost, rankMost, objectsMost, blocksMost, nameMost, pathMost}
 use Rattle.format.specs.Bytes.{allHold, littleEndian, toBytes, toWords, overwrite, undefinedAddress, sameBytes, contains}
 use Rattle.format.specs.Blocks.{overlaps, overlapsAny, entryAnswer, roomOf, blockWords}
-use Rattle.format.specs.Walk.{blankCount, shown, _>>=_, run}
+use Rattle.format.specs.Walk.{blankCount, shown, _>>=_, located, run}
 use Rattle.format.specs.Superblock.{signature, versionShift, versionsRead, sizesRead, addressesRead, superblockRead, superblockSound, superblockFields, openImage, superblockWalk}
 use Rattle.format.specs.Message.{treatment, messageWalk, messages, ofType, theMessage}
 use Rattle.format.specs.Header.{continuations, headerContents, headerMessages, hasCounts, objectOf, headerWalk}
@@ -35,7 +35,7 @@ use Rattle.cases.proofs.rows.Tie as tie
 
 all-agree : T (agree table)
 unfolding imageLeast imageMost inputMost levelMost rankMost objectsMost blocksMost nameMost pathMost allHold littleEndian toBytes toWords
-    overwrite undefinedAddress sameBytes contains overlaps overlapsAny entryAnswer roomOf blockWords blankCount shown _>>=_ run
+    overwrite undefinedAddress sameBytes contains overlaps overlapsAny entryAnswer roomOf blockWords blankCount shown _>>=_ located run
     signature versionShift versionsRead sizesRead addressesRead superblockRead superblockSound superblockFields openImage superblockWalk treatment messageWalk messages ofType
     theMessage continuations headerContents headerMessages hasCounts objectOf headerWalk HEAP freeBlocks freeList heapWalk beforeNul stringAt
     keyText isName nameText below within SNOD valueWalk entryWalk entries symbolWalk TREE keysWalk children nodeWalk branches

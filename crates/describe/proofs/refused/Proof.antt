@@ -1,4 +1,4 @@
--- All words are cleared, and the zeros are as many as the limit says.
+-- All words are cleared, the number is the answer, and the zeros are as many as the limit says.
 use borrow.Author.Needs.{needs}
 use Rattle.describe.proofs.refused.Statement.{statement}
 use Rattle.describe.proofs.refused.Tie as tie
@@ -9,12 +9,15 @@ use Rattle.walk.proofs.BlockList.{all-cleared}
 clear-from-requires : tie.Need-clear-from-requires
 clear-from-requires c κs = search needs
 
+number-of-requires : tie.Need-number-of-requires
+number-of-requires c κs = search needs
+
 same-length : tie.Need-same-length
 same-length c = search needs
 
 returns : tie.Need-returns
 unfolding rankMost
-returns c = λ bs. rw (all-cleared (now (c .before .before .before .before .before .args .list)) _ (c .before .before .clear-from .ensures))
+returns c = λ bs. rw (c .number-of .ensures, all-cleared (now (c .before .before .before .before .before .before .args .list)) _ (c .before .before .before .clear-from .ensures))
 
 pub refused-spec : {M : Type 1} → statement M
-refused-spec = tie.close (tie.spec clear-from-requires same-length returns)
+refused-spec = tie.close (tie.spec clear-from-requires number-of-requires same-length returns)

@@ -7,7 +7,7 @@ use lib.ListN.{length}
 use Rattle.format.specs.Dataspace.{dataspaceWalk}
 use Rattle.format.specs.Layout.{layoutWalk}
 use Rattle.format.specs.Walk.{ret}
-use Rattle.walk.proofs.Checks.{passes, fails, gives, refuses}
+use Rattle.walk.proofs.Checks.{passes, fails, gives, refuses, placed-value, placed-refusal}
 use Rattle.image.specs.Message.{messageOf}
 use Rattle.dataset.specs.declared.dataspace.DataspaceRead.{DataspaceRead}
 use Rattle.dataset.specs.declared.dataspace.DataspaceRead.the-variants.{Read}
@@ -78,31 +78,43 @@ filled-requires c κs =
       sizesInside = subst (λ (r : DataspaceRead). sizesEnd r ≤ length (bodyOf (now (s .args .image)) (s .args .space))) (space .rank .given .1) (space .before .before .read-space .ensures .sizes);
     }
 
+head-of-requires : tie.Need-head-of-requires
+head-of-requires c κs = search needs
+
+head-of-requires-2 : tie.Need-head-of-requires-2
+head-of-requires-2 c κs = search needs
+
+head-of-requires-3 : tie.Need-head-of-requires-3
+head-of-requires-3 c κs = search needs
+
+head-of-requires-4 : tie.Need-head-of-requires-4
+head-of-requires-4 c κs = search needs
+
 returns : tie.Need-returns
 unfolding messagesWalk
 returns c =
-    let layout = c .before .before .before in
+    let layout = c .before .before .before .before in
     let type = layout .before .before .before .before in
     let space = type .before .before .before .before in
-    (gives _ (space-read space) (gives _ (type-read type) (gives _ (layout-read layout) (fails _ _ (sym (c .before .filled .ensures) ∙ not-true _ (c .if1 .taken))))), tt)
+    (rw (c .head-of4 .ensures) (gives _ (placed-value _ (space-read space)) (gives _ (placed-value _ (type-read type)) (gives _ (placed-value _ (layout-read layout)) (fails _ _ (sym (c .before .before .filled .ensures) ∙ not-true _ (c .before .if1 .taken)))))), tt)
 
 returns-2 : tie.Need-returns-2
 unfolding messagesWalk
 returns-2 c =
-    let space = c .before .before .before .read-space .ensures .walk in
-    (refuses _ (ap (spaceWalk _) (sym (c .before .n .given .1)) ∙ space), tt)
+    let space = c .before .before .before .before .read-space .ensures .walk in
+    (rw (c .head-of .ensures) (refuses _ (placed-refusal _ (ap (spaceWalk _) (sym (c .before .before .n .given .1)) ∙ space))), tt)
 
 returns-3 : tie.Need-returns-3
 unfolding messagesWalk
 returns-3 c =
-    (gives _ (space-read (c .before .before .before .before .before)) (refuses _ (ap typeWalk (sym (c .before .n2 .given .1)) ∙ c .before .before .before .read-type .ensures)), tt)
+    (rw (c .head-of2 .ensures) (gives _ (placed-value _ (space-read (c .before .before .before .before .before .before))) (refuses _ (placed-refusal _ (ap typeWalk (sym (c .before .before .n2 .given .1)) ∙ c .before .before .before .before .read-type .ensures)))), tt)
 
 returns-4 : tie.Need-returns-4
 unfolding messagesWalk
 returns-4 c =
-    let type = c .before .before .before .before .before in
+    let type = c .before .before .before .before .before .before in
     let space = type .before .before .before .before in
-    (gives _ (space-read space) (gives _ (type-read type) (refuses _ (ap layoutRead (sym (c .before .n3 .given .1)) ∙ c .before .before .before .read-layout .ensures))), tt)
+    (rw (c .head-of3 .ensures) (gives _ (placed-value _ (space-read space)) (gives _ (placed-value _ (type-read type)) (refuses _ (placed-refusal _ (ap layoutRead (sym (c .before .before .n3 .given .1)) ∙ c .before .before .before .before .read-layout .ensures))))), tt)
 
 returns-5 : tie.Need-returns-5
 unfolding messagesWalk
@@ -110,7 +122,7 @@ returns-5 c =
     let layout = c .before .before .before in
     let type = layout .before .before .before .before in
     let space = type .before .before .before .before in
-    (gives _ (space-read space) (gives _ (type-read type) (gives _ (layout-read layout) (passes _ _ (sym (c .before .filled .ensures) ∙ not-false _ (c .if1 .left)) refl))), shape-read space)
+    (gives _ (placed-value _ (space-read space)) (gives _ (placed-value _ (type-read type)) (gives _ (placed-value _ (layout-read layout)) (passes _ _ (sym (c .before .filled .ensures) ∙ not-false _ (c .if1 .left)) refl))), shape-read space)
 
 pub messages-spec : {M : Type 1} → statement M
 messages-spec =
@@ -118,14 +130,18 @@ messages-spec =
     (tie.spec
     read-space-requires
     enum-known-n
+    head-of-requires
     enum-known-rank
     read-type-requires
     enum-known-n-2
+    head-of-requires-2
     enum-known-t
     read-layout-requires
     enum-known-n-3
+    head-of-requires-3
     enum-known-l
     filled-requires
+    head-of-requires-4
     returns
     returns-2
     returns-3

@@ -5,7 +5,7 @@ use Prim.Native.Nat.{ℕ, _+_, _*_, _≤_}
 use borrow.Author.Tests.{eq-eqb, ne-eqb, le-leb, lt-leb, not-true, not-false}
 use Rattle.format.specs.Limits.{rankMost}
 use Rattle.format.specs.Dataspace.{Dataspace, dataspaceWalk}
-use Rattle.format.specs.Walk.{Walk, refuse}
+use Rattle.format.specs.Walk.{answer, Walk, refuse}
 use Rattle.walk.proofs.Tests.{field-most, field-above}
 use Rattle.walk.proofs.Checks.{passes, fails}
 use Rattle.dataset.proofs.SpaceChecks.{afterSizes, afterFlags, afterRank, afterVersion, afterLength, first-check, none-stored, maxima-short, maxima-low, maxima-stored, refused-space, plain-space, stored-space}
@@ -33,7 +33,7 @@ flagged : (c : tie.Else4) {x : Walk Dataspace} → let b = now (c .before .befor
 flagged c e = ranked (c .before .before) (passes _ _ (le-leb _ _ (c .if4 .left)) e)
 
 sizes-outside : (c : tie.Then5) → let b = now (c .before .before .before .before .before .before .before .before .before .before .before .before .args .body) in
-    refuse 11 ≡ afterFlags b
+    refuse (answer 11) ≡ afterFlags b
 sizes-outside c = fails _ _ (field-above (ap (λ (k : ℕ). 8 + 8 * k) (sym (c .before .before .before .before .before .wide .ensures))) (c .if5 .taken))
 
 inside : (c : tie.Else5) {x : Walk Dataspace} → let b = now (c .before .before .before .before .before .before .before .before .before .before .before .before .args .body) in

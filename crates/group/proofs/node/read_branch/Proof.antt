@@ -37,7 +37,7 @@ fields c = node-is c .fields
 
 -- the keys, as part of the node
 keys : (c : tie.After-check-keys) (h : Heap) → h .segment ≡ now (c .before .before .before .before .before .before .before .before .before .before .before .before .before .args .segment) →
-    keysOf (c .check-keys .result) ≡ keysWalk h (c .before .before .before .before .own .given .0 .1 .0 + 1) (part (now (c .before .before .before .before .before .before .before .before .before .before .before .before .before .args .image)) (c .before .before .before .before .before .before .before .before .before .before .before .before .before .args .at + 24) (8 + 32 * c .before .before .before .before .before .before .before .before .before .before .before .before .before .args .group .«internal_k»))
+    keysOf (c .check-keys .result) ≡ keysWalk h (c .before .before .before .before .own .given .0 .1 .0 + 1) (c .before .before .before .before .before .before .before .before .before .before .before .before .before .args .at + 24) (part (now (c .before .before .before .before .before .before .before .before .before .before .before .before .before .args .image)) (c .before .before .before .before .before .before .before .before .before .before .before .before .before .args .at + 24) (8 + 32 * c .before .before .before .before .before .before .before .before .before .before .before .before .before .args .group .«internal_k»))
 keys c h e =
     let f = fields (c .before .before .before .before) in
     c .check-keys .ensures h (8 + 32 * c .before .before .before .before .before .before .before .before .before .before .before .before .before .args .group .«internal_k») e (omega (arith, f .3)) (omega (arith, f .0))

@@ -33,6 +33,12 @@ enum-known-f c = search needs
 fault-number-requires : tie.Need-fault-number-requires Inv-loop μ-loop
 fault-number-requires c κs = search needs
 
+mul-t13 : tie.Need-mul-t13 Inv-loop μ-loop
+mul-t13 c = search needs
+
+add-t14 : tie.Need-add-t14 Inv-loop μ-loop
+add-t14 c = search needs
+
 returns : tie.Need-returns Inv-loop μ-loop
 returns c =
     let k = c .before .before .before .before in
@@ -70,6 +76,8 @@ check-keys-spec =
     key-requires
     enum-known-f
     fault-number-requires
+    mul-t13
+    add-t14
     returns
     enum-told
     add-i

@@ -27,15 +27,19 @@ returns-2 c =
 overlaps-requires : tie.Need-overlaps-requires
 overlaps-requires c κs = search needs
 
+first-met-requires : tie.Need-first-met-requires
+first-met-requires c κs = search needs
+
 same-length : tie.Need-same-length
 same-length c = search needs
 
 returns-3 : tie.Need-returns-3
 returns-3 c =
-    let a = c .before .before .before .before .before .before .args in
+    let t = c .before .before in
+    let a = t .before .before .before .before .before .before .args in
     let h : a .at + a .size ≤ a .end-of-file = omega arith in
-    let k : true ≡ overlapsAny (blocksOf (a .count) (now (a .blocks))) (a .at) (a .size) = sym (c .if3 .taken) ∙ c .before .overlaps .ensures in
-    rw entryAnswer-overlap (refl, refl)
+    let k : true ≡ overlapsAny (blocksOf (a .count) (now (a .blocks))) (a .at) (a .size) = sym (t .if3 .taken) ∙ t .before .overlaps .ensures in
+    rw (entryAnswer-overlap, c .first-met .ensures) (refl, refl)
 
 same-length-2 : tie.Need-same-length-2
 same-length-2 c = search needs
@@ -69,8 +73,8 @@ mul-blocks-2 c = search needs
 slice-write-blocks-2 : tie.Need-slice-write-blocks-2
 slice-write-blocks-2 c = simp length-set (omega arith)
 
-add-t12 : tie.Need-add-t12
-add-t12 c = search needs
+add-t20 : tie.Need-add-t20
+add-t20 c = search needs
 
 same-length-3 : tie.Need-same-length-3
 same-length-3 c = search needs
@@ -90,6 +94,7 @@ enter-spec =
     returns
     returns-2
     overlaps-requires
+    first-met-requires
     same-length
     returns-3
     same-length-2
@@ -101,6 +106,6 @@ enter-spec =
     add-blocks-3
     mul-blocks-2
     slice-write-blocks-2
-    add-t12
+    add-t20
     same-length-3
     returns-5)
