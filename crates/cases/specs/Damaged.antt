@@ -1,31 +1,123 @@
--- File H of document 01 with one byte of the dataset changed, so that each answer of headers and dataset messages is met. The dataset's header
--- is at 1128, its messages at 1144; the comment above a row says what was changed.
+-- Where faults are met: files E and H of document 01 with one or two bytes changed, so that each kind of place and each kind of block is named.
+-- The comment above a row says what was changed. In H the superblock is at 0, the root's header at 96, its tree node at 136, its heap at 680 with
+-- the segment at 712, its symbol table node at 800, the dataset's header at 1128 and the data at 1224.
 use Prim.Native.Nat.{ℕ}
 use mathlib.Core.List.{List, [], _∷_}
-use lib.ListN.{set}
-use Rattle.format.specs.Answers.{audit}
-use Rattle.cases.specs.Table.{Case, _is_, audited, auditRefused, soundH}
+use lib.ListN.{set, take}
+use Rattle.format.specs.declared.Refusal.the-variants.{Fault, NotEntered}
+use Rattle.format.specs.Walk.{Outcome, done, refused}
+use Rattle.format.specs.Audit.{auditRun}
+use Rattle.format.specs.Lookup.{lookupRun}
+use Rattle.format.specs.Describe.{describeRun}
+use Rattle.cases.specs.Files.{ascii, fileE, fileContinued}
+use Rattle.cases.specs.Table.{Case, _is_, soundH}
 
--- the audit of H with this byte at this place, lent 16 words
+-- the answer, and the place of the fault
+abbrev pub fault : (number place : ℕ) → List ℕ
+fault number place = number ∷ place ∷ []
+
+-- the answer; kind, address and length of the block that can't be entered; the block that it meets
+abbrev pub notEntered : (number kind at size met : ℕ) → List ℕ
+notEntered number kind at size met = number ∷ kind ∷ at ∷ size ∷ met ∷ []
+
+-- how a run was refused, as one list of numbers; none if it was done
+abbrev pub refusal : {A : Type 0} → Outcome A → List ℕ
+refusal (done a bs) = []
+refusal (refused (Fault number place) bs) = fault number place
+refusal (refused (NotEntered number kind at size met) bs) = notEntered number kind at size met
+
+-- the refusal of the audit of an image, 1,024 blocks being lent
+abbrev pub audited : List ℕ → List ℕ
+audited im = refusal (auditRun im 2048)
+
+-- H with this byte at this place
 abbrev pub damaged : (place byte : ℕ) → List ℕ
-damaged place byte = audited (audit (set soundH place byte) 16)
+damaged place byte = audited (set soundH place byte)
+
+-- H with two bytes changed
+abbrev pub damagedTwice : (place byte place′ byte′ : ℕ) → List ℕ
+damagedTwice place byte place′ byte′ = audited (set (set soundH place byte) place′ byte′)
+
+-- the file of which a part of the dataset's header is continued, with this byte at this place
+abbrev pub continued : (place byte : ℕ) → List ℕ
+continued place byte = audited (set fileContinued place byte)
 
 unfoldable pub damagedTable : List Case
 damagedTable =
-    -- the header's version: 2 is not read
-    (damaged 1128 2 is auditRefused 3 16) ∷
-    -- the number of messages: one more than there are
-    (damaged 1130 4 is auditRefused 10 16) ∷
-    -- the dataspace message becomes a NIL message: a datatype and a layout without a dataspace are no dataset
-    (damaged 1144 0 is auditRefused 10 16) ∷
-    -- the dataspace's version: 0 is not read
-    (damaged 1152 0 is auditRefused 3 16) ∷
-    -- 5 elements of 1 byte in 4 bytes
-    (damaged 1160 5 is auditRefused 11 16) ∷
-    -- the data begins behind the end of file
-    (damaged 1203 5 is auditRefused 5 16) ∷
-    -- the data begins in the symbol table node
-    (damaged 1203 3 is auditRefused 6 16) ∷
+    -- 95 bytes are too few
+    (audited (take 95 soundH) is fault 1 0) ∷
+    -- the signature
+    (damaged 0 0 is fault 2 0) ∷
+    -- offsets of 4 bytes
+    (damaged 13 4 is fault 3 0) ∷
+    -- K of leaves is 0
+    (damaged 16 0 is fault 4 0) ∷
+    -- the root's header is said to be at 0, in the superblock
+    (damaged 64 0 is notEntered 6 2 0 16 0) ∷
+    -- the root's header: its version, and its first message's type
+    (damaged 96 2 is fault 3 96) ∷
+    (damaged 112 2 is fault 3 112) ∷
+    -- the heap's signature, a segment of 7 bytes, and a free block at 87 of 88
+    (damaged 680 0 is fault 7 680) ∷
+    (damaged 688 7 is fault 9 680) ∷
+    (damaged 696 87 is fault 9 712) ∷
+    -- the segment is said to be at 130, in the root's header
+    (damagedTwice 704 130 705 0 is notEntered 6 5 130 88 96) ∷
+    -- end of file is one byte before the segment's
+    (audited (fileE 799) is notEntered 5 5 712 88 0) ∷
+    -- the tree node: its signature, its type; an empty root of level 1
+    (damaged 136 0 is fault 7 136) ∷
+    (damaged 140 1 is fault 8 136) ∷
+    (audited (set (fileE 800) 141 1) is fault 8 136) ∷
+    -- the root has level 1, and its child would be a tree node
+    (damaged 141 1 is notEntered 5 6 800 544 0) ∷
+    -- the first key, and the second, behind the segment
+    (damaged 160 88 is fault 9 160) ∷
+    (damaged 176 88 is fault 9 176) ∷
+    -- the symbol table node: its signature, and nine entries
+    (damaged 800 0 is fault 7 800) ∷
+    (damaged 806 9 is fault 8 800) ∷
+    -- the first entry's name lies behind the segment
+    (damaged 808 255 is fault 9 808) ∷
+    -- the second entry: its name is the first one's; its type; its link value lies in the free block
+    (damaged 848 8 is fault 8 848) ∷
+    (damaged 864 3 is fault 8 848) ∷
+    (damagedTwice 864 2 872 30 is fault 9 848) ∷
+    -- the second entry leads to a header behind the end of file: 16 bytes of it are known
+    (damaged 857 5 is notEntered 5 2 1384 16 0) ∷
+    -- the dataset's header: its version, the number of its messages, no dataspace among them, and 8 bytes more than there are
+    (damaged 1128 2 is fault 3 1128) ∷
+    (damaged 1130 4 is fault 10 1128) ∷
+    (damaged 1144 0 is fault 10 1128) ∷
+    (damaged 1136 88 is notEntered 5 2 1128 104 0) ∷
+    -- the second message: its type, and its size
+    (damaged 1168 2 is fault 3 1168) ∷
+    (damaged 1170 12 is fault 10 1168) ∷
+    -- the dataspace's version and rank, the datatype's size, the layout's version
+    (damaged 1152 0 is fault 3 1144) ∷
+    (damaged 1153 33 is fault 11 1144) ∷
+    (damaged 1180 0 is fault 11 1168) ∷
+    (damaged 1200 2 is fault 3 1192) ∷
+    -- 5 elements of 1 byte in 4 bytes: the layout message is at fault
+    (damaged 1160 5 is fault 11 1192) ∷
+    -- the data begins behind the end of file; in the symbol table node; in the segment's last byte, before that node
+    (damaged 1203 5 is notEntered 5 8 1480 4 0) ∷
+    (damaged 1203 3 is notEntered 6 8 968 4 800) ∷
+    (damagedTwice 1202 31 1203 3 is notEntered 6 8 799 4 712) ∷
     -- H itself with room for 7 pairs: none is left for the data
-    (audited (audit soundH 14) is auditRefused 13 14) ∷
+    (refusal (auditRun soundH 14) is notEntered 13 8 1224 4 0) ∷
+    -- a header with a continuation, which is entered last: the dataspace stands in the header, datatype and layout in the continuation
+    (continued 0 0x89 is []) ∷
+    (continued 1153 33 is fault 11 1144) ∷
+    (continued 1204 0 is fault 11 1192) ∷
+    -- a message of the continuation; the number of all messages; a layout of another type, so that there is no kind; the continuation's length
+    (continued 1216 2 is fault 3 1216) ∷
+    (continued 1130 5 is fault 10 1128) ∷
+    (continued 1216 12 is fault 10 1128) ∷
+    (continued 1184 80 is notEntered 5 3 1192 80 0) ∷
+    -- what a path is answered names no place
+    (refusal (lookupRun soundH (ascii "a") 16) is fault 14 0) ∷
+    (refusal (lookupRun soundH (ascii "/c") 16) is fault 15 0) ∷
+    (refusal (lookupRun soundH (ascii "/a/b") 16) is fault 17 0) ∷
+    (refusal (describeRun soundH (ascii "/") 16) is fault 20 0) ∷
     []

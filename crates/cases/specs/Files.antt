@@ -144,17 +144,17 @@ datatype =
     toBytes 2 8  -- Bit Precision
 
 -- FF IV.A.2.i, "Layout: Data Layout Message (Version 3)" and "Layout: Contiguous Storage Property Description"
-abbrev pub dataLayout : List ℕ
-dataLayout =
+abbrev pub dataLayout : (address : ℕ) → List ℕ
+dataLayout address =
     toBytes 1 3 ++  -- Version
     toBytes 1 1 ++  -- Layout Class
-    toBytes 8 1224 ++  -- Address
+    toBytes 8 address ++  -- Address
     toBytes 8 4  -- Size
 
 -- the dataset's header, 96 bytes
 abbrev pub datasetHeader : (referenceCount : ℕ) → List ℕ
 datasetHeader referenceCount =
-    objectHeader 3 referenceCount 80 (message 0x0001 16 dataspace ++ message 0x0003 16 datatype ++ message 0x0008 24 dataLayout)
+    objectHeader 3 referenceCount 80 (message 0x0001 16 dataspace ++ message 0x0003 16 datatype ++ message 0x0008 24 (dataLayout 1224))
 
 -- where the names "a" and "b" stand in the heap of H
 abbrev pub nameA : ℕ
@@ -166,13 +166,26 @@ nameB = 16
 -- H: "E plus SNOD at 800 (328), names "a" and "b" for a dataset header at 1128 (96 long) with four bytes at 1224. End 1228". So the tree has
 -- one child; key 1 is the empty string, and key 2 is "b", the greatest name below that child. The cases choose the names of the two
 -- entries, by heap offset, and the dataset's stored reference count.
-abbrev pub fileH : (firstName secondName referenceCount : ℕ) → List ℕ
-fileH firstName secondName referenceCount =
-    superblock 1228 ++  -- at 0
+abbrev pub beginH : (endOfFile firstName secondName : ℕ) → List ℕ
+beginH endOfFile firstName secondName =
+    superblock endOfFile ++  -- at 0
     rootHeader ++  -- at 96
     treeNode 1 (toBytes 8 0 ++ toBytes 8 800 ++ toBytes 8 nameB) ++  -- at 136: Key 1, Address of Child 1, Key 2
     heapHeader 24 ++  -- at 680
     (heapString "" ++ heapString "a" ++ heapString "b" ++ freeBlock 64) ++  -- at 712, the data segment; the free block is at its offset 24
-    symbolNode (symbolEntry firstName 1128 0 []) (symbolEntry secondName 1128 0 []) ++  -- at 800
+    symbolNode (symbolEntry firstName 1128 0 []) (symbolEntry secondName 1128 0 [])  -- at 800
+
+abbrev pub fileH : (firstName secondName referenceCount : ℕ) → List ℕ
+fileH firstName secondName referenceCount =
+    beginH 1228 firstName secondName ++
     datasetHeader referenceCount ++  -- at 1128
     (1 ∷ 2 ∷ 3 ∷ 4 ∷ [])  -- at 1224, the data
+
+-- H with a dataset header of 64 bytes: a dataspace message, then a continuation message (FF IV.A.2.q) for the 56 bytes behind the header, which hold
+-- the datatype and the layout message. The data stands behind them.
+abbrev pub fileContinued : List ℕ
+fileContinued =
+    beginH 1252 nameA nameB ++
+    objectHeader 4 2 48 (message 0x0001 16 dataspace ++ message 0x0010 16 (toBytes 8 1192 ++ toBytes 8 56)) ++  -- at 1128
+    (message 0x0003 16 datatype ++ message 0x0008 24 (dataLayout 1248)) ++  -- at 1192, the continuation
+    (1 ∷ 2 ∷ 3 ∷ 4 ∷ [])  -- at 1248, the data

@@ -5,10 +5,11 @@ use mathlib.Core.Bool.{Bool}
 use lib.ListN.{length}
 use Rattle.format.specs.Bytes.{if_then_else_, part}
 use Rattle.format.specs.Message.{Message, isShared}
-use Rattle.format.specs.Dataspace.{dataspaceWalk}
-use Rattle.format.specs.Datatype.{datatypeWalk, sharedWalk}
-use Rattle.format.specs.Layout.{layoutWalk}
+use Rattle.format.specs.Dataspace.{readDataspace}
+use Rattle.format.specs.Datatype.{readDatatype, readShared}
+use Rattle.format.specs.Layout.{readLayout}
 use Rattle.format.specs.Dataset.{headAt, fills}
+use Rattle.format.specs.Result.{Result}
 use Rattle.format.specs.Walk.{Walk, ret, refuse, fault, located, check, _>>=_, _>>_}
 use Rattle.walk.specs.Lent.{Ended, ended, stopped}
 use Rattle.image.specs.declared.message.Body.{Body}
@@ -50,15 +51,15 @@ abbrev pub dataFills : Rattle.format.specs.Dataset.Dataset → Bool
 dataFills d = fills (d .space) (d .type) (d .layout)
 
 -- the datatype message, shared or not
-abbrev pub typeMessage : Message → Walk Rattle.format.specs.Datatype.Datatype
-typeMessage m = if isShared (m .flags) then sharedWalk (m .body) else datatypeWalk (m .body)
+abbrev pub typeMessage : Message → Result Rattle.format.specs.Datatype.Datatype
+typeMessage m = if isShared (m .flags) then readShared (m .body) else readDatatype (m .body)
 
 -- the dataset walk before its data's block
 unfoldable pub messagesWalk : Message → Message → Message → Walk Rattle.format.specs.Dataset.Dataset
 messagesWalk space type layout = do
-  d ← located (headAt space) (dataspaceWalk (space .body))
+  d ← located (headAt space) (readDataspace (space .body))
   t ← located (headAt type) (typeMessage type)
-  l ← located (headAt layout) (layoutWalk (layout .place) (layout .body))
+  l ← located (headAt layout) (readLayout (layout .place) (layout .body))
   check (fills d t l) (fault 11 (headAt layout))
   ret (record { space = d; type = t; layout = l })
 
@@ -68,18 +69,18 @@ Shaped b d = SpaceInside b (Read (d .rank) (d .«maxima_stored»))
 
 abbrev pub MessagesShaped : List ℕ → MessagesRead → Type 0
 MessagesShaped b (messages.Read d) = Shaped b d
-MessagesShaped b (messages.Refused n) = Unit {0}
+MessagesShaped b (messages.Refused r) = Unit {0}
 
 abbrev pub DatasetShaped : List ℕ → DatasetRead → Type 0
 DatasetShaped b (dataset.Read d count) = Shaped b d
-DatasetShaped b (dataset.Stopped n) = Unit {0}
+DatasetShaped b (dataset.Stopped r) = Unit {0}
 
 -- the messages' answer as the end of their walk
 abbrev pub messagesRead : List ℕ → MessagesRead → Walk Rattle.format.specs.Dataset.Dataset
 messagesRead b (messages.Read d) = ret (datasetOf b d)
-messagesRead b (messages.Refused n) = refuse n
+messagesRead b (messages.Refused r) = refuse r
 
 -- how the dataset walk ended
 abbrev pub datasetEnd : List ℕ → DatasetRead → Ended Rattle.format.specs.Dataset.Dataset
 datasetEnd b (dataset.Read d count) = ended (datasetOf b d) count
-datasetEnd b (dataset.Stopped n) = stopped n
+datasetEnd b (dataset.Stopped r) = stopped r

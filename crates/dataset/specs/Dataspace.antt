@@ -6,8 +6,8 @@ use mathlib.Core.Path.{_≡_}
 use lib.ListN.{length, drop}
 use Rattle.format.specs.Limits.{rankMost}
 use Rattle.format.specs.Bytes.{if_then_else_, toWords, contains}
-use Rattle.format.specs.Dataspace.{Dataspace, dataspaceWalk}
-use Rattle.format.specs.Walk.{Walk, ret, refuse, answer}
+use Rattle.format.specs.Dataspace.{Dataspace, readDataspace}
+use Rattle.format.specs.Result.{Result, value, answer}
 use Rattle.dataset.specs.declared.dataspace.DataspaceRead.{DataspaceRead}
 use Rattle.dataset.specs.declared.dataspace.DataspaceRead.the-variants.{Read, Refused}
 
@@ -18,9 +18,9 @@ spaceOf b rank stored =
     record { sizes = sizes; maxima = if stored then toWords rank (drop (8 + 8 * rank) b) else sizes }
 
 -- the answer as the end of the message's walk
-abbrev pub spaceWalk : List ℕ → DataspaceRead → Walk Dataspace
-spaceWalk b (Read rank stored) = ret (spaceOf b rank stored)
-spaceWalk b (Refused n) = refuse (answer n)
+abbrev pub spaceResult : List ℕ → DataspaceRead → Result Dataspace
+spaceResult b (Read rank stored) = value (spaceOf b rank stored)
+spaceResult b (Refused n) = answer n
 
 -- the rank of what was read
 abbrev pub rankOf : DataspaceRead → ℕ
@@ -44,7 +44,7 @@ SpaceInside b r = (rankOf r ≤ rankMost) × (sizesEnd r ≤ length b) × (maxim
 
 -- r was read from the body b, and what it names lies inside
 pub record SpaceRead (b : List ℕ) (r : DataspaceRead) : Type 0 where
-  pub walk : spaceWalk b r ≡ dataspaceWalk b
+  pub walk : spaceResult b r ≡ readDataspace b
   pub ranked : rankOf r ≤ rankMost
   pub sizes : sizesEnd r ≤ length b
   pub maxima : maximaEnd r ≤ length b

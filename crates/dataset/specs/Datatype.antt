@@ -5,7 +5,7 @@ use mathlib.Core.List.{List}
 use lib.Dec.{leb, eqb}
 use Rattle.format.specs.Bytes.{u8, u16}
 use Rattle.format.specs.Datatype.{own, sharedAt}
-use Rattle.format.specs.Walk.{Walk, ret, refuse, answer}
+use Rattle.format.specs.Result.{Result, value, answer}
 use Rattle.dataset.specs.declared.datatype.Datatype.{Datatype}
 use Rattle.dataset.specs.declared.datatype.Datatype.the-variants.{Own, Shared}
 use Rattle.dataset.specs.declared.datatype.DatatypeRead.{DatatypeRead}
@@ -17,9 +17,9 @@ typeOf (Own class version bits size) = own class version bits size
 typeOf (Shared address) = sharedAt address
 
 -- the answer as the end of the message's walk
-abbrev pub typeWalk : DatatypeRead → Walk Rattle.format.specs.Datatype.Datatype
-typeWalk (Read t) = ret (typeOf t)
-typeWalk (Refused n) = refuse (answer n)
+abbrev pub typeResult : DatatypeRead → Result Rattle.format.specs.Datatype.Datatype
+typeResult (Read t) = value (typeOf t)
+typeResult (Refused n) = answer n
 
 -- "precision is 1 or more and offset plus precision is at most 8 times size"
 abbrev pub bitsSound : List ℕ → ℕ → Bool

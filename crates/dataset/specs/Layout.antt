@@ -1,5 +1,5 @@
 -- What the layout reader's answer means.
-use Rattle.format.specs.Walk.{Walk, ret, refuse, answer}
+use Rattle.format.specs.Result.{Result, value, answer}
 use Rattle.dataset.specs.declared.layout.Layout.{Layout}
 use Rattle.dataset.specs.declared.layout.Layout.the-variants.{Compact, Contiguous}
 use Rattle.dataset.specs.declared.layout.LayoutRead.{LayoutRead}
@@ -11,6 +11,6 @@ layoutOf (Compact address size) = record { class = 0; address = address; size = 
 layoutOf (Contiguous address size) = record { class = 1; address = address; size = size }
 
 -- the answer as the end of the message's walk
-abbrev pub layoutRead : LayoutRead → Walk Rattle.format.specs.Layout.Layout
-layoutRead (Read l) = ret (layoutOf l)
-layoutRead (Refused n) = refuse (answer n)
+abbrev pub layoutResult : LayoutRead → Result Rattle.format.specs.Layout.Layout
+layoutResult (Read l) = value (layoutOf l)
+layoutResult (Refused n) = answer n

@@ -19,13 +19,13 @@ ghost use Prim.Native.Nat.{ℕ, _-_, _≤_};
 ghost use lib.ListN.{length};
 ghost use Rattle.format.specs.Bytes.{part};
 ghost use Rattle.format.specs.Dataset.{dataWalk, datasetWalk};
-ghost use Rattle.format.specs.Layout.{layoutWalk};
+ghost use Rattle.format.specs.Layout.{readLayout};
 ghost use Rattle.format.specs.Walk.{run};
 ghost use Rattle.walk.specs.Lent.{Lent, Walked, blocksOf, entryEnd};
 ghost use Rattle.image.specs.Message.{messageOf};
 ghost use Rattle.dataset.specs.Dataspace.{SpaceRead};
-ghost use Rattle.dataset.specs.Datatype.{typeOf, typeWalk};
-ghost use Rattle.dataset.specs.Layout.{layoutOf, layoutRead};
+ghost use Rattle.dataset.specs.Datatype.{typeOf, typeResult};
+ghost use Rattle.dataset.specs.Layout.{layoutOf, layoutResult};
 ghost use Rattle.dataset.specs.Dataset.{Inside, BodiesInside, SizesInside, bodyOf, datasetOf, dataFills, typeMessage, messagesWalk, messagesRead, MessagesShaped, datasetEnd, DatasetShaped};
 
 // What the messages say. The sizes and maxima themselves stay in the body of the dataspace message.
@@ -69,7 +69,7 @@ fn read_space(image: &[u8], body: Body) -> DataspaceRead
 
 fn read_type(image: &[u8], body: Body) -> DatatypeRead
     requires { ⌜ Inside (now image) body ⌝ }
-    ensures { λ r. ⌜ typeWalk r ≡ typeMessage (messageOf (now (image .entry)) 0x0003 body) ⌝ }
+    ensures { λ r. ⌜ typeResult r ≡ typeMessage (messageOf (now (image .entry)) 0x0003 body) ⌝ }
 {
     let place = body.place;
     let end = place + body.size;
@@ -81,7 +81,7 @@ fn read_type(image: &[u8], body: Body) -> DatatypeRead
 
 fn read_layout(image: &[u8], body: Body) -> LayoutRead
     requires { ⌜ Inside (now image) body ⌝ }
-    ensures { λ r. ⌜ layoutRead r ≡ layoutWalk (body .place) (bodyOf (now (image .entry)) body) ⌝ }
+    ensures { λ r. ⌜ layoutResult r ≡ readLayout (body .place) (bodyOf (now (image .entry)) body) ⌝ }
 {
     let place = body.place;
     let end = place + body.size;

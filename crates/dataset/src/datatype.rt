@@ -6,9 +6,9 @@ ghost use mathlib.Core.Path.{_≡_};
 ghost use Prim.Native.Nat.{_^_, _≤_, _<_};
 ghost use lib.ListN.{length};
 ghost use Rattle.format.specs.Bytes.{_implies_};
-ghost use Rattle.format.specs.Datatype.{classRead, hasBits, extent, datatypeWalk, sharedWalk};
+ghost use Rattle.format.specs.Datatype.{classRead, hasBits, extent, readDatatype, readShared};
 ghost use Rattle.walk.specs.Numbers.{Number};
-ghost use Rattle.dataset.specs.Datatype.{typeWalk, bitsSound, sharedRead};
+ghost use Rattle.dataset.specs.Datatype.{typeResult, bitsSound, sharedRead};
 
 pub enum Datatype {
     Own {
@@ -102,7 +102,7 @@ fn sound(body: &[u8], class: u8, size: u64) -> bool
 
 // Reads the message: the datatype, or 3 or 11.
 pub fn read(body: &[u8]) -> DatatypeRead
-    ensures { λ r. ⌜ typeWalk r ≡ datatypeWalk (now (body .entry)) ⌝ }
+    ensures { λ r. ⌜ typeResult r ≡ readDatatype (now (body .entry)) ⌝ }
 {
     if body.len() < 8 {
         return DatatypeRead::Refused(11);
@@ -153,7 +153,7 @@ fn shared_read(body: &[u8]) -> bool
 
 // Reads a shared message: the address of the datatype, or 3 or 11.
 pub fn read_shared(body: &[u8]) -> DatatypeRead
-    ensures { λ r. ⌜ typeWalk r ≡ sharedWalk (now (body .entry)) ⌝ }
+    ensures { λ r. ⌜ typeResult r ≡ readShared (now (body .entry)) ⌝ }
 {
     if body.len() < 8 {
         return DatatypeRead::Refused(11);

@@ -4,8 +4,8 @@ use walk::numbers::u64_at;
 ghost use mathlib.Core.Path.{_≡_};
 ghost use Prim.Native.Nat.{_+_, _^_, _≤_, _<_};
 ghost use lib.ListN.{length};
-ghost use Rattle.format.specs.Layout.{compactWalk, contiguousWalk, layoutWalk};
-ghost use Rattle.dataset.specs.Layout.{layoutRead};
+ghost use Rattle.format.specs.Layout.{readCompact, readContiguous, readLayout};
+ghost use Rattle.dataset.specs.Layout.{layoutResult};
 
 pub enum Layout {
     Compact { address: u64, size: u64 },
@@ -21,7 +21,7 @@ pub enum LayoutRead {
 fn read_compact(body: &[u8], place: usize) -> LayoutRead
     requires { ⌜ 8 ≤ length (now body) ⌝ }
     requires { ⌜ place + length (now body) < 2 ^ 63 ⌝ }
-    ensures { λ r. ⌜ layoutRead r ≡ compactWalk place (now (body .entry)) ⌝ }
+    ensures { λ r. ⌜ layoutResult r ≡ readCompact place (now (body .entry)) ⌝ }
 {
     let size = u16_at(body, 2);
     if (body.len() as u64) < 4 + size {
@@ -37,7 +37,7 @@ fn read_compact(body: &[u8], place: usize) -> LayoutRead
 
 // Data in a block of its own.
 fn read_contiguous(body: &[u8]) -> LayoutRead
-    ensures { λ r. ⌜ layoutRead r ≡ contiguousWalk (now (body .entry)) ⌝ }
+    ensures { λ r. ⌜ layoutResult r ≡ readContiguous (now (body .entry)) ⌝ }
 {
     if body.len() < 18 {
         return LayoutRead::Refused(11);
@@ -54,7 +54,7 @@ fn read_contiguous(body: &[u8]) -> LayoutRead
 // Reads the message: the layout, or 3 or 11. The body begins at `place` in the image.
 pub fn read(body: &[u8], place: usize) -> LayoutRead
     requires { ⌜ place + length (now body) < 2 ^ 63 ⌝ }
-    ensures { λ r. ⌜ layoutRead r ≡ layoutWalk place (now (body .entry)) ⌝ }
+    ensures { λ r. ⌜ layoutResult r ≡ readLayout place (now (body .entry)) ⌝ }
 {
     if body.len() < 8 {
         return LayoutRead::Refused(11);

@@ -1,29 +1,29 @@
 -- Every true count of an audit that is done fits four bytes: an audit enters at most 1,024 blocks, and counts at most 65,536 links in each.
 use Prim.Native.Nat.{ℕ, zero, suc, _+_, _^_, _≤_, _<_}
 use mathlib.Core.Bool.{Bool, true, false}
-use mathlib.Core.List.{List, [], _∷_, _++_, List·Memᴰ, List·Memᴰ·not-nil, List·Memᴰ·cases-cons}
+use mathlib.Core.List.{List, [], _∷_, List·Memᴰ, List·Memᴰ·not-nil, List·Memᴰ·cases-cons}
 use mathlib.Core.Logic.{⊎-elim}
-use mathlib.Core.Path.{_≡_, refl, ap}
+use mathlib.Core.Path.{_≡_, refl, ap, sym, _∙_}
 use native.Mathlib.Omega.{arith}
-use lib.Dec.{ltb}
-use lib.ListN.{length, drop}
+use lib.ListN.{drop}
 use Rattle.format.specs.Limits.{objectsMost, blocksMost}
-use Rattle.format.specs.Bytes.{if_then_else_, withFirst}
+use Rattle.format.specs.Bytes.{withFirst}
 use Rattle.format.specs.Blocks.{Block, roomOf}
-use Rattle.format.specs.Walk.{ret, refuse, answer, _>>=_, _>>_, done}
+use Rattle.format.specs.Result.{value}
+use Rattle.format.specs.Walk.{ret, _>>=_, _>>_, done}
 use Rattle.format.specs.Superblock.{Superblock, opened, openImage}
 use Rattle.format.specs.Header.{Object, group, dataset, committed}
-use Rattle.format.specs.Symbols.{Entry, isHard}
-use Rattle.format.specs.Ledger.{Linked, linked, inLedger, addLink, countLink, discover}
+use Rattle.format.specs.Entry.{Entry, isHard}
+use Rattle.format.specs.Ledger.{Linked, linked, discover}
 use Rattle.format.specs.Object.{contentWalk, objectWalk}
 use Rattle.format.specs.Audit.{objectsWalk, auditWalk, auditRun}
 use Rattle.walk.proofs.BlockList.{room-most}
 use Rattle.ledger.specs.Links.{linkSum}
-use Rattle.ledger.proofs.LedgerLaws.{sum-add, sum-append, sum-first}
+use Rattle.ledger.proofs.LedgerLaws.{discover-hard, discover-other, count-sum}
 use Rattle.links.proofs.AuditSound.{audit-blocks}
 use Rattle.found.proofs.Replayed.{audit-walked}
 use Rattle.demand.specs.Bytes.{IsBytes}
-use Rattle.demand.proofs.Rises.{Rises, rises-ret, rises-refuse, rises-after, rises-on}
+use Rattle.demand.proofs.Rises.{Rises, rises-ret, rises-after, rises-on}
 use Rattle.demand.proofs.GroupRises.{group-rises}
 
 -- a count is at most the sum of all
@@ -33,23 +33,13 @@ links-most [] o m = absurd (List·Memᴰ·not-nil m)
 links-most (p ∷ os) o m = ⊎-elim (λ same. omega (arith, ap (λ (x : Linked). x .links) same)) (λ i. omega (arith, links-most os o i)) (List·Memᴰ·cases-cons m)
 
 module _ (im : List ℕ) (bytes : IsBytes im) (eof room : ℕ) where
-  -- one link more at an entry
-  link-rises : (a : ℕ) (os : List Linked) → Rises im eof room linkSum (countLink a os) (linkSum os + 1)
-  unfolding countLink
-  link-rises a os = go (inLedger a os) (ltb (length os) objectsMost) refl
+  -- one link more at an entry, or none
+  visit-rises : (e : Entry) (os os′ : List Linked) → discover e os ≡ value os′ → linkSum os′ ≤ linkSum os + 1
+  visit-rises e os os′ d = go (isHard e) refl
     where
-      go : (t u : Bool) → inLedger a os ≡ t → Rises im eof room linkSum (if t then ret (addLink a os) else if u then ret (os ++ (linked a 1 ∷ [])) else refuse (answer 12)) (linkSum os + 1)
-      go true u h = rises-ret im eof room linkSum (addLink a os) (linkSum os + 1) (omega (arith, sum-add a os h))
-      go false true h = rises-ret im eof room linkSum (os ++ (linked a 1 ∷ [])) (linkSum os + 1) (omega (arith, sum-append os (linked a 1 ∷ []), sum-first a))
-      go false false h = rises-refuse im eof room linkSum (answer 12) (linkSum os + 1)
-
-  visit-rises : (e : Entry) (os : List Linked) → Rises im eof room linkSum (discover e os) (linkSum os + 1)
-  unfolding discover
-  visit-rises e os = go (isHard e)
-    where
-      go : (t : Bool) → Rises im eof room linkSum (if t then countLink (e .header) os else ret os) (linkSum os + 1)
-      go true = link-rises (e .header) os
-      go false = rises-ret im eof room linkSum os (linkSum os + 1) (omega arith)
+      go : (t : Bool) → isHard e ≡ t → linkSum os′ ≤ linkSum os + 1
+      go true h = omega (arith, count-sum (e .header) os os′ (sym (discover-hard e os h) ∙ d))
+      go false h = let same : os ≡ os′ = cc (discover-other e os h) in omega (arith, ap linkSum same)
 
   content-rises : (s : Superblock) (o : Object) (os : List Linked) → Rises im eof room linkSum (contentWalk s o os) (linkSum os)
   unfolding contentWalk

@@ -1,18 +1,21 @@
 -- The walk of a group raises what its visit raises by one at an entry by no more than 65,536 a block: a symbol node's count has two bytes.
-use Prim.Native.Nat.{ℕ, zero, suc, _+_, _*_, _<_}
+use Prim.Native.Nat.{ℕ, zero, suc, _+_, _*_, _<_, _≤_}
 use mathlib.Core.Bool.{Bool, true, false}
 use mathlib.Core.List.{List, [], _∷_}
-use mathlib.Core.Path.{_≡_}
+use mathlib.Core.Path.{_≡_, ap}
 use native.Mathlib.Omega.{arith}
-use lib.Dec.{eqb}
+use lib.Dec.{leb, eqb}
 use lib.ListN.{take, drop}
 use lib.Seq.{getD-drop}
 use Rattle.format.specs.Bytes.{if_then_else_, littleEndian, part, u8, u16, u32, u64}
+use Rattle.format.specs.Result.{Result, value}
 use Rattle.format.specs.Walk.{symbolBlock, shown, fault, located, Walk, ret, check, enterBlock, _>>=_, _>>_}
 use Rattle.format.specs.Heap.{Heap}
-use Rattle.format.specs.Names.{Bound, stringAt}
-use Rattle.format.specs.Symbols.{Entry, Group, GroupState, entryWalk, entries, symbolWalk}
+use Rattle.format.specs.Names.{Bound, readText, nameText, below, within, stringAt}
+use Rattle.format.specs.Entry.{Entry, Group, GroupState, readValue, readEntry}
+use Rattle.format.specs.Symbols.{entries, symbolWalk}
 use Rattle.format.specs.Tree.{children, branches, subtree, treeWalk, groupWalk}
+use Rattle.walk.proofs.Results.{both-values, check-value}
 use Rattle.links.proofs.Outcomes.{bind-done}
 use Rattle.demand.specs.Bytes.{IsBytes}
 use Rattle.demand.proofs.BytesBack.{part-bytes}
@@ -32,26 +35,20 @@ module _ (im : List ℕ) (bytes : IsBytes im) (eof room : ℕ) {S : Type 0} (μ 
   abbrev found : GroupState S → ℕ
   found s = μ (s .found)
 
-  module _ (g : Group S) (visit : (e : Entry) (s : S) → Rises im eof room μ (g .visit e s) (μ s + 1)) where
-    entry-rises : (bounds : List Bound) (b : List ℕ) (s : GroupState S) → Rises im eof room found (entryWalk g bounds b s) (μ (s .found) + 1)
-    unfolding entryWalk
-    entry-rises bounds b s =
-        rises-after im eof room found _ _ _
-        (λ name.
-        rises-after im eof room found _ _ _
-        (λ _.
-        rises-after im eof room found _ _ _
-        (λ _.
-        rises-after im eof room found _ _ _
-        (λ _.
-        rises-after im eof room found _ _ _
-        (λ _. last name)))))
-      where
-        last : (name : List ℕ) → Rises im eof room found (g .visit (record { name = name; type = u32 b 16; header = u64 b 8 }) (s .found) >>= λ f. ret (record { last = name; found = f })) (μ (s .found) + 1)
-        last name =
-            let e : Entry = record { name = name; type = u32 b 16; header = u64 b 8 } in
-            rises-on im eof room μ found (g .visit e (s .found)) (λ f. ret (record { last = name; found = f })) (μ (s .found) + 1) (visit e (s .found))
-            (λ f. rises-ret im eof room found (record { last = name; found = f }) (μ f) (omega arith))
+  module _ (g : Group S) (visit : (e : Entry) (s s′ : S) → g .visit e s ≡ value s′ → μ s′ ≤ μ s + 1) where
+    entry-rises : (bounds : List Bound) (b : List ℕ) (s s′ : GroupState S) → readEntry g bounds b s ≡ value s′ → μ (s′ .found) ≤ μ (s .found) + 1
+    unfolding readEntry
+    entry-rises bounds b s s′ e =
+        let name = both-values (readText (nameText (g .heap) (u64 b 0))) _ s′ e in
+        let above = check-value (below (s .last) (name .0)) 8 _ s′ (name .2) in
+        let held = check-value (within bounds (name .0)) 8 _ s′ (above .1) in
+        let typed = check-value (leb (u32 b 16) 2) 8 _ s′ (held .1) in
+        let linked = both-values (readValue (g .heap) b) _ s′ (typed .1) in
+        let at : Entry = record { name = name .0; type = u32 b 16; header = u64 b 8 } in
+        let found = both-values (g .visit at (s .found)) _ s′ (linked .2) in
+        let same : record { last = name .0; found = found .0 } ≡ s′ = cc (found .2) in
+        let up : μ (found .0) ≤ μ (s .found) + 1 = visit at (s .found) (found .0) (found .1) in
+        omega (arith, ap (λ (x : GroupState S). μ (x .found)) same)
 
     entries-rise : (bounds : List Bound) (n at : ℕ) (b : List ℕ) (s : GroupState S) → Rises im eof room found (entries g bounds n at b s) (μ (s .found) + n)
     unfolding entries
@@ -59,8 +56,8 @@ module _ (im : List ℕ) (bytes : IsBytes im) (eof room : ℕ) {S : Type 0} (μ 
     entries-rise bounds (suc n) at b s =
         let sum : μ (s .found) + suc n ≡ μ (s .found) + 1 + n = omega arith in
         rw sum
-        (rises-then im eof room found found (located at (entryWalk g bounds b s)) (λ s′. entries g bounds n (at + 40) (drop 40 b) s′) (μ (s .found) + 1) n
-        (rises-located im eof room found at (entryWalk g bounds b s) (μ (s .found) + 1) (entry-rises bounds b s))
+        (rises-then im eof room found found (located at (readEntry g bounds b s)) (λ s′. entries g bounds n (at + 40) (drop 40 b) s′) (μ (s .found) + 1) n
+        (rises-located im eof room found at (readEntry g bounds b s) (μ (s .found) + 1) (entry-rises bounds b s))
         (λ s′. entries-rise bounds n (at + 40) (drop 40 b) s′))
 
     -- a symbol node is one block
@@ -111,7 +108,7 @@ module _ (im : List ℕ) (bytes : IsBytes im) (eof room : ℕ) {S : Type 0} (μ 
         go b true = rises-after im eof room found _ _ _ (λ _. rises-ret im eof room found s _ (omega arith))
         go b false = branches-rise (g .heap) (subtree g (u8 b 5)) (subtree-rises (u8 b 5)) at b [] s
 
-  pub group-rises : (visit : Entry → S → Walk S) → ((e : Entry) (s : S) → Rises im eof room μ (visit e s) (μ s + 1)) → (leafK internalK tree heap : ℕ) (s : S) →
+  pub group-rises : (visit : Entry → S → Result S) → ((e : Entry) (s s′ : S) → visit e s ≡ value s′ → μ s′ ≤ μ s + 1) → (leafK internalK tree heap : ℕ) (s : S) →
       Rises im eof room μ (groupWalk leafK internalK tree heap visit s) (μ s)
   unfolding groupWalk
   group-rises visit r leafK internalK tree heap s = rises-after im eof room μ _ _ _ (λ h. go h)

@@ -1,13 +1,14 @@
 -- A walk raises a number that is kept with it by no more than 65,536 for each block that it enters.
 use Prim.Native.Nat.{ℕ, zero, suc, _+_, _*_, _≤_}
 use mathlib.Core.List.{List, [], _∷_, _++_}
-use mathlib.Core.Path.{_≡_, ap, sym, _∙_}
+use mathlib.Core.Path.{_≡_, refl, ap, sym, _∙_}
 use native.Mathlib.Omega.{arith}
 use lib.ListN.{length, length-append}
 use Rattle.format.specs.Bytes.{part}
 use Rattle.format.specs.Blocks.{Block, block, entryAnswer}
 use Rattle.format.specs.declared.Refusal.{Refusal}
-use Rattle.format.specs.Walk.{Kind, shown, lengthIn, Walk, ret, refuse, enter, enterBlock, located, _>>=_, Outcome, done, refused, ifEntered, run}
+use Rattle.format.specs.Result.{Result, value, answer}
+use Rattle.format.specs.Walk.{Kind, shown, fault, Walk, ret, refuse, enterBlock, located, _>>=_, done, refused, ifEntered, run}
 use Rattle.walk.proofs.Restart.{run-done}
 use Rattle.links.proofs.Outcomes.{bind-done}
 
@@ -21,25 +22,11 @@ module _ (im : List ℕ) (eof room : ℕ) where
   unfolding run
   block-entered v a n bs b ms e = go _ (entryAnswer eof room bs a n) e
     where
-      go : (f : ℕ → Refusal) (k : ℕ) → ifEntered k (done (shown v (part im a n)) (bs ++ (block a n ∷ []))) (λ answer. refused (f answer) bs) ≡ done b ms → (length ms ≡ length bs + 1) × (b ≡ shown v (part im a n))
+      go : (f : ℕ → Refusal) (k : ℕ) → ifEntered k (done (shown v (part im a n)) (bs ++ (block a n ∷ []))) (λ number. refused (f number) bs) ≡ done b ms → (length ms ≡ length bs + 1) × (b ≡ shown v (part im a n))
       go f zero q =
           let all : bs ++ (block a n ∷ []) ≡ ms = cc in
           (sym (ap length all) ∙ length-append bs (block a n ∷ []), cc)
       go f (suc k) q = let z : _≡_ {A = ℕ} 0 1 = cc in absurd (omega arith)
-
-  -- a part of a block that is done is done wherever it stands
-  located-done : {A : Type 0} (at : ℕ) (w : Walk A) (bs : List Block) (a : A) (ms : List Block) → run im eof room (located at w) bs ≡ done a ms → run im eof room w bs ≡ done a ms
-  unfolding run located
-  located-done at (ret b) bs a ms e = e
-  located-done at (refuse r) bs a ms e = let z : _≡_ {A = ℕ} 0 1 = cc in absurd (omega arith)
-  located-done {A} at (enter v b l k) bs a ms e =
-      let n = lengthIn im v b l in
-      go _ (entryAnswer eof room bs b n) (run im eof room (located at (k (shown v (part im b n)))) (bs ++ (block b n ∷ []))) (run im eof room (k (shown v (part im b n))) (bs ++ (block b n ∷ [])))
-      (located-done at (k (shown v (part im b n))) (bs ++ (block b n ∷ [])) a ms) e
-    where
-      go : (f : ℕ → Refusal) (g : ℕ) (o o′ : Outcome A) → (o ≡ done a ms → o′ ≡ done a ms) → ifEntered g o (λ answer. refused (f answer) bs) ≡ done a ms → ifEntered g o′ (λ answer. refused (f answer) bs) ≡ done a ms
-      go f zero o o′ h q = h q
-      go f (suc g) o o′ h q = let z : _≡_ {A = ℕ} 0 1 = cc in absurd (omega arith)
 
   module _ {S : Type 0} (μ : S → ℕ) where
     -- begun with the number x, the walk ends with a number that is larger by no more than 65,536 a block
@@ -57,8 +44,10 @@ module _ (im : List ℕ) (eof room : ℕ) where
     unfolding run
     rises-refuse r x bs b ms e = let z : _≡_ {A = ℕ} 0 1 = cc in absurd (omega arith)
 
-    pub rises-located : (at : ℕ) (w : Walk S) (x : ℕ) → Rises w x → Rises (located at w) x
-    rises-located at w x h bs a ms e = h bs a ms (located-done at w bs a ms e)
+    -- a reader, wherever its part stands
+    pub rises-located : (at : ℕ) (r : Result S) (x : ℕ) → ((a : S) → r ≡ value a → μ a ≤ x) → Rises (located at r) x
+    rises-located at (value a) x h = rises-ret a x (h a refl)
+    rises-located at (answer n) x h = rises-refuse (fault n at) x
 
     -- after a walk that leaves the number
     pub rises-after : {A : Type 0} (w : Walk A) (k : A → Walk S) (x : ℕ) → ((a : A) → Rises (k a) x) → Rises (w >>= k) x

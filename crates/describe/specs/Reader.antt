@@ -19,7 +19,7 @@ datasetAtWalk s at = superblockWalk s >> describeWalk at
 -- the dataset, with the number of blocks then entered, or the refusal
 abbrev pub readerEnd : List ℕ → DatasetAt → Ended Rattle.format.specs.Dataset.Dataset
 readerEnd im (Read d space count) = ended (datasetOf (bodyOf im space) d) count
-readerEnd im (Stopped n) = stopped n
+readerEnd im (Stopped r) = stopped r
 
 -- the dataspace message's body lies in the image, and the sizes and maxima of at most 32 dimensions in the body
 pub record Readable (im : List ℕ) (space : Body) (d : Dataset) : Type 0 where
@@ -28,11 +28,11 @@ pub record Readable (im : List ℕ) (space : Body) (d : Dataset) : Type 0 where
 
 abbrev pub ReadableIf : List ℕ → DatasetAt → Type 0
 ReadableIf im (Read d space count) = Readable im space d
-ReadableIf im (Stopped n) = Unit {0}
+ReadableIf im (Stopped r) = Unit {0}
 
 abbrev pub LentIf : List ℕ → ℕ → DatasetAt → Type 0
 LentIf ws room (Read d space count) = Lent ws count room
-LentIf ws room (Stopped n) = Unit {0}
+LentIf ws room (Stopped r) = Unit {0}
 
 -- a walk w to a dataset, begun with the blocks bs in the list ws, was walked
 pub record ReaderIs (im : List ℕ) (eof room : ℕ) (w : Walk Rattle.format.specs.Dataset.Dataset) (bs : List Block) (ws ws′ : List ℕ) (r : DatasetAt) : Type 0 where

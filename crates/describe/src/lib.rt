@@ -3,6 +3,7 @@ mod fields;
 pub mod reader;
 
 use dataset::dataset::Dataset;
+use format::NO_PLACE;
 use format::RANK_MOST;
 use format::Refusal;
 use format::number_of;
@@ -19,7 +20,7 @@ ghost use mathlib.Core.List.{List, []};
 ghost use Prim.Native.Nat.{ℕ, _≤_};
 ghost use lib.ListN.{length};
 ghost use Rattle.format.specs.Blocks.{Block, blockList, roomOf};
-ghost use Rattle.format.specs.Walk.{fault, done, refused as refusedRun, run};
+ghost use Rattle.format.specs.Walk.{fault, noPlace, done, refused as refusedRun, run};
 ghost use Rattle.format.specs.Lookup.{follow as followRun};
 ghost use Rattle.format.specs.Describe.{describeWalk};
 ghost use Rattle.format.specs.Answers.{describeEnd, describe as describeReply};
@@ -126,11 +127,11 @@ fn describe_object(image: &[u8], list: &mut [u64], superblock: Superblock, at: u
 fn describe_path(image: &[u8], path: &[u8], list: &mut [u64], superblock: Superblock) -> Description
     requires { ⌜ Bounded (now image) superblock ⌝ }
     requires { ⌜ 1 ≤ length (now path) ⌝ }
-    ensures { λ r. ⌜ replyOf (now (list .exit)) r ≡ describeEnd (length (now (list .entry))) (followRun (now (image .entry)) (superblockOf superblock) (roomOf (length (now (list .entry)))) describeWalk (refusedRun (fault 20 0) []) (componentsOf (now (path .entry))) (superblock .root)) ⌝ }
+    ensures { λ r. ⌜ replyOf (now (list .exit)) r ≡ describeEnd (length (now (list .entry))) (followRun (now (image .entry)) (superblockOf superblock) (roomOf (length (now (list .entry)))) describeWalk (refusedRun (fault 20 noPlace) []) (componentsOf (now (path .entry))) (superblock .root)) ⌝ }
 {
     match follow::find_object(image, path, list, superblock) {
         Target::Stopped(x) => refused(list, x),
-        Target::Symbolic => refused(list, Refusal::Fault(reader::NOT_A_DATASET, 0)),
+        Target::Symbolic => refused(list, Refusal::Fault(reader::NOT_A_DATASET, NO_PLACE)),
         Target::Object(a) => describe_object(image, list, superblock, a),
     }
 }
@@ -140,7 +141,7 @@ pub fn describe(image: &[u8], path: &[u8], list: &mut [u64]) -> Description
     ensures { λ r. ⌜ replyOf (now (list .exit)) r ≡ describeReply (now (image .entry)) (now (path .entry)) (length (now (list .entry))) ⌝ }
 {
     if !path::is_sound(path) {
-        return refused(list, Refusal::Fault(BAD_PATH, 0));
+        return refused(list, Refusal::Fault(BAD_PATH, NO_PLACE));
     }
     match superblock::open(image) {
         Opening::NotOpened(x) => refused(list, Refusal::Fault(x, 0)),

@@ -1,6 +1,7 @@
 // The dataset at an address, walked on a block list of its own.
 use dataset::dataset::Dataset;
 use dataset::dataset::DatasetRead;
+use format::NO_PLACE;
 use format::Refusal;
 use image::header;
 use image::header::HeaderRead;
@@ -84,12 +85,12 @@ fn read_object(
 {
     match header::read(image, end_of_file, list, count, room, at) {
         HeaderRead::Stopped(x) => DatasetAt::Stopped(x),
-        HeaderRead::Committed(_) => DatasetAt::Stopped(Refusal::Fault(NOT_A_DATASET, 0)),
+        HeaderRead::Committed(_) => DatasetAt::Stopped(Refusal::Fault(NOT_A_DATASET, NO_PLACE)),
         HeaderRead::Group {
             tree: _,
             heap: _,
             count: _,
-        } => DatasetAt::Stopped(Refusal::Fault(NOT_A_DATASET, 0)),
+        } => DatasetAt::Stopped(Refusal::Fault(NOT_A_DATASET, NO_PLACE)),
         HeaderRead::Dataset {
             space,
             datatype,

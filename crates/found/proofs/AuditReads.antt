@@ -10,16 +10,15 @@ use Rattle.format.specs.Bytes.{withFirst}
 use Rattle.format.specs.Blocks.{Block}
 use Rattle.format.specs.Walk.{Walk, ret, _>>=_, done, run}
 use Rattle.format.specs.Superblock.{Superblock, superblockWalk}
-use Rattle.format.specs.Symbols.{Entry}
+use Rattle.format.specs.Entry.{Entry}
 use Rattle.format.specs.Ledger.{Linked, linked, inLedger}
 use Rattle.format.specs.Object.{objectWalk}
 use Rattle.format.specs.Audit.{objectsWalk, auditWalk}
 use Rattle.walk.specs.Lent.{left}
 use Rattle.walk.proofs.Bind.{run-bind}
-use Rattle.walk.proofs.Disjoint.{Apart, fresh-apart, apart-first}
+use Rattle.walk.proofs.Disjoint.{Apart, fresh-apart, apart-first, apart-none}
 use Rattle.walk.proofs.Growth.{run-grown}
 use Rattle.walk.proofs.Plan.{plan, blocks}
-use Rattle.walk.proofs.Disjoint.{apart-none}
 use Rattle.walk.proofs.Restart.{run-done, restart}
 use Rattle.walk.proofs.Agreement.{Shown}
 use Rattle.ledger.proofs.LedgerLaws.{count-most}

@@ -9,7 +9,7 @@ use native.Mathlib.Omega.{arith}
 use Rattle.format.specs.Blocks.{Block}
 use Rattle.format.specs.Walk.{Outcome, done, fault, run}
 use Rattle.format.specs.Superblock.{Superblock}
-use Rattle.format.specs.Symbols.{Entry, isHard}
+use Rattle.format.specs.Entry.{Entry, isHard}
 use Rattle.format.specs.Lookup.{Link, absent, hard, soft, Target, object, symbolic, targetWalk, componentWalk}
 use Rattle.group.specs.Entries.{linkTo, remembered}
 use Rattle.group.proofs.Entries.{not-remembered}

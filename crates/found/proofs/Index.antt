@@ -8,7 +8,7 @@ use Rattle.format.specs.Blocks.{Block}
 use Rattle.format.specs.Walk.{Walk, Outcome, done, refused, run, andThen, _>>=_}
 use Rattle.format.specs.Superblock.{Superblock, superblockWalk}
 use Rattle.format.specs.Header.{Object, group, dataset, committed, headerWalk}
-use Rattle.format.specs.Symbols.{Entry}
+use Rattle.format.specs.Entry.{Entry}
 use Rattle.format.specs.Lookup.{Link, Target, absent, compareName, findWalk, targetWalk, componentWalk}
 use Rattle.walk.proofs.Bind.{bind-assoc, run-bind}
 use Rattle.walk.proofs.Follows.{Follows, follows-then, follows-ret, Ran, follows-run}
@@ -31,7 +31,7 @@ module _ (s : Superblock) (name : List ℕ) where
   unfolding indexOf findWalk Follows entriesWalk keepEntry remembered compareName
   find-follows (group tree heap) =
       group-follows true (s .leafK) (s .internalK) keepEntry (compareName name) (λ last es l. l ≡ remembered name es absent)
-      (λ e last es l b r. follows-ret true (λ fs k. k ≡ remembered name fs absent) (es ++ (e ∷ [])) (if sameBytes (e .name) name then linkTo e else l)
+      (λ e last es l at b r. follows-ret true (λ fs k. k ≡ remembered name fs absent) (es ++ (e ∷ [])) (if sameBytes (e .name) name then linkTo e else l)
       (rw r (sym (remembered-last name es e absent)))) tree heap [] absent refl
   find-follows (dataset space type layout) = refl
   find-follows committed = refl

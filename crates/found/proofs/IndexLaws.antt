@@ -10,24 +10,24 @@ use Rattle.format.specs.declared.Refusal.{Refusal}
 use Rattle.format.specs.Walk.{fault, answerOf, _>>=_, Outcome, done, refused, run}
 use Rattle.format.specs.Superblock.{Superblock, superblockWalk}
 use Rattle.format.specs.Header.{Object, group, dataset, committed, headerWalk}
-use Rattle.format.specs.Symbols.{Entry}
+use Rattle.format.specs.Entry.{Entry}
 use Rattle.walk.proofs.Follows.{Ran}
 use Rattle.group.specs.Entries.{keepEntry, entriesWalk, Rising}
 use Rattle.group.proofs.Entries.{entries-rise}
 use Rattle.links.proofs.Outcomes.{bind-done}
-use Rattle.links.proofs.Numbered.{Numbered, numbers, run-number}
+use Rattle.links.proofs.Numbered.{Answered, Numbered, answers, numbers, run-number}
 use Rattle.links.proofs.NumberedHeader.{header-numbered}
 use Rattle.links.proofs.NumberedGroup.{group-numbered}
 use Rattle.found.specs.Leads.{indexOf, indexWalk, IndexIs}
 use Rattle.found.proofs.Outcomes.{bind-refused}
 
-keep-numbered : (e : Entry) (es : List Entry) → Numbered (keepEntry e es)
+keep-answered : (e : Entry) (es : List Entry) → Answered (keepEntry e es)
 unfolding keepEntry
-keep-numbered e es = search numbers
+keep-answered e es = search answers
 
 entries-numbered : (leafK internalK tree heap : ℕ) → Numbered (entriesWalk leafK internalK tree heap)
 unfolding entriesWalk
-entries-numbered leafK internalK tree heap = group-numbered leafK internalK tree heap keepEntry [] keep-numbered
+entries-numbered leafK internalK tree heap = group-numbered leafK internalK tree heap keepEntry [] keep-answered
 
 pub superblock-numbered : (s : Superblock) → Numbered (superblockWalk s)
 unfolding superblockWalk

@@ -10,7 +10,7 @@ use Rattle.format.specs.Blocks.{Block}
 use Rattle.format.specs.Walk.{done, run}
 use Rattle.format.specs.Superblock.{Superblock, superblockWalk}
 use Rattle.format.specs.Header.{Object, group, dataset, committed, headerWalk}
-use Rattle.format.specs.Symbols.{Entry, isHard}
+use Rattle.format.specs.Entry.{Entry, isHard}
 use Rattle.format.specs.Ledger.{Linked, inLedger}
 use Rattle.format.specs.Lookup.{Target, object}
 use Rattle.walk.proofs.Bind.{run-bind}

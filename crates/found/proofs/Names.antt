@@ -6,7 +6,7 @@ use mathlib.Core.Logic.{_⊎_, inl, inr, ⊎-elim}
 use mathlib.Core.Path.{_≡_, refl, ap, sym, _∙_}
 use native.Mathlib.Omega.{arith}
 use Rattle.format.specs.Bytes.{if_then_else_, sameBytes}
-use Rattle.format.specs.Symbols.{Entry, isHard}
+use Rattle.format.specs.Entry.{Entry, isHard}
 use Rattle.format.specs.Lookup.{absent, hard, soft}
 use Rattle.heap.proofs.OrderLaws.{same-equal}
 use Rattle.group.specs.Entries.{linkTo, remembered, Rising, NoneNamed}

@@ -40,11 +40,11 @@ module _ (N : ℕ → Type 0) (full : N 13) (im : List ℕ) (s : Superblock) (ss
 
   -- what comes behind the header is done, or is refused with one of the numbers
   abbrev Ends : {B : Type 0} → Walk B → Type 0
-  Ends {B} w = ((x : B) × (ms : List Block) × (run im eof (r .room) w (steps .second) ≡ done x ms)) ⊎ ((n : Refusal) × N (answerOf n) × (w ≡ refuse n))
+  Ends {B} w = ((x : B) × (ms : List Block) × (run im eof (r .room) w (steps .second) ≡ done x ms)) ⊎ ((q : Refusal) × N (answerOf q) × (w ≡ refuse q))
 
-  refused-only : {B : Type 0} (w : Walk B) (n : Refusal) → N (answerOf n) → w ≡ refuse n → (room : ℕ) (cs : List Block) → Only N (run im eof room w cs)
+  refused-only : {B : Type 0} (w : Walk B) (q : Refusal) → N (answerOf q) → w ≡ refuse q → (room : ℕ) (cs : List Block) → Only N (run im eof room w cs)
   unfolding run
-  refused-only w n h q room cs = rw q h
+  refused-only w q h e room cs = rw e h
 
   object-only : {B : Type 0} (f : Object → Walk B) → Ends (f (steps .object)) → (room : ℕ) → Only N (run im eof room (superblockWalk s >>= λ _. headerWalk at >>= f) [])
   object-only f (inl h) room =

@@ -8,7 +8,7 @@ use Rattle.format.specs.Walk.{Walk, ret, _>>=_, _>>_, done, run}
 use Rattle.format.specs.Superblock.{Superblock, superblockWalk}
 use Rattle.format.specs.Header.{Object, group, dataset, committed, headerWalk}
 use Rattle.format.specs.Dataset.{datasetWalk}
-use Rattle.format.specs.Symbols.{Entry}
+use Rattle.format.specs.Entry.{Entry}
 use Rattle.format.specs.Lookup.{Link, absent, hard, soft, findWalk, targetWalk, componentWalk, locateWalk}
 use Rattle.format.specs.Describe.{datasetOf, describeWalk}
 use Rattle.walk.proofs.Bind.{bind-ret}

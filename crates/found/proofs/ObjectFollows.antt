@@ -6,12 +6,11 @@ use Rattle.format.specs.Walk.{ret}
 use Rattle.format.specs.Superblock.{Superblock}
 use Rattle.format.specs.Header.{Object, group, dataset, committed, headerWalk}
 use Rattle.format.specs.Dataset.{datasetWalk}
-use Rattle.format.specs.Symbols.{Entry}
+use Rattle.format.specs.Entry.{Entry}
 use Rattle.format.specs.Ledger.{Linked, discover}
 use Rattle.format.specs.Object.{contentWalk, objectWalk}
 use Rattle.walk.proofs.Follows.{Follows, follows-then, follows-ret, follows-value}
 use Rattle.group.specs.Entries.{keepEntry, entriesWalk}
-use Rattle.group.proofs.Entries.{discover-ends}
 use Rattle.group.proofs.Visits.{group-follows}
 use Rattle.links.specs.Reached.{contentEntries, entriesAt}
 
@@ -23,7 +22,7 @@ content-follows : (s : Superblock) (o : Object) (os : List Linked) → Follows f
 unfolding contentWalk contentEntries entriesWalk keepEntry
 content-follows s (group tree heap) os =
     group-follows false (s .leafK) (s .internalK) discover keepEntry (λ last x es. Unit {0})
-    (λ e last x es b r. follows-value (λ y fs. Unit {0}) (discover e x) (es ++ (e ∷ [])) (discover-ends e x) λ y d. tt) tree heap os [] tt
+    (λ e last x es at b r. follows-value (λ y fs. Unit {0}) at (discover e x) (es ++ (e ∷ [])) λ y d. tt) tree heap os [] tt
 content-follows s (dataset space type layout) os = follows-then false Any (λ _. ret os) (λ _. ret []) (datasetWalk space type layout) λ _. follows-ret false Any os [] ([], tt)
 content-follows s committed os = follows-ret false Any os [] ([], tt)
 

@@ -1,5 +1,5 @@
 -- Outcomes that are refused with certain numbers only.
-use Prim.Native.Nat.{ℕ}
+use Prim.Native.Nat.{ℕ, _-_}
 use mathlib.Core.Bool.{Bool, true, false}
 use mathlib.Core.List.{List, []}
 use mathlib.Core.Logic.{_⊎_, inl, inr, ⊎-elim}
@@ -11,7 +11,7 @@ use lib.ListN.{length}
 use Rattle.format.specs.Blocks.{Block}
 use Rattle.format.specs.declared.Refusal.{Refusal}
 use Rattle.format.specs.Walk.{answerOf, Walk, Outcome, done, refused, run, andThen}
-use Rattle.walk.proofs.Plan.{plan, blocks}
+use Rattle.walk.proofs.Plan.{plan, blocks, no-room-answer}
 use Rattle.walk.proofs.Disjoint.{apart-none}
 use Rattle.walk.proofs.Restart.{run-done, restart, restart-short}
 
@@ -36,7 +36,7 @@ done-or-full im eof w enough x ms e room = go (leb (length (blocks (plan im eof 
     go false t =
         let short = leb-false (length (blocks (plan im eof w))) room t in
         let z = restart-short im eof w enough [] ms x e room [] (apart-none (blocks (plan im eof w))) (omega arith) (omega arith) in
-        inr (z .0, _, z .1, z .2)
+        inr (_, _, z, no-room-answer (room - 0) (plan im eof w) (omega arith))
 
 pub only-full : (N : ℕ → Type 0) → N 13 → (im : List ℕ) (eof : ℕ) {A : Type 0} (w : Walk A) (enough : ℕ) (x : A) (ms : List Block) → run im eof enough w [] ≡ done x ms → (room : ℕ) → Only N (run im eof room w [])
 only-full N full im eof w enough x ms e room = ⊎-elim (λ h. rw h tt) (λ h. rw (h .2, h .3) full) (done-or-full im eof w enough x ms e room)

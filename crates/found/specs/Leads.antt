@@ -4,18 +4,18 @@ use mathlib.Core.Bool.{true, false}
 use mathlib.Core.List.{List, [], _∷_, List·Memᴰ}
 use mathlib.Core.Path.{_≡_}
 use Rattle.format.specs.Blocks.{Block}
-use Rattle.format.specs.Walk.{Walk, refuse, fault, done, run, _>>=_, _>>_}
+use Rattle.format.specs.Walk.{Walk, refuse, fault, noPlace, done, run, _>>=_, _>>_}
 use Rattle.format.specs.Superblock.{Superblock, superblockWalk}
 use Rattle.format.specs.Header.{Object, group, dataset, committed, headerWalk}
-use Rattle.format.specs.Symbols.{Entry, isHard}
+use Rattle.format.specs.Entry.{Entry, isHard}
 use Rattle.format.specs.Lookup.{Target, object, symbolic}
 use Rattle.group.specs.Entries.{entriesWalk, NoneNamed}
 
 -- the entries of a group; an object that isn't one is refused, as a lookup in it is
 unfoldable pub indexOf : Superblock → Object → Walk (List Entry)
 indexOf s (group tree heap) = entriesWalk (s .leafK) (s .internalK) tree heap
-indexOf s (dataset space type layout) = refuse (fault 17 0)
-indexOf s committed = refuse (fault 17 0)
+indexOf s (dataset space type layout) = refuse (fault 17 noPlace)
+indexOf s committed = refuse (fault 17 noPlace)
 
 -- the index of the group at an address, read whole on a list that begins with the superblock
 unfoldable pub indexWalk : Superblock → ℕ → Walk (List Entry)

@@ -6,36 +6,30 @@ use native.Mathlib.Omega.{arith}
 use mathlib.Core.Path.{_≡_, refl, ap, sym, _∙_, fun-ext}
 use Rattle.format.specs.Bytes.{if_then_else_, sameBytes}
 use Rattle.format.specs.Blocks.{Block}
-use Rattle.format.specs.Walk.{answer, Walk, ret, refuse, _>>=_, run}
+use Rattle.format.specs.Result.{Result, value, _>>=_}
+use Rattle.format.specs.Walk.{run}
 use Rattle.format.specs.Names.{below}
-use Rattle.format.specs.Symbols.{Entry, isHard}
+use Rattle.format.specs.Entry.{Entry}
 use Rattle.format.specs.Tree.{groupWalk}
-use Rattle.format.specs.Limits.{objectsMost}
-use lib.ListN.{length}
-use lib.Dec.{ltb}
-use Rattle.format.specs.Ledger.{Linked, linked, inLedger, countLink, discover}
+use Rattle.format.specs.Ledger.{Linked, discover}
 use Rattle.format.specs.Lookup.{Link, absent, compareName}
-use Rattle.walk.proofs.Bind.{bind-ret, bind-assoc, ret-bind}
+use Rattle.walk.proofs.Results.{bind-value, bind-assoc, value-bind}
 use Rattle.heap.proofs.OrderLaws.{below-irreflexive, below-transitive, same-refl, same-equal}
 use Rattle.symbol.specs.Visit.{visitBoth}
 use Rattle.group.specs.Entries.{keepEntry, entriesWalk, countEntries, linkTo, remembered, AllAbove, AllBelow, Rising, NoneNamed}
-use Rattle.walk.proofs.Follows.{Ends, ends-if, follows-ret, follows-value, follows-map, Ran, follows-run}
+use Rattle.walk.proofs.Follows.{follows-ret, follows-value, follows-map, Ran, follows-run}
 use Rattle.group.proofs.Visits.{group-follows}
 
 -- an entry at the end is counted last, and remembered last
 count-last : (es : List Entry) (e : Entry) (os : List Linked) → countEntries (es ++ (e ∷ [])) os ≡ countEntries es os >>= discover e
 unfolding countEntries
-count-last [] e os = bind-ret (discover e os) ∙ sym (ret-bind os (discover e))
-count-last (x ∷ es) e os = ap (λ (f : List Linked → Walk (List Linked)). discover x os >>= f) (fun-ext λ os′. count-last es e os′) ∙ sym (bind-assoc (discover x os) (countEntries es) (discover e))
+count-last [] e os = bind-value (discover e os) ∙ sym (value-bind os (discover e))
+count-last (x ∷ es) e os = ap (λ (f : List Linked → Result (List Linked)). discover x os >>= f) (fun-ext λ os′. count-last es e os′) ∙ sym (bind-assoc (discover x os) (countEntries es) (discover e))
 
 pub remembered-last : (name : List ℕ) (es : List Entry) (e : Entry) (l : Link) → remembered name (es ++ (e ∷ [])) l ≡ (if sameBytes (e .name) name then linkTo e else remembered name es l)
 unfolding remembered
 remembered-last name [] e l = refl
 remembered-last name (x ∷ es) e l = remembered-last name es e _
-
-pub discover-ends : (e : Entry) (os : List Linked) → Ends (discover e os)
-unfolding discover countLink Ends
-discover-ends e os = ends-if (isHard e) _ _ (ends-if (inLedger (e .header) os) _ _ tt (ends-if (ltb (length os) objectsMost) (ret (os ++ (linked (e .header) 1 ∷ []))) (refuse (answer 12)) tt tt)) tt
 
 -- names rise
 above-last : (n : List ℕ) (es : List Entry) (e : Entry) → AllAbove n es → below n (e .name) ≡ true → AllAbove n (es ++ (e ∷ []))
@@ -56,12 +50,12 @@ below-last (x ∷ es) e n h b = (below-transitive (x .name) (e .name) n (h .0) b
 module _ (im : List ℕ) (eof room leafK internalK tree heap : ℕ) (bs : List Block) where
   -- the audit: its group's entries are these, and the ledger after it is the one before with exactly their hard links counted
   pub audit-entries : (os : List Linked) →
-      Ran false (λ os′ es. (last : List ℕ) × (countEntries es os ≡ ret os′)) (run im eof room (groupWalk leafK internalK tree heap discover os) bs) (run im eof room (entriesWalk leafK internalK tree heap) bs)
+      Ran false (λ os′ es. (last : List ℕ) × (countEntries es os ≡ value os′)) (run im eof room (groupWalk leafK internalK tree heap discover os) bs) (run im eof room (entriesWalk leafK internalK tree heap) bs)
   unfolding entriesWalk keepEntry countEntries
   audit-entries os =
       follows-run _ false im eof room _ _ bs
-      (group-follows false leafK internalK discover keepEntry (λ last x es. countEntries es os ≡ ret x)
-      (λ e last x es b r. follows-value _ (discover e x) (es ++ (e ∷ [])) (discover-ends e x) λ y d. count-last es e os ∙ ap (λ (w : Walk (List Linked)). w >>= discover e) r ∙ ret-bind x (discover e) ∙ d) tree heap os [] refl)
+      (group-follows false leafK internalK discover keepEntry (λ last x es. countEntries es os ≡ value x)
+      (λ e last x es at b r. follows-value _ at (discover e x) (es ++ (e ∷ [])) λ y d. count-last es e os ∙ ap (λ (w : Result (List Linked)). w >>= discover e) r ∙ value-bind x (discover e) ∙ d) tree heap os [] refl)
 
   -- a lookup, from the group's entries: it is sound with the same blocks, and remembers what they say of the name
   pub entries-lookup : (name : List ℕ) →
@@ -70,7 +64,7 @@ module _ (im : List ℕ) (eof room leafK internalK tree heap : ℕ) (bs : List B
   entries-lookup name =
       follows-run _ false im eof room _ _ bs
       (group-follows false leafK internalK keepEntry (compareName name) (λ last es l. l ≡ remembered name es absent)
-      (λ e last es l b r. follows-ret false _ _ _ (rw r (sym (remembered-last name es e absent)))) tree heap [] absent refl)
+      (λ e last es l at b r. follows-ret false _ _ _ (rw r (sym (remembered-last name es e absent)))) tree heap [] absent refl)
 
   -- the code's visit, with which the audit's part of what is found is the audit's, and a lookup's part the lookup's
   pub audit-part : (wanted : List ℕ) (l : Link) (os : List Linked) →
@@ -79,7 +73,7 @@ module _ (im : List ℕ) (eof room leafK internalK tree heap : ℕ) (bs : List B
   audit-part wanted l os =
       follows-run _ true im eof room _ _ bs
       (group-follows true leafK internalK discover (visitBoth true wanted) (λ last x b. b ≡ record { ledger = x; link = l })
-      (λ e last x b c r. rw r (follows-map true (λ (y : List Linked). record { ledger = y; link = l }) (discover e x))) tree heap os _ refl)
+      (λ e last x b at c r. rw r (follows-map true (λ (y : List Linked). record { ledger = y; link = l }) at (discover e x))) tree heap os _ refl)
 
   pub lookup-part : (wanted : List ℕ) (l : Link) (os : List Linked) →
       Ran true (λ x b. (last : List ℕ) × (b ≡ record { ledger = os; link = x })) (run im eof room (groupWalk leafK internalK tree heap (compareName wanted) l) bs) (run im eof room (groupWalk leafK internalK tree heap (visitBoth false wanted) (record { ledger = os; link = l })) bs)
@@ -87,7 +81,7 @@ module _ (im : List ℕ) (eof room leafK internalK tree heap : ℕ) (bs : List B
   lookup-part wanted l os =
       follows-run _ true im eof room _ _ bs
       (group-follows true leafK internalK (compareName wanted) (visitBoth false wanted) (λ last x b. b ≡ record { ledger = os; link = x })
-      (λ e last x b c r. rw r (follows-map true (λ (y : Link). record { ledger = os; link = y }) (compareName wanted e x))) tree heap l _ refl)
+      (λ e last x b at c r. rw r (follows-map true (λ (y : Link). record { ledger = os; link = y }) at (compareName wanted e x))) tree heap l _ refl)
 
   -- the names of a sound group rise strictly
   pub entries-rise : Ran false (λ es l. (last : List ℕ) × (Rising es × ((n : List ℕ) → below last n ≡ true → AllBelow es n))) (run im eof room (entriesWalk leafK internalK tree heap) bs) (run im eof room (entriesWalk leafK internalK tree heap) bs)
@@ -95,7 +89,7 @@ module _ (im : List ℕ) (eof room leafK internalK tree heap : ℕ) (bs : List B
   entries-rise =
       follows-run _ false im eof room _ _ bs
       (group-follows false leafK internalK keepEntry keepEntry (λ last es l. Rising es × ((n : List ℕ) → below last n ≡ true → AllBelow es n))
-      (λ e last es l b r. follows-ret false _ _ _ (rising-last es e (r .0) (r .1 (e .name) b), λ n c. below-last es e n (r .1 (e .name) b) c)) tree heap [] [] (tt, λ n c. tt))
+      (λ e last es l at b r. follows-ret false _ _ _ (rising-last es e (r .0) (r .1 (e .name) b), λ n c. below-last es e n (r .1 (e .name) b) c)) tree heap [] [] (tt, λ n c. tt))
 
 -- a name that no entry has isn't remembered
 pub not-remembered : (name : List ℕ) (es : List Entry) (l : Link) → NoneNamed name es → remembered name es l ≡ l

@@ -5,9 +5,10 @@ use mathlib.Core.Path.{_≡_}
 use lib.ListN.{length}
 use mathlib.Core.Bool.{Bool}
 use Rattle.format.specs.declared.Refusal.{Refusal}
+use Rattle.format.specs.Result.{Result}
 use Rattle.format.specs.Walk.{Walk, ret, _>>=_, run}
 use Rattle.format.specs.Heap.{Heap, heapWalk}
-use Rattle.format.specs.Symbols.{Entry, Group, GroupState}
+use Rattle.format.specs.Entry.{Entry, Group, GroupState}
 use Rattle.format.specs.Tree.{treeWalk, groupWalk}
 use Rattle.walk.specs.Lent.{blocksOf, Lent, Walked, ended, stopped}
 use Rattle.heap.specs.Segment.{segmentOf, heapOf}
@@ -23,7 +24,7 @@ use Rattle.group.specs.Tree.{stepEnd, SoundIf}
 use Rattle.group.specs.Group.{groupEnd, ReadyIf}
 use Rattle.walk.proofs.Simulation.{Simulation, start, returned, callee-done, callee-stopped}
 
-module _ {S : Type 0} (im : List ℕ) (eof room : ℕ) (ws : List ℕ) (count : ℕ) (l : Lent ws count room) (leafK internalK tree heap : ℕ) (visit : Entry → S → Walk S) (found : S) (ws₁ : List ℕ) where
+module _ {S : Type 0} (im : List ℕ) (eof room : ℕ) (ws : List ℕ) (count : ℕ) (l : Lent ws count room) (leafK internalK tree heap : ℕ) (visit : Entry → S → Result S) (found : S) (ws₁ : List ℕ) where
   abbrev w : Walk S
   w = groupWalk leafK internalK tree heap visit found
 

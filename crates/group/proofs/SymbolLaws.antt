@@ -11,7 +11,8 @@ use Rattle.format.specs.Blocks.{entryAnswer}
 use Rattle.format.specs.declared.Refusal.{Refusal}
 use Rattle.format.specs.Walk.{fault, Walk, ret, refuse, shown, check, _>>=_, _>>_, run}
 use Rattle.format.specs.Names.{Bound}
-use Rattle.format.specs.Symbols.{SNOD, GroupState, entries, symbolWalk}
+use Rattle.format.specs.Entry.{GroupState}
+use Rattle.format.specs.Symbols.{SNOD, entries, symbolWalk}
 use Rattle.walk.specs.Lent.{blocksOf, Lent, Walked, stopped, entering, entered}
 use Rattle.walk.specs.Numbers.{Number}
 use Rattle.walk.specs.declared.blocks.Entry.the-variants.{Entered, Refused}
@@ -47,7 +48,7 @@ module _ (im : List ℕ) (eof room : ℕ) (ws : List ℕ) (count at : ℕ) (l : 
       symbols-counted = entered-zero 7 at size (blocksOf count ws) (entryAnswer eof room (blocksOf count ws) at size) count m e .1
 
     -- for any group with this K, any keys and any state
-    module _ (g : Rattle.format.specs.Symbols.Group Both) (kk : g .leafK ≡ k) (bounds : List Bound) (s : GroupState Both) where
+    module _ (g : Rattle.format.specs.Entry.Group Both) (kk : g .leafK ≡ k) (bounds : List Bound) (s : GroupState Both) where
       abbrev w : Walk (GroupState Both)
       w = symbolWalk g at bounds s
 

@@ -12,7 +12,8 @@ use Rattle.format.specs.declared.Refusal.{Refusal}
 use Rattle.format.specs.Walk.{fault, Kind, shown, treeBlock, Walk, ret, enterBlock, check, _>>=_, _>>_, run}
 use Rattle.format.specs.Heap.{Heap}
 use Rattle.format.specs.Names.{Bound, within, stringAt}
-use Rattle.format.specs.Symbols.{GroupState, symbolWalk}
+use Rattle.format.specs.Entry.{GroupState}
+use Rattle.format.specs.Symbols.{symbolWalk}
 use Rattle.format.specs.Tree.{TREE, treeWalk, nodeWalk, children, branches, subtree}
 use Rattle.walk.specs.Lent.{blocksOf, Lent, Ended, ended, stopped, Walked}
 use Rattle.walk.proofs.Bind.{bind-assoc, ret-bind}
@@ -26,7 +27,7 @@ use Rattle.symbol.specs.Visit.{Both}
 use Rattle.group.specs.Node.{branchWalk}
 
 -- a node below: its own walk, then its children
-subtree-split : (g : Rattle.format.specs.Symbols.Group Both) (level at : ℕ) (bounds : List Bound) (s : GroupState Both) →
+subtree-split : (g : Rattle.format.specs.Entry.Group Both) (level at : ℕ) (bounds : List Bound) (s : GroupState Both) →
     subtree g (suc level) at bounds s ≡ branchWalk (g .heap) (g .internalK) level at >>= λ b. children (g .heap) (subtree g level) (u16 b 6) (drop 24 b) bounds s
 unfolding subtree branches branchWalk
 subtree-split g level at bounds s = sym (simp (bind-assoc, ret-bind))
@@ -40,10 +41,10 @@ children-next h walk n im from m bounds s l =
     rw (part-first-number im from m 8 (omega arith), part-number im from m 8 8 (omega arith), part-number im from m 16 8 (omega arith), drop-part im from m 16)
 
 -- the children from the ith on
-abbrev pub childrenFrom : Rattle.format.specs.Symbols.Group Both → ℕ → List ℕ → ℕ → ℕ → ℕ → ℕ → List Bound → GroupState Both → Walk (GroupState Both)
+abbrev pub childrenFrom : Rattle.format.specs.Entry.Group Both → ℕ → List ℕ → ℕ → ℕ → ℕ → ℕ → List Bound → GroupState Both → Walk (GroupState Both)
 childrenFrom g level im from m n i bounds s = children (g .heap) (subtree g level) (n - i) (part im (from + 16 * i) (m - 16 * i)) bounds s
 
-module _ (g : Rattle.format.specs.Symbols.Group Both) (level : ℕ) (im : List ℕ) (from m n : ℕ) (bounds : List Bound) where
+module _ (g : Rattle.format.specs.Entry.Group Both) (level : ℕ) (im : List ℕ) (from m n : ℕ) (bounds : List Bound) where
   pub children-end : (i : ℕ) (s : GroupState Both) → n ≤ i → childrenFrom g level im from m n i bounds s ≡ ret s
   unfolding children
   children-end i s h = let z : n - i ≡ 0 = omega arith in rw z
@@ -59,7 +60,7 @@ module _ (g : Rattle.format.specs.Symbols.Group Both) (level : ℕ) (im : List 
       rw (a, d, e) (children-next (g .heap) (subtree g level) (n - (i + 1)) im (from + 16 * i) (m - 16 * i) bounds s (omega arith))
 
 -- A node was read: what is left are its children.
-module _ (im : List ℕ) (eof room : ℕ) (ws : List ℕ) (count : ℕ) (l : Lent ws count room) (g : Rattle.format.specs.Symbols.Group Both) (k : ℕ) (kk : g .internalK ≡ k) (height level at : ℕ)
+module _ (im : List ℕ) (eof room : ℕ) (ws : List ℕ) (count : ℕ) (l : Lent ws count room) (g : Rattle.format.specs.Entry.Group Both) (k : ℕ) (kk : g .internalK ≡ k) (height level at : ℕ)
     (hh : height ≡ suc level) (bounds : List Bound) (s : GroupState Both) (ws₁ : List ℕ) where
   abbrev w : Walk (GroupState Both)
   w = subtree g height at bounds s
@@ -88,7 +89,7 @@ module _ (im : List ℕ) (eof room : ℕ) (ws : List ℕ) (count : ℕ) (l : Len
       same-walk _ r (callee-done ws₁ (branchWalk (g .heap) k level at) _ split same h)
 
 -- at height 0 a symbol table node
-pub leaf-walked : (im : List ℕ) (eof room : ℕ) (ws : List ℕ) (count : ℕ) (g : Rattle.format.specs.Symbols.Group Both) (height at : ℕ) (bounds : List Bound) (s : GroupState Both) (ws₁ : List ℕ) (r : Ended (GroupState Both)) →
+pub leaf-walked : (im : List ℕ) (eof room : ℕ) (ws : List ℕ) (count : ℕ) (g : Rattle.format.specs.Entry.Group Both) (height at : ℕ) (bounds : List Bound) (s : GroupState Both) (ws₁ : List ℕ) (r : Ended (GroupState Both)) →
     height ≡ 0 → Walked ws ws₁ r (run im eof room (symbolWalk g at bounds s) (blocksOf count ws)) → Walked ws ws₁ r (run im eof room (subtree g height at bounds s) (blocksOf count ws))
 unfolding subtree
 leaf-walked im eof room ws count g height at bounds s ws₁ r e h = rw e h
@@ -107,7 +108,7 @@ node-then : {A : Type 0} (k at : ℕ) (f : List ℕ → Walk A) → nodeWalk k a
 unfolding nodeWalk
 node-then k at f = simp (bind-assoc, ret-bind)
 
-module _ (im : List ℕ) (g : Rattle.format.specs.Symbols.Group Both) (at : ℕ) (s : GroupState Both) where
+module _ (im : List ℕ) (g : Rattle.format.specs.Entry.Group Both) (at : ℕ) (s : GroupState Both) where
   abbrev rootBytes : List ℕ
   rootBytes = part im at (32 + 32 * g .internalK)
 

@@ -6,17 +6,32 @@ use mathlib.Core.Path.{_≡_, refl}
 use lib.ListN.{drop}
 use lib.Dec.{leb, eqb}
 use Rattle.format.specs.Bytes.{inRange, u8, u16, u32, u64}
-use Rattle.format.specs.Walk.{fault, answer, located, Walk, ret, enterBlock, symbolBlock}
+use Rattle.format.specs.Result.{Result}
+use Rattle.format.specs.Walk.{fault, located, Walk, ret, check, _>>=_, _>>_, enterBlock, symbolBlock}
 use Rattle.format.specs.Heap.{Heap, heapWalk}
-use Rattle.format.specs.Names.{Bound, textWalk, nameText, below, within}
-use Rattle.format.specs.Symbols.{Entry, Group, GroupState, SNOD, valueWalk, entryWalk, entries, symbolWalk}
+use Rattle.format.specs.Names.{Bound, readText, nameText, below, within}
+use Rattle.format.specs.Entry.{Entry, Group, GroupState, readValue, readEntry}
+use Rattle.format.specs.Symbols.{SNOD, entries, symbolWalk}
 use Rattle.format.specs.Tree.{nodeWalk, keysWalk, children, branches, subtree, treeWalk, groupWalk}
-use Rattle.walk.proofs.Follows.{follows-located, Follows, follows-bind, follows-then, follows-check, follows-if, follows-ret}
+use Rattle.walk.proofs.Results.{located-bind, located-check}
+use Rattle.walk.proofs.Follows.{Follows, follows-bind, follows-then, follows-check, follows-if, follows-ret}
 
-module _ {S T : Type 0} (exact : Bool) (leafK internalK : ℕ) (visit : Entry → S → Walk S) (visit′ : Entry → T → Walk T)
+-- an entry where it stands, as a walk: its readers and tests one after the other
+pub entry-walk : {S : Type 0} (g : Group S) (bounds : List Bound) (at : ℕ) (b : List ℕ) (s : GroupState S) →
+    located at (readEntry g bounds b s) ≡
+    (located at (readText (nameText (g .heap) (u64 b 0))) >>= λ name.
+    check (below (s .last) name) (fault 8 at) >>
+    (check (within bounds name) (fault 8 at) >>
+    (check (leb (u32 b 16) 2) (fault 8 at) >>
+    (located at (readValue (g .heap) b) >>
+    (located at (g .visit (record { name = name; type = u32 b 16; header = u64 b 8 }) (s .found)) >>= λ found. ret (record { last = name; found = found }))))))
+unfolding readEntry
+entry-walk g bounds at b s = simp (located-bind, located-check)
+
+module _ {S T : Type 0} (exact : Bool) (leafK internalK : ℕ) (visit : Entry → S → Result S) (visit′ : Entry → T → Result T)
     -- what holds between the findings, with the last name
     (R : List ℕ → S → T → Type 0)
-    (visited : (e : Entry) (last : List ℕ) (s : S) (t : T) → below last (e .name) ≡ true → R last s t → Follows exact (R (e .name)) (visit e s) (visit′ e t)) where
+    (visited : (e : Entry) (last : List ℕ) (s : S) (t : T) (at : ℕ) → below last (e .name) ≡ true → R last s t → Follows exact (R (e .name)) (located at (visit e s)) (located at (visit′ e t))) where
   abbrev first : Heap → Group S
   first h = record { leafK = leafK; internalK = internalK; heap = h; visit = visit }
 
@@ -27,22 +42,22 @@ module _ {S T : Type 0} (exact : Bool) (leafK internalK : ℕ) (visit : Entry �
   Q s t = (s .last ≡ t .last) × R (t .last) (s .found) (t .found)
 
   module _ (h : Heap) where
-    entry-follows : (bounds : List Bound) (b : List ℕ) (s : GroupState S) (t : GroupState T) → Q s t → Follows exact Q (entryWalk (first h) bounds b s) (entryWalk (second h) bounds b t)
-    unfolding entryWalk
-    entry-follows bounds b s t q =
-        rw (q .0)
-        (follows-then exact Q _ _ (textWalk (nameText h (u64 b 0))) λ name.
-        follows-check exact Q (below (t .last) name) (answer 8) _ _ λ rises.
-        follows-check exact Q (within bounds name) (answer 8) _ _ λ _.
-        follows-check exact Q (leb (u32 b 16) 2) (answer 8) _ _ λ _.
-        follows-then exact Q _ _ (valueWalk h b) λ _.
+    entry-follows : (bounds : List Bound) (at : ℕ) (b : List ℕ) (s : GroupState S) (t : GroupState T) → Q s t →
+        Follows exact Q (located at (readEntry (first h) bounds b s)) (located at (readEntry (second h) bounds b t))
+    entry-follows bounds at b s t q =
+        rw (entry-walk (first h) bounds at b s, entry-walk (second h) bounds at b t, q .0)
+        (follows-then exact Q _ _ (located at (readText (nameText h (u64 b 0)))) λ name.
+        follows-check exact Q (below (t .last) name) (fault 8 at) _ _ λ rises.
+        follows-check exact Q (within bounds name) (fault 8 at) _ _ λ _.
+        follows-check exact Q (leb (u32 b 16) 2) (fault 8 at) _ _ λ _.
+        follows-then exact Q _ _ (located at (readValue h b)) λ _.
         follows-bind exact (R name) Q (λ x. ret (record { last = name; found = x })) (λ y. ret (record { last = name; found = y })) (λ x y r. follows-ret exact Q _ _ (refl, r)) _ _
-        (visited (record { name = name; type = u32 b 16; header = u64 b 8 }) (t .last) (s .found) (t .found) rises (q .1)))
+        (visited (record { name = name; type = u32 b 16; header = u64 b 8 }) (t .last) (s .found) (t .found) at rises (q .1)))
 
     entries-follow : (bounds : List Bound) (n at : ℕ) (b : List ℕ) (s : GroupState S) (t : GroupState T) → Q s t → Follows exact Q (entries (first h) bounds n at b s) (entries (second h) bounds n at b t)
     unfolding entries
     entries-follow bounds zero at b s t q = follows-ret exact Q s t q
-    entries-follow bounds (suc n) at b s t q = follows-bind exact Q Q _ _ (λ x y r. entries-follow bounds n (at + 40) (drop 40 b) x y r) _ _ (follows-located exact Q at _ _ (entry-follows bounds b s t q))
+    entries-follow bounds (suc n) at b s t q = follows-bind exact Q Q _ _ (λ x y r. entries-follow bounds n (at + 40) (drop 40 b) x y r) _ _ (entry-follows bounds at b s t q)
 
     symbols-follow : (at : ℕ) (bounds : List Bound) (s : GroupState S) (t : GroupState T) → Q s t → Follows exact Q (symbolWalk (first h) at bounds s) (symbolWalk (second h) at bounds t)
     unfolding symbolWalk

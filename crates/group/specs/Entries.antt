@@ -4,23 +4,24 @@ use mathlib.Core.Bool.{true, false}
 use mathlib.Core.List.{List, [], _∷_, _++_}
 use mathlib.Core.Path.{_≡_}
 use Rattle.format.specs.Bytes.{if_then_else_, sameBytes}
-use Rattle.format.specs.Walk.{Walk, ret, _>>=_}
+use Rattle.format.specs.Result.{Result, value, _>>=_}
+use Rattle.format.specs.Walk.{Walk}
 use Rattle.format.specs.Names.{below}
-use Rattle.format.specs.Symbols.{Entry, isHard}
+use Rattle.format.specs.Entry.{Entry, isHard}
 use Rattle.format.specs.Tree.{groupWalk}
 use Rattle.format.specs.Ledger.{Linked, discover}
 use Rattle.format.specs.Lookup.{Link, hard, soft}
 
 -- a visit that keeps the entries, in the order in which they are met
-unfoldable pub keepEntry : Entry → List Entry → Walk (List Entry)
-keepEntry e es = ret (es ++ (e ∷ []))
+unfoldable pub keepEntry : Entry → List Entry → Result (List Entry)
+keepEntry e es = value (es ++ (e ∷ []))
 
 unfoldable pub entriesWalk : (leafK internalK tree heap : ℕ) → Walk (List Entry)
 entriesWalk leafK internalK tree heap = groupWalk leafK internalK tree heap keepEntry []
 
 -- the hard links of entries, counted one after the other
-unfoldable pub countEntries : List Entry → List Linked → Walk (List Linked)
-countEntries [] os = ret os
+unfoldable pub countEntries : List Entry → List Linked → Result (List Linked)
+countEntries [] os = value os
 countEntries (e ∷ es) os = discover e os >>= countEntries es
 
 -- what an entry is to a lookup that finds it

@@ -29,11 +29,11 @@ pub record Ready (ws addresses counts : List ℕ) (room count objects : ℕ) : T
 
 abbrev pub groupEnd : List ℕ → List ℕ → Step → Ended Both
 groupEnd addresses counts (Done s) = ended (bothOf addresses counts (s .objects) (s .link)) (s .count)
-groupEnd addresses counts (Stopped n) = stopped n
+groupEnd addresses counts (Stopped r) = stopped r
 
 abbrev pub ReadyIf : List ℕ → List ℕ → List ℕ → ℕ → Step → Type 0
 ReadyIf ws addresses counts room (Done s) = Ready ws addresses counts room (s .count) (s .objects)
-ReadyIf ws addresses counts room (Stopped n) = Unit {0}
+ReadyIf ws addresses counts room (Stopped r) = Unit {0}
 
 -- a group was read as its walk reads it
 pub record GroupIs (im wanted ws addresses counts : List ℕ) (eof room leafK internalK : ℕ) (auditing : Bool) (tree heap count objects : ℕ) (ws′ addresses′ counts′ : List ℕ) (r : Step) : Type 0 where

@@ -1,14 +1,13 @@
 -- What reading a node of the tree returns.
 use Prim.Native.Nat.{ℕ, _+_, _*_, _≤_, _<_}
-use mathlib.Core.List.{List, []}
+use mathlib.Core.List.{List}
 use mathlib.Core.Path.{_≡_}
 use lib.Dec.{eqb, leb}
 use lib.ListN.{length, drop}
-use Rattle.format.specs.Bytes.{part, littleEndian, u8, u16}
+use Rattle.format.specs.Bytes.{part, u8, u16}
 use Rattle.format.specs.Walk.{fault, Walk, ret, check, _>>=_, _>>_, run}
 use Rattle.format.specs.Heap.{Heap}
 use Rattle.format.specs.Tree.{nodeWalk, keysWalk}
-use Rattle.heap.specs.Segment.{heapWith}
 use Rattle.walk.specs.Lent.{blocksOf, Ended, ended, stopped, Walked}
 use Rattle.symbol.specs.Key.{KeyAt}
 use Rattle.symbol.specs.declared.entry.Group.{Group}
@@ -23,13 +22,13 @@ nodeBytes im g at = part im at (32 + 32 * g .«internal_k»)
 
 abbrev pub nodeEnd : List ℕ → Group → ℕ → NodeRead → Ended (List ℕ)
 nodeEnd im g at (the-variants.Read level entries count) = ended (nodeBytes im g at) count
-nodeEnd im g at (the-variants.Stopped n) = stopped n
+nodeEnd im g at (the-variants.Stopped r) = stopped r
 
 -- a node that was read lies inside the image, and these are its fields
 abbrev pub NodeFields : List ℕ → Group → ℕ → ℕ → NodeRead → Type 0
 NodeFields im g at count (the-variants.Read level entries n) =
     (at + (32 + 32 * g .«internal_k») ≤ length im) × (level ≡ u8 im (at + 5)) × (entries ≡ u16 im (at + 6)) × (entries ≤ 2 * g .«internal_k») × (n ≡ count + 1)
-NodeFields im g at count (the-variants.Stopped n) = Unit {0}
+NodeFields im g at count (the-variants.Stopped r) = Unit {0}
 
 pub record NodeIs (im ws : List ℕ) (g : Group) (count at : ℕ) (ws′ : List ℕ) (r : NodeRead) : Type 0 where
   pub walked : Walked ws ws′ (nodeEnd im g at r) (run im (g .«end_of_file») (g .room) (nodeWalk (g .«internal_k») at) (blocksOf count ws))
@@ -46,13 +45,13 @@ branchWalk h k level at = do
 
 abbrev pub branchEnd : List ℕ → Group → ℕ → BranchRead → Ended (List ℕ)
 branchEnd im g at (branches.Read entries count) = ended (nodeBytes im g at) count
-branchEnd im g at (branches.Stopped n) = stopped n
+branchEnd im g at (branches.Stopped r) = stopped r
 
 -- such a node lies inside the image, and each of its keys is sound
 abbrev pub BranchFields : List ℕ → List ℕ → Group → ℕ → ℕ → BranchRead → Type 0
 BranchFields im seg g at count (branches.Read entries n) =
     (at + (32 + 32 * g .«internal_k») ≤ length im) × (entries ≡ u16 im (at + 6)) × (entries ≤ 2 * g .«internal_k») × (n ≡ count + 1) × ((i : ℕ) → i < entries + 1 → KeyAt im seg (at + 24 + 16 * i))
-BranchFields im seg g at count (branches.Stopped n) = Unit {0}
+BranchFields im seg g at count (branches.Stopped r) = Unit {0}
 
 pub record BranchIs (im seg ws : List ℕ) (g : Group) (count level at : ℕ) (ws′ : List ℕ) (r : BranchRead) : Type 0 where
   pub walked : (h : Heap) → h .segment ≡ seg →

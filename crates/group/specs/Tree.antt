@@ -7,7 +7,8 @@ use Rattle.format.specs.Limits.{blocksMost}
 use Rattle.format.specs.Bytes.{u8, u16, u64}
 use Rattle.format.specs.Walk.{run}
 use Rattle.format.specs.Names.{Bound, stringAt}
-use Rattle.format.specs.Symbols.{GroupState, symbolWalk}
+use Rattle.format.specs.Entry.{GroupState}
+use Rattle.format.specs.Symbols.{symbolWalk}
 use Rattle.format.specs.Tree.{subtree, treeWalk}
 use Rattle.walk.specs.Lent.{blocksOf, Lent, Ended, ended, stopped, Walked}
 use Rattle.heap.specs.FreeBlocks.{Chained}
@@ -44,11 +45,11 @@ pub record Descending (im seg ws addresses counts : List ℕ) (g : Group) (r : R
 
 abbrev pub stepEnd : List ℕ → List ℕ → List ℕ → Step → Ended (GroupState Both)
 stepEnd seg addresses counts (Done s) = ended (stateOf seg addresses counts s) (s .count)
-stepEnd seg addresses counts (Stopped n) = stopped n
+stepEnd seg addresses counts (Stopped r) = stopped r
 
 abbrev pub SoundIf : List ℕ → List ℕ → List ℕ → List ℕ → Group → Step → Type 0
 SoundIf seg ws addresses counts g (Done s) = Sound seg ws addresses counts g s
-SoundIf seg ws addresses counts g (Stopped n) = Unit {0}
+SoundIf seg ws addresses counts g (Stopped r) = Unit {0}
 
 -- a symbol table node was read as its walk reads it
 pub record SymbolsAre (im seg wanted ws addresses counts : List ℕ) (g : Group) (r : Range) (at : ℕ) (s : State) (ws′ addresses′ counts′ : List ℕ) (x : Step) : Type 0 where

@@ -11,8 +11,8 @@ use lib.Dec.{leb, eqb}
 use lib.ListN.{length}
 use Rattle.format.specs.Bytes.{if_then_else_, allHold, u64, undefinedAddress}
 use Rattle.format.specs.Blocks.{Block, block, overlapsAny}
-use Rattle.format.specs.Walk.{Walk, ret, refuse, answer, check, _>>=_, _>>_}
-use Rattle.format.specs.Heap.{freeBlocks, freeList}
+use Rattle.format.specs.Result.{Result, value, answer, check, _>>=_, _>>_}
+use Rattle.format.specs.FreeList.{freeBlocks, freeList}
 use Rattle.walk.proofs.BlockList.{overlaps-hit, overlaps-not-below, overlaps-not-above}
 use Rattle.heap.specs.FreeBlocks.{chain, Chained, blockSound, ListRead}
 use Rattle.heap.specs.declared.free_list.FreeList.{FreeList}
@@ -86,12 +86,12 @@ sound-fields seg met off e = go (leb (off + 16) (length seg)) refl _ e
 free-step : (fuel : ℕ) (seg : List ℕ) (off : ℕ) (met : List Block) →
     freeBlocks (suc fuel) seg off met
     ≡ if blockSound seg met off
-    then if eqb (u64 seg off) 1 then ret (met ++ (block off (u64 seg (off + 8)) ∷ [])) else freeBlocks fuel seg (u64 seg off) (met ++ (block off (u64 seg (off + 8)) ∷ []))
-    else refuse (answer 9)
+    then if eqb (u64 seg off) 1 then value (met ++ (block off (u64 seg (off + 8)) ∷ [])) else freeBlocks fuel seg (u64 seg off) (met ++ (block off (u64 seg (off + 8)) ∷ []))
+    else answer 9
 unfolding freeBlocks blockSound allHold _>>=_
 free-step fuel seg off met = go (leb (off + 16) (length seg)) (leb 16 (u64 seg (off + 8))) (leb (off + u64 seg (off + 8)) (length seg)) (not (overlapsAny met off (u64 seg (off + 8)))) _
   where
-    go : (t u v w : Bool) (x : Walk (List Block)) → (check t (answer 9) >> (check u (answer 9) >> (check v (answer 9) >> (check w (answer 9) >> x)))) ≡ if allHold (t ∷ u ∷ v ∷ w ∷ []) then x else refuse (answer 9)
+    go : (t u v w : Bool) (x : Result (List Block)) → (check t 9 >> (check u 9 >> (check v 9 >> (check w 9 >> x)))) ≡ if allHold (t ∷ u ∷ v ∷ w ∷ []) then x else answer 9
     go false u v w x = refl
     go true false v w x = refl
     go true true false w x = refl
@@ -99,11 +99,11 @@ free-step fuel seg off met = go (leb (off + 16) (length seg)) (leb 16 (u64 seg (
     go true true true true x = refl
 
 -- no list
-pub free-none : (seg : List ℕ) (head : ℕ) → (eqb head 1 ≡ true) → freeList seg head ≡ ret (chain 0 seg head)
+pub free-none : (seg : List ℕ) (head : ℕ) → (eqb head 1 ≡ true) → freeList seg head ≡ value (chain 0 seg head)
 unfolding freeList chain
 free-none seg head e = rw e
 
-pub free-undefined : (seg : List ℕ) (head : ℕ) → (eqb head 1 ≡ false) → eqb head undefinedAddress ≡ true → freeList seg head ≡ ret (chain 0 seg head)
+pub free-undefined : (seg : List ℕ) (head : ℕ) → (eqb head 1 ≡ false) → eqb head undefinedAddress ≡ true → freeList seg head ≡ value (chain 0 seg head)
 unfolding freeList chain
 free-undefined seg head e f = rw (e, f)
 
@@ -116,17 +116,17 @@ module _ (seg : List ℕ) (head met at : ℕ) (h : met < length seg) (f : at ≡
     (e : freeList seg head ≡ freeBlocks (length seg - met) seg at (chain met seg head)) where
   step : freeList seg head
       ≡ if blockSound seg (chain met seg head) at
-      then if eqb (u64 seg at) 1 then ret (chain (met + 1) seg head) else freeBlocks (length seg - (met + 1)) seg (u64 seg at) (chain (met + 1) seg head)
-      else refuse (answer 9)
+      then if eqb (u64 seg at) 1 then value (chain (met + 1) seg head) else freeBlocks (length seg - (met + 1)) seg (u64 seg at) (chain (met + 1) seg head)
+      else answer 9
   step =
       let k : length seg - met ≡ suc (length seg - (met + 1)) = omega arith in
       let g : chain met seg head ++ (block at (u64 seg (at + 8)) ∷ []) ≡ chain (met + 1) seg head = rw (f, add-one) (chain-snoc met seg head) in
       e ∙ rw k (free-step (length seg - (met + 1)) seg at (chain met seg head) ∙ rw g)
 
-  pub block-unsound : blockSound seg (chain met seg head) at ≡ false → freeList seg head ≡ refuse (answer 9)
+  pub block-unsound : blockSound seg (chain met seg head) at ≡ false → freeList seg head ≡ answer 9
   block-unsound p = step ∙ rw p
 
-  pub block-last : blockSound seg (chain met seg head) at ≡ true → u64 seg at ≡ 1 → freeList seg head ≡ ret (chain (met + 1) seg head)
+  pub block-last : blockSound seg (chain met seg head) at ≡ true → u64 seg at ≡ 1 → freeList seg head ≡ value (chain (met + 1) seg head)
   block-last p q = step ∙ rw (p, eq-eqb (u64 seg at) 1 q)
 
   pub block-more : blockSound seg (chain met seg head) at ≡ true → (u64 seg at ≡ 1 → ⊥) → freeList seg head ≡ freeBlocks (length seg - (met + 1)) seg (u64 seg at) (chain (met + 1) seg head)
@@ -139,7 +139,7 @@ module _ (seg : List ℕ) (head met at : ℕ) (h : met < length seg) (f : at ≡
   chained-more p c = rw add-one (chained-snoc met seg head c (rw (← f) (sound-fields seg (chain met seg head) at p)))
 
 -- as many blocks as the segment has bytes are too many
-pub free-long : (seg : List ℕ) (head met at : ℕ) → length seg ≤ met → freeList seg head ≡ freeBlocks (length seg - met) seg at (chain met seg head) → freeList seg head ≡ refuse (answer 9)
+pub free-long : (seg : List ℕ) (head met at : ℕ) → length seg ≤ met → freeList seg head ≡ freeBlocks (length seg - met) seg at (chain met seg head) → freeList seg head ≡ answer 9
 unfolding freeBlocks
 free-long seg head met at h e = let z : length seg - met ≡ 0 = omega arith in e ∙ rw z
 

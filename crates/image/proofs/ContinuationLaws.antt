@@ -12,8 +12,8 @@ use Rattle.format.specs.Bytes.{part, littleEndian, u16, u64}
 use Rattle.format.specs.Blocks.{Block, block, entryAnswer}
 use Rattle.format.specs.declared.Refusal.{Refusal}
 use Rattle.format.specs.Walk.{Walk, ret, refuse, enter, fixed, lengthIn, continuationBlock, isHeader, shown, _>>=_, run}
-use Rattle.format.specs.Message.{Message, ofType, messages}
-use Rattle.format.specs.Header.{continuations}
+use Rattle.format.specs.Header.{messages, continuations}
+use Rattle.format.specs.Message.{Message, ofType}
 use Rattle.walk.specs.Numbers.{Number}
 use Rattle.walk.specs.Lent.{blocksOf, Lent, Walked, ended, stopped, entering, entered}
 use Rattle.walk.specs.declared.blocks.Entry.the-variants.{Entered, Refused}

@@ -13,8 +13,8 @@ use Rattle.format.specs.Bytes.{part, littleEndian, u8, u16, u32, u64}
 use Rattle.format.specs.Blocks.{entryAnswer}
 use Rattle.format.specs.declared.Refusal.{Refusal}
 use Rattle.format.specs.Walk.{Walk, ret, refuse, fault, notEntered, enter, stored, lengthIn, check, headerBlock, shown, _>>=_, _>>_, run}
-use Rattle.format.specs.Message.{Message, ofType, theMessage, messages}
-use Rattle.format.specs.Header.{Object, group, dataset, committed, hasCounts, objectOf, continuations, headerContents, headerMessages, headerWalk}
+use Rattle.format.specs.Header.{messages, Object, group, dataset, committed, hasCounts, objectOf, continuations, headerContents, headerMessages, headerWalk}
+use Rattle.format.specs.Message.{Message, ofType, theMessage}
 use Rattle.walk.specs.Lent.{blocksOf, Lent, Ended, ended, stopped, Walked, entering, entered}
 use Rattle.walk.specs.Numbers.{Number}
 use Rattle.walk.specs.declared.blocks.Entry.the-variants.{Entered, Refused}

@@ -5,62 +5,49 @@ use mathlib.Core.List.{List, [], _∷_, _++_, append-nil}
 use mathlib.Core.Logic.{_⊎_, inl, inr, ⊎-elim}
 use mathlib.Core.Path.{_≡_, refl, ap, sym, _∙_}
 use native.Mathlib.Omega.{arith}
-use borrow.Author.Tests.{eq-eqb, ne-eqb, eqb-true, eqb-false, lt-ltb, le-ltb, ltb-true, ltb-false}
+use borrow.Author.Tests.{eq-eqb, ne-eqb, eqb-true, eqb-false, lt-ltb, le-ltb, ltb-true}
 use lib.Dec.{eqb, ltb}
 use lib.ListN.{length, length-append}
 use Rattle.format.specs.Limits.{objectsMost}
 use Rattle.format.specs.Bytes.{if_then_else_}
-use Rattle.format.specs.declared.Refusal.{Refusal}
-use Rattle.format.specs.Walk.{answer, ret, refuse}
-use Rattle.format.specs.Symbols.{Entry, isHard}
+use Rattle.format.specs.Result.{value, answer}
+use Rattle.format.specs.Entry.{Entry, isHard}
 use Rattle.format.specs.Ledger.{Linked, linked, inLedger, addLink, countLink, discover}
 use Rattle.ledger.specs.Links.{addressesOf, countsOf, linkSum, linksTo, oneFor, Distinct}
 
 -- What a link to an address comes to, by what the ledger holds.
 module _ (a : ℕ) (os : List Linked) where
-  pub count-known : inLedger a os ≡ true → countLink a os ≡ ret (addLink a os)
+  pub count-known : inLedger a os ≡ true → countLink a os ≡ value (addLink a os)
   unfolding countLink
   count-known e = rw e
 
-  pub count-new : inLedger a os ≡ false → length os < objectsMost → countLink a os ≡ ret (os ++ (linked a 1 ∷ []))
+  pub count-new : inLedger a os ≡ false → length os < objectsMost → countLink a os ≡ value (os ++ (linked a 1 ∷ []))
   unfolding countLink
   count-new e h = rw (e, lt-ltb (length os) objectsMost h)
 
-  pub count-full : inLedger a os ≡ false → objectsMost ≤ length os → countLink a os ≡ refuse (answer 12)
+  pub count-full : inLedger a os ≡ false → objectsMost ≤ length os → countLink a os ≡ answer 12
   unfolding countLink
   count-full e h = rw (e, le-ltb (length os) objectsMost h)
 
   -- a link that is counted is one more for an object of the ledger, or makes a new one
-  pub count-cases : (os′ : List Linked) → countLink a os ≡ ret os′ →
+  pub count-cases : (os′ : List Linked) → countLink a os ≡ value os′ →
       ((inLedger a os ≡ true) × (os′ ≡ addLink a os)) ⊎ ((inLedger a os ≡ false) × (length os < objectsMost) × (os′ ≡ os ++ (linked a 1 ∷ [])))
   unfolding countLink
   count-cases os′ e = go (inLedger a os) (ltb (length os) objectsMost) refl refl e
     where
       go : (t u : Bool) → inLedger a os ≡ t → ltb (length os) objectsMost ≡ u →
-          (if t then ret (addLink a os) else if u then ret (os ++ (linked a 1 ∷ [])) else refuse (answer 12)) ≡ ret os′ →
+          (if t then value (addLink a os) else if u then value (os ++ (linked a 1 ∷ [])) else answer 12) ≡ value os′ →
           ((inLedger a os ≡ true) × (os′ ≡ addLink a os)) ⊎ ((inLedger a os ≡ false) × (length os < objectsMost) × (os′ ≡ os ++ (linked a 1 ∷ [])))
       go true u p q r = inl (p, cc)
       go false true p q r = inr (p, ltb-true _ _ q, cc)
       go false false p q r = let z : _≡_ {A = ℕ} 0 1 = cc in absurd (omega arith)
-
-  -- a link is refused only with 12, for a new address and a full ledger
-  pub count-refused : (n : Refusal) → countLink a os ≡ refuse n → (n ≡ answer 12) × (inLedger a os ≡ false) × (objectsMost ≤ length os)
-  unfolding countLink
-  count-refused n e = go (inLedger a os) (ltb (length os) objectsMost) refl refl e
-    where
-      go : (t u : Bool) → inLedger a os ≡ t → ltb (length os) objectsMost ≡ u →
-          (if t then ret (addLink a os) else if u then ret (os ++ (linked a 1 ∷ [])) else refuse (answer 12)) ≡ refuse n →
-          (n ≡ answer 12) × (inLedger a os ≡ false) × (objectsMost ≤ length os)
-      go true u p q r = let z : _≡_ {A = ℕ} 0 1 = cc in absurd (omega arith)
-      go false true p q r = let z : _≡_ {A = ℕ} 0 1 = cc in absurd (omega arith)
-      go false false p q r = (cc, p, ltb-false _ _ q)
 
 -- at an entry: a hard link is counted, and any other changes nothing
 pub discover-hard : (e : Entry) (os : List Linked) → isHard e ≡ true → discover e os ≡ countLink (e .header) os
 unfolding discover
 discover-hard e os h = rw h
 
-pub discover-other : (e : Entry) (os : List Linked) → isHard e ≡ false → discover e os ≡ ret os
+pub discover-other : (e : Entry) (os : List Linked) → isHard e ≡ false → discover e os ≡ value os
 unfolding discover
 discover-other e os h = rw h
 
@@ -220,7 +207,7 @@ links-append x a (o ∷ os) h = go (eqb x (o .address)) refl (links-append x a o
     go false f i = i
 
 -- What a link that is counted changes.
-module _ (a : ℕ) (os os′ : List Linked) (e : countLink a os ≡ ret os′) where
+module _ (a : ℕ) (os os′ : List Linked) (e : countLink a os ≡ value os′) where
   -- the links are one more
   pub count-sum : linkSum os′ ≡ linkSum os + 1
   unfolding linkSum

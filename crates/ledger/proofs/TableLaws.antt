@@ -11,7 +11,7 @@ use lib.ListN.{length, getD, set, drop, replicate, length-set, length-replicate,
 use lib.Seq.{getD-set-other}
 use Rattle.format.specs.Limits.{objectsMost}
 use Rattle.format.specs.Bytes.{padded}
-use Rattle.format.specs.Walk.{ret}
+use Rattle.format.specs.Result.{value}
 use Rattle.format.specs.Ledger.{Linked, linked, inLedger, addLink}
 use Rattle.ledger.specs.Links.{addressesOf, countsOf, linkSum}
 use Rattle.ledger.specs.Table.{linkedOf, Table, Found, Discovered, Started}
@@ -98,7 +98,7 @@ module _ (xs ts : List ℕ) (n a r : ℕ) (t : Table xs ts n) (f : Found xs n a 
       let i : n ≤ length xs = omega (arith, t .fits, t .addressesLong) in
       let j : n ≤ length ts = omega (arith, t .fits, t .countsLong) in
       record {
-        walk = ap ret (sym (linked-more a r n xs ts i j h (f .before) (f .there h))) ∙ sym (count-known a (linkedOf n xs ts) (linked-in a r n xs ts i j h (f .before) (f .there h)));
+        walk = ap value (sym (linked-more a r n xs ts i j h (f .before) (f .there h))) ∙ sym (count-known a (linkedOf n xs ts) (linked-in a r n xs ts i j h (f .before) (f .there h)));
         table = record {
           fits = t .fits;
           addressesLong = t .addressesLong;
@@ -122,7 +122,7 @@ module _ (xs ts : List ℕ) (n a r : ℕ) (t : Table xs ts n) (f : Found xs n a 
   discover-new h l =
       let m : length (linkedOf n xs ts) < objectsMost = rw length-linkedOf l in
       record {
-        walk = ap ret (linked-new a 1 n xs ts (omega (arith, t .addressesLong)) (omega (arith, t .countsLong))) ∙ sym (count-new a (linkedOf n xs ts) (out h) m);
+        walk = ap value (linked-new a 1 n xs ts (omega (arith, t .addressesLong)) (omega (arith, t .countsLong))) ∙ sym (count-new a (linkedOf n xs ts) (out h) m);
         table = record {
           fits = omega arith;
           addressesLong = rw length-set (t .addressesLong);

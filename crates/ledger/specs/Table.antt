@@ -4,7 +4,7 @@ use mathlib.Core.List.{List, [], _∷_}
 use mathlib.Core.Path.{_≡_}
 use lib.ListN.{length, getD, drop}
 use Rattle.format.specs.Limits.{objectsMost}
-use Rattle.format.specs.Walk.{answer, Walk, ret, refuse}
+use Rattle.format.specs.Result.{Result, value, answer}
 use Rattle.format.specs.Ledger.{Linked, linked, countLink}
 use Rattle.ledger.specs.declared.table.Discovery.{Discovery}
 use Rattle.ledger.specs.declared.table.Discovery.the-variants.{Counted, Full}
@@ -29,9 +29,9 @@ pub record Found (addresses : List ℕ) (objects address place : ℕ) : Type 0 w
   pub there : place < objects → getD addresses place 0 ≡ address
 
 -- a discovery as the definition has it: the ledger with the link, or answer 12
-abbrev pub discoveryOf : List ℕ → List ℕ → Discovery → Walk (List Linked)
-discoveryOf addresses counts (Counted objects) = ret (linkedOf objects addresses counts)
-discoveryOf addresses counts Full = refuse (answer 12)
+abbrev pub discoveryOf : List ℕ → List ℕ → Discovery → Result (List Linked)
+discoveryOf addresses counts (Counted objects) = value (linkedOf objects addresses counts)
+discoveryOf addresses counts Full = answer 12
 
 -- the lists left are again a table; a table that is full is left as it was
 abbrev pub TableIf : List ℕ → List ℕ → List ℕ → List ℕ → Discovery → Type 0

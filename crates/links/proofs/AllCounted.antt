@@ -7,9 +7,10 @@ use native.Mathlib.Omega.{arith}
 use lib.ListN.{length, length-append}
 use Rattle.format.specs.Limits.{blocksMost}
 use Rattle.format.specs.Blocks.{Block}
-use Rattle.format.specs.Walk.{ret, done, run}
+use Rattle.format.specs.Result.{value}
+use Rattle.format.specs.Walk.{done, run}
 use Rattle.format.specs.Superblock.{Superblock}
-use Rattle.format.specs.Symbols.{Entry}
+use Rattle.format.specs.Entry.{Entry}
 use Rattle.format.specs.Ledger.{Linked, linked}
 use Rattle.format.specs.Audit.{auditWalk}
 use Rattle.walk.proofs.Plan.{plan, blocks}
@@ -37,5 +38,5 @@ module _ (im : List ℕ) (room : ℕ) (s : Superblock) (most : room ≤ blocksMo
   counted-trace os bs e = audit-trace im room s (HasEntries im s) read-alone os bs e
 
   pub all-counted : (os : List Linked) (bs : List Block) → run im (s .endOfFile) room (auditWalk s) [] ≡ done os bs →
-      (ess : List (List Entry)) × EntriesOfAll im s (addressesOf os) ess × (countEntries (flatten ess) (linked (s .root) 1 ∷ []) ≡ ret os)
+      (ess : List (List Entry)) × EntriesOfAll im s (addressesOf os) ess × (countEntries (flatten ess) (linked (s .root) 1 ∷ []) ≡ value os)
   all-counted os bs e = trace-entries (HasEntries im s) (counted-trace os bs e)

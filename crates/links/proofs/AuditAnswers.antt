@@ -13,23 +13,23 @@ use Rattle.format.specs.declared.Refusal.{Refusal}
 use Rattle.format.specs.Walk.{fault, answerOf, ret, Outcome, done, refused, run, _>>=_}
 use Rattle.format.specs.Superblock.{Superblock, Opening, opened, notOpened, openImage, runOpened, signature, superblockRead, superblockSound, superblockFields, superblockWalk}
 use Rattle.format.specs.Header.{Object, group, dataset, committed}
-use Rattle.format.specs.Symbols.{Entry}
+use Rattle.format.specs.Entry.{Entry}
 use Rattle.format.specs.Ledger.{Linked, countLink, discover}
 use Rattle.format.specs.Object.{contentWalk, objectWalk}
 use Rattle.format.specs.Audit.{objectsWalk, auditWalk, auditRun}
 use Rattle.format.specs.Answers.{auditEnd, audit}
-use Rattle.links.proofs.Numbered.{AuditNumber, Numbered, numbers, run-number}
+use Rattle.links.proofs.Numbered.{AuditNumber, Answered, Numbered, answers, numbers, run-number}
 use Rattle.links.proofs.NumberedHeader.{header-numbered}
 use Rattle.links.proofs.NumberedDataset.{dataset-numbered}
 use Rattle.links.proofs.NumberedGroup.{group-numbered}
 
-discover-numbered : (e : Entry) (os : List Linked) → Numbered (discover e os)
+discover-answered : (e : Entry) (os : List Linked) → Answered (discover e os)
 unfolding discover countLink
-discover-numbered e os = search numbers depth 8
+discover-answered e os = search answers depth 8
 
 content-numbered : (s : Superblock) (o : Object) (os : List Linked) → Numbered (contentWalk s o os)
 unfolding contentWalk
-content-numbered s (group tree heap) os = group-numbered (s .leafK) (s .internalK) tree heap discover os discover-numbered
+content-numbered s (group tree heap) os = group-numbered (s .leafK) (s .internalK) tree heap discover os discover-answered
 content-numbered s (dataset space type layout) os = search (numbers, dataset-numbered)
 content-numbered s committed os = search numbers
 

@@ -9,7 +9,7 @@ use Rattle.format.specs.Bytes.{withFirst}
 use Rattle.format.specs.Blocks.{Block}
 use Rattle.format.specs.Walk.{ret, _>>=_, done, run}
 use Rattle.format.specs.Superblock.{Superblock, superblockWalk}
-use Rattle.format.specs.Symbols.{Entry}
+use Rattle.format.specs.Entry.{Entry}
 use Rattle.format.specs.Ledger.{Linked, linked}
 use Rattle.format.specs.Object.{objectWalk}
 use Rattle.format.specs.Audit.{objectsWalk, auditWalk}

@@ -8,7 +8,7 @@ use lib.ListN.{length, getD}
 use Rattle.format.specs.Blocks.{Block}
 use Rattle.format.specs.Walk.{done, run}
 use Rattle.format.specs.Superblock.{Superblock}
-use Rattle.format.specs.Symbols.{Entry}
+use Rattle.format.specs.Entry.{Entry}
 use Rattle.format.specs.Ledger.{Linked}
 use Rattle.format.specs.Audit.{auditWalk}
 use Rattle.ledger.specs.Links.{addressesOf}

@@ -9,10 +9,10 @@ use borrow.Author.Tests.{eq-eqb, eqb-true}
 use lib.ListN.{drop}
 use lib.Dec.{eqb}
 use Rattle.format.specs.Bytes.{if_then_else_}
-use Rattle.format.specs.Walk.{ret}
-use Rattle.format.specs.Symbols.{Entry, isHard}
+use Rattle.format.specs.Result.{value}
+use Rattle.format.specs.Entry.{Entry, isHard}
 use Rattle.format.specs.Ledger.{Linked, linked, inLedger, countLink, discover}
-use Rattle.walk.proofs.Checks.{both-done}
+use Rattle.walk.proofs.Results.{both-values}
 use Rattle.ledger.proofs.LedgerLaws.{discover-hard, discover-other, count-in, in-here, in-later}
 use Rattle.group.specs.Entries.{countEntries}
 use Rattle.links.proofs.Counting.{counting-keeps}
@@ -35,7 +35,7 @@ taken-member (suc i) [] o rest e = let z : _≡_ {A = ℕ} 0 1 = cc in absurd (o
 taken-member (suc i) (p ∷ os) o rest e = List·Memᴰ·tail (taken-member i os o rest e)
 
 -- what stands in the ledger after a link stood there before, or is the link's address
-after-link : (a : ℕ) (os os′ : List Linked) (x : ℕ) → countLink a os ≡ ret os′ → inLedger x os′ ≡ true → (inLedger x os ≡ true) ⊎ (x ≡ a)
+after-link : (a : ℕ) (os os′ : List Linked) (x : ℕ) → countLink a os ≡ value os′ → inLedger x os′ ≡ true → (inLedger x os ≡ true) ⊎ (x ≡ a)
 after-link a os os′ x c h = go (inLedger x os) (eqb x a) refl refl (sym (count-in a os os′ c x) ∙ h)
   where
     go : (t u : Bool) → inLedger x os ≡ t → eqb x a ≡ u → (if t then true else u) ≡ true → (inLedger x os ≡ true) ⊎ (x ≡ a)
@@ -44,10 +44,10 @@ after-link a os os′ x c h = go (inLedger x os) (eqb x a) refl refl (sym (count
     go false false p q r = let z : _≡_ {A = ℕ} 0 1 = cc in absurd (omega arith)
 
 -- what stood in the ledger stays there, and a link's address stands there after it
-link-keeps : (x a : ℕ) (os os′ : List Linked) → countLink a os ≡ ret os′ → inLedger x os ≡ true → inLedger x os′ ≡ true
+link-keeps : (x a : ℕ) (os os′ : List Linked) → countLink a os ≡ value os′ → inLedger x os ≡ true → inLedger x os′ ≡ true
 link-keeps x a os os′ c h = count-in a os os′ c x ∙ rw h
 
-link-enters : (a : ℕ) (os os′ : List Linked) → countLink a os ≡ ret os′ → inLedger a os′ ≡ true
+link-enters : (a : ℕ) (os os′ : List Linked) → countLink a os ≡ value os′ → inLedger a os′ ≡ true
 link-enters a os os′ c = count-in a os os′ c a ∙ rw (eq-eqb a a refl) (go (inLedger a os))
   where
     go : (t : Bool) → (if t then true else true) ≡ true
@@ -56,30 +56,30 @@ link-enters a os os′ c = count-in a os os′ c a ∙ rw (eq-eqb a a refl) (go 
 
 -- A property of addresses that all in the ledger have, and all that hard links among the entries give, all in the ledger have after them.
 module _ (Q : ℕ → Type 0) where
-  discover-within : (e : Entry) (os os′ : List Linked) → discover e os ≡ ret os′ → (isHard e ≡ true → Q (e .header)) → ((x : ℕ) → inLedger x os ≡ true → Q x) → (x : ℕ) → inLedger x os′ ≡ true → Q x
+  discover-within : (e : Entry) (os os′ : List Linked) → discover e os ≡ value os′ → (isHard e ≡ true → Q (e .header)) → ((x : ℕ) → inLedger x os ≡ true → Q x) → (x : ℕ) → inLedger x os′ ≡ true → Q x
   discover-within e os os′ d q h x i = go (isHard e) refl
     where
       go : (t : Bool) → isHard e ≡ t → Q x
       go true k = ⊎-elim (h x) (λ same. rw same (q k)) (after-link (e .header) os os′ x (sym (discover-hard e os k) ∙ d) i)
       go false k = let same : os′ ≡ os = cc (discover-other e os k) in h x (rw same at i)
 
-  pub counting-within : (es : List Entry) (os os′ : List Linked) → countEntries es os ≡ ret os′ → ((e : Entry) → List·Memᴰ e es → isHard e ≡ true → Q (e .header)) →
+  pub counting-within : (es : List Entry) (os os′ : List Linked) → countEntries es os ≡ value os′ → ((e : Entry) → List·Memᴰ e es → isHard e ≡ true → Q (e .header)) →
       ((x : ℕ) → inLedger x os ≡ true → Q x) → (x : ℕ) → inLedger x os′ ≡ true → Q x
   unfolding countEntries
   counting-within [] os os′ c q h = let same : os ≡ os′ = cc in rw same at h
   counting-within (e ∷ es) os os′ c q h =
-      let b = both-done (discover e os) (countEntries es) os′ c in
+      let b = both-values (discover e os) (countEntries es) os′ c in
       counting-within es (b .0) os′ (b .2) (λ f m k. q f (List·Memᴰ·tail m) k) (discover-within e os (b .0) (b .1) (λ k. q e (List·Memᴰ·head refl) k) h)
 
 -- every hard link among entries that were counted gives an address of the ledger
-pub counted-in : (es : List Entry) (os os′ : List Linked) (e : Entry) → countEntries es os ≡ ret os′ → List·Memᴰ e es → isHard e ≡ true → inLedger (e .header) os′ ≡ true
+pub counted-in : (es : List Entry) (os os′ : List Linked) (e : Entry) → countEntries es os ≡ value os′ → List·Memᴰ e es → isHard e ≡ true → inLedger (e .header) os′ ≡ true
 unfolding countEntries
 counted-in [] os os′ e c m h = absurd (List·Memᴰ·not-nil m)
 counted-in (f ∷ es) os os′ e c m h =
-    let b = both-done (discover f os) (countEntries es) os′ c in
+    let b = both-values (discover f os) (countEntries es) os′ c in
     ⊎-elim
     (λ same.
-    let d : countLink (e .header) os ≡ ret (b .0) = sym (discover-hard e os h) ∙ ap (λ (g : Entry). discover g os) same ∙ b .1 in
+    let d : countLink (e .header) os ≡ value (b .0) = sym (discover-hard e os h) ∙ ap (λ (g : Entry). discover g os) same ∙ b .1 in
     counting-keeps (λ (ps : List Linked). inLedger (e .header) ps ≡ true) (link-keeps (e .header)) es (b .0) os′ (b .2) (link-enters (e .header) os (b .0) d))
     (λ rest. counted-in es (b .0) os′ e (b .2) rest h) (List·Memᴰ·cases-cons m)
 
@@ -92,5 +92,5 @@ in-first x root h = go (eqb x root) refl h
     go true e r = eqb-true x root e
     go false e r = let z : _≡_ {A = ℕ} 0 1 = cc in absurd (omega arith)
 
-pub root-in : (es : List Entry) (root : ℕ) (os : List Linked) → countEntries es (linked root 1 ∷ []) ≡ ret os → inLedger root os ≡ true
+pub root-in : (es : List Entry) (root : ℕ) (os : List Linked) → countEntries es (linked root 1 ∷ []) ≡ value os → inLedger root os ≡ true
 root-in es root os c = counting-keeps (λ (ps : List Linked). inLedger root ps ≡ true) (link-keeps root) es _ os c (in-here root (linked root 1) [] (eq-eqb root root refl))

@@ -9,8 +9,10 @@ use lib.ListN.{length}
 use Rattle.format.specs.Bytes.{if_then_else_, part}
 use Rattle.format.specs.Blocks.{Block, block, overlapsAny, entryAnswer}
 use Rattle.format.specs.declared.Refusal.{Refusal}
+use Rattle.format.specs.Result.{Result, value, answer}
+use Rattle.format.specs.Result as results
 use Rattle.format.specs.Walk.{Kind, kindNumber, Length, shown, lengthIn, knownLength, fault as faultAt, notEntered, answerOf, Walk, ret, refuse, enter, check, located, _>>=_, Outcome, refused, ifEntered, run}
-use Rattle.format.specs.Names.{Text, text, fault, outside, noNul, badForm, inFreeBlock, faultNumber, textWalk}
+use Rattle.format.specs.Names.{Text, text, fault, outside, noNul, badForm, inFreeBlock, faultNumber, readText}
 
 -- the numbers with which an audit is refused
 abbrev pub AuditNumber : ℕ → Type 0
@@ -47,24 +49,50 @@ unfolding Numbered _>>=_
 numbered-check true n at w l m h = h
 numbered-check false n at w l m h = (l, m)
 
--- a part of a block has the numbers of its own walk
-pub numbered-located : {A : Type 0} (at : ℕ) (w : Walk A) → Numbered w → Numbered (located at w)
-unfolding Numbered located
-numbered-located at (ret a) h = h
-numbered-located at (refuse r) h = h
-numbered-located at (enter v a l k) h = λ b. numbered-located at (k b) (h b)
-
 pub numbered-if : {A : Type 0} (t : Bool) (x y : Walk A) → Numbered x → Numbered y → Numbered (if t then x else y)
 numbered-if true x y h k = h
 numbered-if false x y h k = k
 
-pub numbered-text : (t : Text) → Numbered (textWalk t)
-unfolding Numbered faultNumber
-numbered-text (text t) = tt
-numbered-text (fault outside) = (omega arith, omega arith)
-numbered-text (fault noNul) = (omega arith, omega arith)
-numbered-text (fault badForm) = (omega arith, omega arith)
-numbered-text (fault inFreeBlock) = (omega arith, omega arith)
+-- the same of a reader: its answer, if it gives one, is one of these numbers
+unfoldable pub Answered : {A : Type 0} → Result A → Type 0
+Answered (value a) = Unit {0}
+Answered (answer n) = AuditNumber n
+
+pub answered-bind : {A B : Type 0} (r : Result A) (f : A → Result B) → Answered r → ((a : A) → Answered (f a)) → Answered (results._>>=_ r f)
+unfolding Answered results._>>=_
+answered-bind (value a) f h c = c a
+answered-bind (answer n) f h c = h
+
+pub answered-value : {A : Type 0} (a : A) → Answered (value a)
+unfolding Answered
+answered-value a = tt
+
+pub answered-answer : (A : Type 0) (n : ℕ) → 1 ≤ n → n ≤ 13 → Answered {A = A} (answer n)
+unfolding Answered
+answered-answer A n l m = (l, m)
+
+pub answered-check : {A : Type 0} (t : Bool) (n : ℕ) (r : Result A) → 1 ≤ n → n ≤ 13 → Answered r → Answered (results._>>=_ (results.check t n) (λ _. r))
+unfolding Answered results._>>=_
+answered-check true n r l m h = h
+answered-check false n r l m h = (l, m)
+
+pub answered-if : {A : Type 0} (t : Bool) (x y : Result A) → Answered x → Answered y → Answered (if t then x else y)
+answered-if true x y h k = h
+answered-if false x y h k = k
+
+pub answered-text : (t : Text) → Answered (readText t)
+unfolding Answered faultNumber
+answered-text (text t) = tt
+answered-text (fault outside) = (omega arith, omega arith)
+answered-text (fault noNul) = (omega arith, omega arith)
+answered-text (fault badForm) = (omega arith, omega arith)
+answered-text (fault inFreeBlock) = (omega arith, omega arith)
+
+-- wherever its part stands
+pub numbered-located : {A : Type 0} (at : ℕ) (r : Result A) → Answered r → Numbered (located at r)
+unfolding Numbered Answered
+numbered-located at (value a) h = h
+numbered-located at (answer n) h = h
 
 -- a block's entry is answered with 5, 6, 13 or 0
 entry-number : (eof room : ℕ) (bs : List Block) (a n : ℕ) → entryAnswer eof room bs a n ≤ 13
@@ -94,5 +122,7 @@ run-number im eof room (enter v a l k) bs r ms h e =
     let b = shown v (part im a (lengthIn im v a l)) in
     entered-number _ (λ m. notEntered m (kindNumber v) a (knownLength im eof v a l) bs) _ bs r ms (λ m. refl) (entry-number eof room bs a (lengthIn im v a l)) (run-number im eof room (k b) (bs ++ (block a (lengthIn im v a l) ∷ [])) r ms (h b)) e
 
--- the laws of such walks, for `search`
-pub ruleset numbers = (numbered-bind, numbered-ret, numbered-refuse, numbered-enter, numbered-check, numbered-if, numbered-located, numbered-text, tt, lit≤)
+-- the laws of such readers, and of such walks, for `search`
+pub ruleset answers = (answered-bind, answered-value, answered-answer, answered-check, answered-if, answered-text, tt, lit≤)
+
+pub ruleset numbers = (numbered-bind, numbered-ret, numbered-refuse, numbered-enter, numbered-check, numbered-if, numbered-located, answered-text, tt, lit≤)

@@ -6,47 +6,50 @@ use lib.Dec.{leb, eqb}
 use lib.ListN.{drop}
 use Rattle.format.specs.Bytes.{u8, u16, u64}
 use Rattle.format.specs.Blocks.{Block, block}
+use Rattle.format.specs.Result.{Result}
 use Rattle.format.specs.Walk.{Walk}
-use Rattle.format.specs.Heap.{Heap, freeBlocks, freeList, heapWalk}
+use Rattle.format.specs.FreeList.{freeBlocks, freeList}
+use Rattle.format.specs.Heap.{Heap, heapWalk}
 use Rattle.format.specs.Names.{Bound}
-use Rattle.format.specs.Symbols.{Entry, Group, GroupState, valueWalk, entryWalk, entries, symbolWalk}
+use Rattle.format.specs.Entry.{Entry, Group, GroupState, readValue, readEntry}
+use Rattle.format.specs.Symbols.{entries, symbolWalk}
 use Rattle.format.specs.Tree.{keysWalk, children, nodeWalk, branches, subtree, treeWalk, groupWalk}
-use Rattle.links.proofs.Numbered.{Numbered, numbered-bind, numbered-check, numbers}
+use Rattle.links.proofs.Numbered.{Answered, Numbered, answered-value, answered-if, answers, numbered-bind, numbered-check, numbers}
 
-free-numbered : (fuel : ℕ) (seg : List ℕ) (off : ℕ) (met : List Block) → Numbered (freeBlocks fuel seg off met)
+free-answered : (fuel : ℕ) (seg : List ℕ) (off : ℕ) (met : List Block) → Answered (freeBlocks fuel seg off met)
 unfolding freeBlocks
-free-numbered zero seg off met = search numbers
-free-numbered (suc fuel) seg off met =
-    let rest = free-numbered fuel seg (u64 seg off) (met ++ (block off (u64 seg (off + 8)) ∷ [])) in
-    search numbers depth 12
+free-answered zero seg off met = search answers
+free-answered (suc fuel) seg off met =
+    let rest = free-answered fuel seg (u64 seg off) (met ++ (block off (u64 seg (off + 8)) ∷ [])) in
+    search answers depth 12
 
 heap-numbered : (at : ℕ) → Numbered (heapWalk at)
 unfolding heapWalk freeList
-heap-numbered at = search (numbers, free-numbered) depth 12
+heap-numbered at = search (numbers, answered-if, answered-value, free-answered) depth 12
 
 keys-numbered : (h : Heap) (n at : ℕ) (b : List ℕ) → Numbered (keysWalk h n at b)
 unfolding keysWalk
 keys-numbered h zero at b = search numbers
 keys-numbered h (suc n) at b = let rest = keys-numbered h n (at + 16) (drop 16 b) in search numbers
 
-value-numbered : (h : Heap) (b : List ℕ) → Numbered (valueWalk h b)
-unfolding valueWalk
-value-numbered h b = search numbers
+value-answered : (h : Heap) (b : List ℕ) → Answered (readValue h b)
+unfolding readValue
+value-answered h b = search answers
 
 node-numbered : (k at : ℕ) → Numbered (nodeWalk k at)
 unfolding nodeWalk
 node-numbered k at = search numbers depth 12
 
 -- a group whose visits have such numbers only
-module _ {S : Type 0} (g : Group S) (visited : (e : Entry) (s : S) → Numbered (g .visit e s)) where
-  entry-numbered : (bounds : List Bound) (b : List ℕ) (s : GroupState S) → Numbered (entryWalk g bounds b s)
-  unfolding entryWalk
-  entry-numbered bounds b s = search (numbers, value-numbered) depth 12
+module _ {S : Type 0} (g : Group S) (visited : (e : Entry) (s : S) → Answered (g .visit e s)) where
+  entry-answered : (bounds : List Bound) (b : List ℕ) (s : GroupState S) → Answered (readEntry g bounds b s)
+  unfolding readEntry
+  entry-answered bounds b s = search (answers, value-answered) depth 12
 
   entries-numbered : (bounds : List Bound) (n at : ℕ) (b : List ℕ) (s : GroupState S) → Numbered (entries g bounds n at b s)
   unfolding entries
   entries-numbered bounds zero at b s = search numbers
-  entries-numbered bounds (suc n) at b s = let rest = entries-numbered bounds n (at + 40) (drop 40 b) in search (numbers, entry-numbered)
+  entries-numbered bounds (suc n) at b s = let rest = entries-numbered bounds n (at + 40) (drop 40 b) in search (numbers, entry-answered)
 
   symbol-numbered : (at : ℕ) (bounds : List Bound) (s : GroupState S) → Numbered (symbolWalk g at bounds s)
   unfolding symbolWalk
@@ -75,6 +78,6 @@ module _ {S : Type 0} (g : Group S) (visited : (e : Entry) (s : S) → Numbered 
       let rest : (level : ℕ) (b : List ℕ) → Numbered (branches (g .heap) (subtree g level) at b [] s) = λ level b. branches-numbered (g .heap) (subtree g level) (subtree-numbered level) at b [] s in
       search (numbers, node-numbered) depth 8
 
-pub group-numbered : {S : Type 0} (leafK internalK tree heap : ℕ) (visit : Entry → S → Walk S) (found : S) → ((e : Entry) (s : S) → Numbered (visit e s)) → Numbered (groupWalk leafK internalK tree heap visit found)
+pub group-numbered : {S : Type 0} (leafK internalK tree heap : ℕ) (visit : Entry → S → Result S) (found : S) → ((e : Entry) (s : S) → Answered (visit e s)) → Numbered (groupWalk leafK internalK tree heap visit found)
 unfolding groupWalk
 group-numbered leafK internalK tree heap visit found visited = search (numbers, heap-numbered, tree-numbered) depth 8

@@ -3,20 +3,20 @@ use Prim.Native.Nat.{ℕ, zero, suc, _+_}
 use mathlib.Core.List.{List, [], _∷_, _++_}
 use lib.ListN.{drop}
 use Rattle.format.specs.Bytes.{u16}
-use Rattle.format.specs.Message.{Message, messageWalk, messages, ofType}
-use Rattle.format.specs.Header.{continuations, headerContents, headerMessages, objectOf, headerWalk}
-use Rattle.links.proofs.Numbered.{Numbered, numbers}
+use Rattle.format.specs.Header.{messages, continuations, headerContents, headerMessages, objectOf, headerWalk}
+use Rattle.format.specs.Message.{Message, readMessage, ofType}
+use Rattle.links.proofs.Numbered.{Answered, Numbered, answers, numbers}
 
-message-numbered : (place : ℕ) (m : List ℕ) → Numbered (messageWalk place m)
-unfolding messageWalk
-message-numbered place m = search numbers depth 20
+message-answered : (place : ℕ) (m : List ℕ) → Answered (readMessage place m)
+unfolding readMessage
+message-answered place m = search answers depth 20
 
 messages-numbered : (fuel place : ℕ) (m : List ℕ) → Numbered (messages fuel place m)
 unfolding messages
 messages-numbered zero place m = search numbers
 messages-numbered (suc fuel) place m =
     let rest = messages-numbered fuel (place + 8 + u16 m 2) (drop (8 + u16 m 2) m) in
-    search (numbers, message-numbered) depth 8
+    search (numbers, message-answered) depth 8
 
 continuations-numbered : (fuel : ℕ) (waiting sofar : List Message) → Numbered (continuations fuel waiting sofar)
 unfolding continuations

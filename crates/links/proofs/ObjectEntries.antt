@@ -6,12 +6,13 @@ use mathlib.Core.Path.{_≡_, ap, _∙_}
 use native.Mathlib.Omega.{arith}
 use Rattle.format.specs.Bytes.{u32}
 use Rattle.format.specs.Blocks.{Block}
+use Rattle.format.specs.Result.{value}
 use Rattle.format.specs.Walk.{ret, headerBlock, stored, Outcome, done, run}
 use Rattle.format.specs.Superblock.{Superblock}
 use Rattle.format.specs.Header.{Object, group, dataset, committed, headerContents, headerMessages, headerWalk, objectOf}
 use Rattle.format.specs.Tree.{groupWalk}
 use Rattle.format.specs.Dataset.{datasetWalk}
-use Rattle.format.specs.Symbols.{Entry}
+use Rattle.format.specs.Entry.{Entry}
 use Rattle.format.specs.Ledger.{Linked, discover}
 use Rattle.format.specs.Object.{contentWalk, objectWalk}
 use Rattle.walk.proofs.Bind.{run-bind}
@@ -29,7 +30,7 @@ ran-done R o p x ms e h = rw e at h
 module _ (im : List ℕ) (room : ℕ) (s : Superblock) where
   -- behind its header
   content-entries : (o : Object) (os : List Linked) (bs : List Block) (os′ : List Linked) (ms : List Block) → run im (s .endOfFile) room (contentWalk s o os) bs ≡ done os′ ms →
-      (es : List Entry) × (run im (s .endOfFile) room (contentEntries s o) bs ≡ done es ms) × (countEntries es os ≡ ret os′)
+      (es : List Entry) × (run im (s .endOfFile) room (contentEntries s o) bs ≡ done es ms) × (countEntries es os ≡ value os′)
   unfolding contentWalk contentEntries run countEntries
   content-entries (group tree heap) os bs os′ ms e =
       let r = ran-done _ (run im (s .endOfFile) room (groupWalk (s .leafK) (s .internalK) tree heap discover os) bs) (run im (s .endOfFile) room (entriesWalk (s .leafK) (s .internalK) tree heap) bs) os′ ms e (audit-entries im (s .endOfFile) room (s .leafK) (s .internalK) tree heap bs os) in
@@ -38,11 +39,11 @@ module _ (im : List ℕ) (room : ℕ) (s : Superblock) where
       let d = bind-done im (s .endOfFile) room (datasetWalk space type layout) (λ _. ret os) bs os′ ms e in
       let same : os ≡ os′ = cc (d .3) in
       let left : d .1 ≡ ms = cc (d .3) in
-      ([], run-bind im (s .endOfFile) room (datasetWalk space type layout) (λ _. ret []) bs ∙ rw (d .2, left), ap ret same)
-  content-entries committed os bs os′ ms e = ([], ap (done []) (cc), ap ret (cc))
+      ([], run-bind im (s .endOfFile) room (datasetWalk space type layout) (λ _. ret []) bs ∙ rw (d .2, left), ap value same)
+  content-entries committed os bs os′ ms e = ([], ap (done []) (cc), ap value (cc))
 
   pub object-entries : (at : ℕ) (os : List Linked) (bs : List Block) (os′ : List Linked) (ms : List Block) → run im (s .endOfFile) room (objectWalk s at os) bs ≡ done os′ ms →
-      (es : List Entry) × (run im (s .endOfFile) room (entriesAt s at) bs ≡ done es ms) × (countEntries es os ≡ ret os′)
+      (es : List Entry) × (run im (s .endOfFile) room (entriesAt s at) bs ≡ done es ms) × (countEntries es os ≡ value os′)
   unfolding objectWalk entriesAt
   object-entries at os bs os′ ms e =
       let d = bind-done im (s .endOfFile) room (headerWalk at) (λ o. contentWalk s o os) bs os′ ms e in

@@ -11,7 +11,7 @@ use Rattle.format.specs.Bytes.{if_then_else_}
 use Rattle.format.specs.Blocks.{Block}
 use Rattle.format.specs.Walk.{done, run}
 use Rattle.format.specs.Superblock.{Superblock}
-use Rattle.format.specs.Symbols.{Entry}
+use Rattle.format.specs.Entry.{Entry}
 use Rattle.format.specs.Ledger.{Linked, inLedger}
 use Rattle.format.specs.Audit.{auditWalk}
 use Rattle.ledger.specs.Links.{addressesOf}

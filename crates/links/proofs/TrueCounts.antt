@@ -9,10 +9,10 @@ use native.Mathlib.Omega.{arith}
 use borrow.Author.Tests.{eqb-true, eqb-false}
 use lib.Dec.{eqb}
 use Rattle.format.specs.Bytes.{if_then_else_}
-use Rattle.format.specs.Walk.{ret}
-use Rattle.format.specs.Symbols.{Entry, isHard}
+use Rattle.format.specs.Result.{value}
+use Rattle.format.specs.Entry.{Entry, isHard}
 use Rattle.format.specs.Ledger.{Linked, linked, inLedger, countLink, discover}
-use Rattle.walk.proofs.Checks.{both-done}
+use Rattle.walk.proofs.Results.{both-values}
 use Rattle.ledger.specs.Links.{linkSum, linksTo, oneFor, Distinct}
 use Rattle.ledger.proofs.LedgerLaws.{discover-hard, discover-other, count-sum, count-links, sum-first, links-first}
 use Rattle.group.specs.Entries.{countEntries}
@@ -22,19 +22,19 @@ use Rattle.links.proofs.LedgerIn.{member-in}
 -- a measure of the ledger that rises with each hard link by what the link weighs, and the weight of all entries
 module _ (measure : List Linked → ℕ) (weight : ℕ → ℕ) (all : List Entry → ℕ) (none : all [] ≡ 0)
     (more : (e : Entry) (es : List Entry) → all (e ∷ es) ≡ (if isHard e then weight (e .header) else 0) + all es)
-    (step : (a : ℕ) (os os′ : List Linked) → countLink a os ≡ ret os′ → measure os′ ≡ measure os + weight a) where
-  discover-rises : (e : Entry) (os os′ : List Linked) → discover e os ≡ ret os′ → measure os′ ≡ measure os + (if isHard e then weight (e .header) else 0)
+    (step : (a : ℕ) (os os′ : List Linked) → countLink a os ≡ value os′ → measure os′ ≡ measure os + weight a) where
+  discover-rises : (e : Entry) (os os′ : List Linked) → discover e os ≡ value os′ → measure os′ ≡ measure os + (if isHard e then weight (e .header) else 0)
   discover-rises e os os′ d = go (isHard e) refl
     where
       go : (t : Bool) → isHard e ≡ t → measure os′ ≡ measure os + (if t then weight (e .header) else 0)
       go true h = step (e .header) os os′ (sym (discover-hard e os h) ∙ d)
       go false h = let same : os ≡ os′ = cc (discover-other e os h) in omega (arith, ap measure same)
 
-  counting-rises : (es : List Entry) (os os′ : List Linked) → countEntries es os ≡ ret os′ → measure os′ ≡ measure os + all es
+  counting-rises : (es : List Entry) (os os′ : List Linked) → countEntries es os ≡ value os′ → measure os′ ≡ measure os + all es
   unfolding countEntries
   counting-rises [] os os′ c = let same : os ≡ os′ = cc in omega (arith, ap measure same, none)
   counting-rises (e ∷ es) os os′ c =
-      let b = both-done (discover e os) (countEntries es) os′ c in
+      let b = both-values (discover e os) (countEntries es) os′ c in
       omega (arith, counting-rises es (b .0) os′ (b .2), discover-rises e os (b .0) (b .1), more e es)
 
 -- where no address stands twice, the links recorded for an object's address are the object's own
@@ -53,7 +53,7 @@ links-own (p ∷ os) o d m = go (eqb (o .address) (p .address)) refl (List·Mem�
     go false h (inl same) i = absurd (eqb-false (o .address) (p .address) h (ap (λ (q : Linked). q .address) same))
     go false h (inr m′) i = i m′
 
-module _ (root : ℕ) (es : List Entry) (os : List Linked) (c : countEntries es (linked root 1 ∷ []) ≡ ret os) where
+module _ (root : ℕ) (es : List Entry) (os : List Linked) (c : countEntries es (linked root 1 ∷ []) ≡ value os) where
   pub true-counts : (x : ℕ) → linksTo x os ≡ oneFor x root + hardLinks x es
   unfolding hardLinks
   true-counts x = counting-rises (linksTo x) (oneFor x) (hardLinks x) refl (λ e fs. refl) (λ a ps ps′ k. count-links a ps ps′ k x) es _ os c ∙ ap (λ (n : ℕ). n + hardLinks x es) (links-first x root)

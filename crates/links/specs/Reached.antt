@@ -10,7 +10,7 @@ use Rattle.format.specs.Walk.{Walk, ret, done, run, _>>=_, _>>_}
 use Rattle.format.specs.Superblock.{Superblock}
 use Rattle.format.specs.Header.{Object, group, dataset, committed, headerWalk}
 use Rattle.format.specs.Dataset.{datasetWalk}
-use Rattle.format.specs.Symbols.{Entry, isHard}
+use Rattle.format.specs.Entry.{Entry, isHard}
 use Rattle.group.specs.Entries.{entriesWalk}
 use Rattle.ledger.specs.Links.{oneFor}
 

@@ -4,9 +4,9 @@ use mathlib.Core.Bool.{true}
 use mathlib.Core.List.{List, [], _∷_, flatten, List·Memᴰ}
 use mathlib.Core.Path.{_≡_}
 use lib.ListN.{length, getD}
-use Rattle.format.specs.Walk.{ret}
+use Rattle.format.specs.Result.{value}
 use Rattle.format.specs.Superblock.{Superblock}
-use Rattle.format.specs.Symbols.{Entry}
+use Rattle.format.specs.Entry.{Entry}
 use Rattle.format.specs.Ledger.{Linked, linked, inLedger}
 use Rattle.ledger.specs.Links.{addressesOf, linkSum, linksTo, oneFor, Distinct}
 use Rattle.group.specs.Entries.{countEntries}
@@ -21,7 +21,7 @@ pub record Sound (im : List ℕ) (s : Superblock) (os : List Linked) : Type 0 wh
   pub entries : List (List Entry)
   pub read : EntriesOfAll im s (addressesOf os) entries
   -- the ledger is the root's, with the hard links of all entries counted
-  pub counted : countEntries (flatten entries) (linked (s .root) 1 ∷ []) ≡ ret os
+  pub counted : countEntries (flatten entries) (linked (s .root) 1 ∷ []) ≡ value os
   -- a true count is the number of hard links that give its address, and one more for the root
   pub trueCount : (o : Linked) → List·Memᴰ o os → o .links ≡ oneFor (o .address) (s .root) + hardLinks (o .address) (flatten entries)
   pub counts : (x : ℕ) → linksTo x os ≡ oneFor x (s .root) + hardLinks x (flatten entries)

@@ -3,8 +3,8 @@ use Prim.Native.Nat.{ℕ, _+_}
 use mathlib.Core.List.{List, [], _∷_}
 use mathlib.Core.Path.{_≡_}
 use lib.ListN.{drop}
-use Rattle.format.specs.Walk.{ret}
-use Rattle.format.specs.Symbols.{Entry}
+use Rattle.format.specs.Result.{value}
+use Rattle.format.specs.Entry.{Entry}
 use Rattle.format.specs.Ledger.{Linked}
 use Rattle.group.specs.Entries.{countEntries}
 
@@ -13,4 +13,4 @@ use Rattle.group.specs.Entries.{countEntries}
 pub data Trace (P : ℕ → List Entry → Type 0) : ℕ → List Linked → List Linked → Type 0 where
   ended : {i : ℕ} {os : List Linked} → drop i os ≡ [] → Trace P i os os
   next : {i : ℕ} {o : Linked} {rest os ps os′ : List Linked} {es : List Entry} →
-      drop i os ≡ o ∷ rest → P (o .address) es → countEntries es os ≡ ret ps → Trace P (i + 1) ps os′ → Trace P i os os′
+      drop i os ≡ o ∷ rest → P (o .address) es → countEntries es os ≡ value ps → Trace P (i + 1) ps os′ → Trace P i os os′

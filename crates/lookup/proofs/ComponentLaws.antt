@@ -50,17 +50,17 @@ lookup-done ws ws′ addresses counts os s (refused m bs) o′ n w =
     let z : _≡_ {A = ℕ} 0 1 = cc (u .answer) in
     absurd (omega arith)
 
-lookup-refused : (ws ws′ addresses counts : List ℕ) (os : List Linked) (m : Refusal) (o : Outcome lookup.Link) (o′ : Outcome Both) →
-    Ran true (λ x b. (last : List ℕ) × (b ≡ record { ledger = os; link = x })) o o′ → Walked ws ws′ (groupEnd addresses counts (steps.the-variants.Stopped m)) o′ →
-    (bs : List Block) × (o ≡ refused m bs)
+lookup-refused : (ws ws′ addresses counts : List ℕ) (os : List Linked) (r : Refusal) (o : Outcome lookup.Link) (o′ : Outcome Both) →
+    Ran true (λ x b. (last : List ℕ) × (b ≡ record { ledger = os; link = x })) o o′ → Walked ws ws′ (groupEnd addresses counts (steps.the-variants.Stopped r)) o′ →
+    (bs : List Block) × (o ≡ refused r bs)
 unfolding Ran
-lookup-refused ws ws′ addresses counts os m (done x bs) o′ n w =
-    let u : Walked ws ws′ (stopped m) (done (n .0) bs) = rw (n .1) at w in
+lookup-refused ws ws′ addresses counts os r (done x bs) o′ n w =
+    let u : Walked ws ws′ (stopped r) (done (n .0) bs) = rw (n .1) at w in
     let z : _≡_ {A = ℕ} 0 1 = cc (u .answer) in
     absurd (omega arith)
-lookup-refused ws ws′ addresses counts os m (refused k bs) o′ n w =
-    let u : Walked ws ws′ (stopped m) (refused k bs) = rw n at w in
-    let e : m ≡ k = cc (u .answer) in
+lookup-refused ws ws′ addresses counts os r (refused k bs) o′ n w =
+    let u : Walked ws ws′ (stopped r) (refused k bs) = rw n at w in
+    let e : r ≡ k = cc (u .answer) in
     (bs, rw e refl)
 
 -- a walk that is known to end so

@@ -83,8 +83,8 @@ module _ (im path : List ℕ) (s : Superblock) (room start end at : ℕ) (h : st
   pub symbolic-next : EndsAs targets.the-variants.Symbolic found → EndsAs targets.the-variants.Symbolic (targetRun im s room (restOf path start) at)
   symbolic-next q = ([], next (q .1))
 
-  pub stopped-next : (n : Refusal) → EndsAs (targets.the-variants.Stopped n) found → EndsAs (targets.the-variants.Stopped n) (targetRun im s room (restOf path start) at)
-  stopped-next n q = (q .0, next (q .1))
+  pub stopped-next : (r : Refusal) → EndsAs (targets.the-variants.Stopped r) found → EndsAs (targets.the-variants.Stopped r) (targetRun im s room (restOf path start) at)
+  stopped-next r q = (q .0, next (q .1))
 
 -- no component is left
 pub none-left : (im path : List ℕ) (s : Superblock) (room start at : ℕ) → length path < start → EndsAs (targets.the-variants.Object at) (targetRun im s room (restOf path start) at)

@@ -18,19 +18,19 @@ use Rattle.lookup.specs.declared.component.Target.the-variants.{Object, 
 abbrev pub targetOf : Target → Walk Rattle.format.specs.Lookup.Target
 targetOf (Object a) = ret (object a)
 targetOf Symbolic = ret symbolic
-targetOf (Stopped n) = refuse n
+targetOf (Stopped r) = refuse r
 
 -- the run ended so, whatever blocks it entered
 abbrev pub EndsAs : Target → Outcome Rattle.format.specs.Lookup.Target → Type 0
 EndsAs (Object a) o = (bs : List Block) × (o ≡ done (object a) bs)
 EndsAs Symbolic o = (bs : List Block) × (o ≡ done symbolic bs)
-EndsAs (Stopped n) o = (bs : List Block) × (o ≡ refused n bs)
+EndsAs (Stopped r) o = (bs : List Block) × (o ≡ refused r bs)
 
 -- the tables are empty again, for the next component
 abbrev pub TableIf : List ℕ → List ℕ → Target → Type 0
 TableIf addresses counts (Object a) = Table addresses counts 0
 TableIf addresses counts Symbolic = Unit {0}
-TableIf addresses counts (Stopped n) = Unit {0}
+TableIf addresses counts (Stopped r) = Unit {0}
 
 -- a name was looked up in a group as its walk does
 pub record FoundIs (im name ws : List ℕ) (s : Superblock) (room tree heap count : ℕ) (last : Bool) (addresses′ counts′ : List ℕ) (r : Target) : Type 0 where

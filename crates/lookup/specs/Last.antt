@@ -14,7 +14,7 @@ use Rattle.lookup.specs.declared.last.Kind.the-variants.{Known, Stopped}
 -- the run ended so, whatever blocks it entered: the object at this address is of this kind, or the refusal
 abbrev pub LocatedAs : ℕ → Kind → Outcome Located → Type 0
 LocatedAs at (Known k) o = (bs : List Block) × (o ≡ done (record { kind = k; address = at }) bs)
-LocatedAs at (Stopped n) o = (bs : List Block) × (o ≡ refused n bs)
+LocatedAs at (Stopped r) o = (bs : List Block) × (o ≡ refused r bs)
 
 abbrev pub KindIs : List ℕ → Superblock → ℕ → ℕ → Kind → Type 0
 KindIs im s room at r = LocatedAs at r (run im (s .«end_of_file») room (superblockWalk (superblockOf s) >> locateWalk at) [])

@@ -1,4 +1,5 @@
 // One component of a path, looked up in the object at an address, on a block list of its own.
+use format::NO_PLACE;
 use format::Refusal;
 use image::header;
 use image::header::HeaderRead;
@@ -37,13 +38,13 @@ fn target_of(state: State, last: bool) -> Target
 {
     let link = state.link;
     match link {
-        Link::Absent => Target::Stopped(Refusal::Fault(ABSENT, 0)),
+        Link::Absent => Target::Stopped(Refusal::Fault(ABSENT, NO_PLACE)),
         Link::Hard(a) => Target::Object(a),
         Link::Soft => {
             if last {
                 return Target::Symbolic;
             }
-            Target::Stopped(Refusal::Fault(SYMBOLIC_BEFORE_LAST, 0))
+            Target::Stopped(Refusal::Fault(SYMBOLIC_BEFORE_LAST, NO_PLACE))
         }
     }
 }
@@ -113,13 +114,13 @@ pub fn component(
             let end_of_file = superblock.end_of_file;
             match header::read(image, end_of_file, list, n, room, at) {
                 HeaderRead::Stopped(x) => Target::Stopped(x),
-                HeaderRead::Committed(_) => Target::Stopped(Refusal::Fault(NOT_A_GROUP, 0)),
+                HeaderRead::Committed(_) => Target::Stopped(Refusal::Fault(NOT_A_GROUP, NO_PLACE)),
                 HeaderRead::Dataset {
                     space: _,
                     datatype: _,
                     layout: _,
                     count: _,
-                } => Target::Stopped(Refusal::Fault(NOT_A_GROUP, 0)),
+                } => Target::Stopped(Refusal::Fault(NOT_A_GROUP, NO_PLACE)),
                 HeaderRead::Group { tree, heap, count } => find(
                     image,
                     name,

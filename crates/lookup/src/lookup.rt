@@ -3,6 +3,7 @@ use crate::component::Target;
 use crate::follow;
 use crate::last;
 use crate::last::Kind;
+use format::NO_PLACE;
 use format::Refusal;
 use format::number_of;
 use image::superblock;
@@ -80,7 +81,7 @@ pub fn lookup(image: &[u8], path: &[u8], list: &mut [u64]) -> Located
     ensures { λ r. ⌜ replyOf (now (list .exit)) r ≡ lookupReply (now (image .entry)) (now (path .entry)) (length (now (list .entry))) ⌝ }
 {
     if !path::is_sound(path) {
-        return finish(list, refused(Refusal::Fault(BAD_PATH, 0)));
+        return finish(list, refused(Refusal::Fault(BAD_PATH, NO_PLACE)));
     }
     match superblock::open(image) {
         Opening::NotOpened(x) => finish(list, refused(Refusal::Fault(x, 0))),

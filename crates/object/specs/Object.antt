@@ -23,11 +23,11 @@ Bounded im s = FieldsBounded im (openings.Opened s)
 -- the ledger, with the number of blocks then entered, or the refusal
 abbrev pub objectEnd : List ℕ → List ℕ → ObjectRead → Ended (List Linked)
 objectEnd addresses counts (Done count objects) = ended (linkedOf objects addresses counts) count
-objectEnd addresses counts (Stopped n) = stopped n
+objectEnd addresses counts (Stopped r) = stopped r
 
 abbrev pub ReadyIf : List ℕ → List ℕ → List ℕ → ℕ → ObjectRead → Type 0
 ReadyIf ws addresses counts room (Done count objects) = Ready ws addresses counts room count objects
-ReadyIf ws addresses counts room (Stopped n) = Unit {0}
+ReadyIf ws addresses counts room (Stopped r) = Unit {0}
 
 -- A part w of the audit was walked, from the ledger before it to the ledger after it
 pub record LedgerWalked (im ws addresses counts : List ℕ) (s : Superblock) (room : ℕ) (w : List Linked → Walk (List Linked)) (count objects : ℕ) (ws′ addresses′ counts′ : List ℕ) (r : ObjectRead) : Type 0 where

@@ -7,9 +7,11 @@ use native.Mathlib.Omega.{arith}
 use lib.ListN.{length, drop}
 use Rattle.format.specs.Bytes.{part, littleEndian, u32, u64}
 use Rattle.format.specs.declared.Refusal.{Refusal}
-use Rattle.format.specs.Walk.{fault as faultAt, answer, located, ret, refuse, _>>=_}
-use Rattle.format.specs.Names.{Bound, Text, text, fault, faultNumber, textWalk, nameText, valueText, below}
-use Rattle.format.specs.Symbols.{GroupState, valueWalk, entryWalk, entries}
+use Rattle.format.specs.Result.{value, answer}
+use Rattle.format.specs.Walk.{fault as faultAt, located, _>>=_}
+use Rattle.format.specs.Names.{Bound, Text, text, fault, faultNumber, readText, nameText, valueText, below}
+use Rattle.format.specs.Entry.{GroupState, readValue, readEntry}
+use Rattle.format.specs.Symbols.{entries}
 use Rattle.heap.specs.Segment.{chainedHeap}
 use Rattle.heap.specs.Texts.{faultOf, TextRead}
 use Rattle.heap.specs.declared.names.NameFault.{NameFault}
@@ -17,9 +19,9 @@ use Rattle.heap.specs.declared.names.Text.the-variants as texts
 use Rattle.ledger.specs.Links.{linkSum}
 use Rattle.ledger.specs.Table.{linkedOf}
 use Rattle.walk.proofs.Bind.{ret-bind, refuse-bind}
-use Rattle.walk.proofs.Checks.{placed-value, placed-refusal, passes, fails, takes-then, takes-else, gives, refuses}
+use Rattle.walk.proofs.Results.{passes, fails, gives, answers}
 use Rattle.walk.proofs.Parts.{part-part, drop-part}
-use Rattle.walk.proofs.Tests.{field-equal, field-unequal, field-most, field-above}
+use Rattle.walk.proofs.Tests.{takes-then, takes-else, field-equal, field-unequal, field-most, field-above}
 use Rattle.symbol.specs.Range.{nameIn, rangeHolds, Tight}
 use Rattle.symbol.specs.Visit.{Both, visitBoth, Visited}
 use Rattle.symbol.specs.Entry.{groupOf, stateOf, ValueIs, Ready, NameSound, Kept, EntryIs, EntriesAre}
@@ -45,19 +47,19 @@ first-field im at m l = let e : at + 0 ≡ at = omega arith in field im at m 0 8
 -- A link's value, by the entry's type and then by the string that stands there.
 module _ (im seg : List ℕ) (head free kind at : ℕ) where
   pub value-none : (kind ≡ 2 → ⊥) → ValueIs im seg head free kind at Sound
-  unfolding valueWalk
+  unfolding readValue
   value-none n = λ m l i k. takes-else _ _ (field-unequal (sym k) n) refl
 
   module _ (two : kind ≡ 2) (off : ℕ) (o : off ≡ u32 im (at + 24)) where
-    value-there : (m : ℕ) → 40 ≤ m → (t : Text) → t ≡ valueText (chainedHeap seg head free) off → textWalk t ≡ textWalk (valueText (chainedHeap seg head free) (u32 (part im at m) 24))
-    value-there m l t e = ap textWalk (e ∙ ap (valueText (chainedHeap seg head free)) (o ∙ sym (field im at m 24 4 l (omega arith))))
+    value-there : (m : ℕ) → 40 ≤ m → (t : Text) → t ≡ valueText (chainedHeap seg head free) off → readText t ≡ readText (valueText (chainedHeap seg head free) (u32 (part im at m) 24))
+    value-there m l t e = ap readText (e ∙ ap (valueText (chainedHeap seg head free)) (o ∙ sym (field im at m 24 4 l (omega arith))))
 
     pub value-refused : (f : NameFault) (n : ℕ) → n ≡ faultNumber (faultOf f) → fault (faultOf f) ≡ valueText (chainedHeap seg head free) off → ValueIs im seg head free kind at (Unsound n)
-    unfolding valueWalk
-    value-refused f n p e = λ m l i k. takes-then _ _ (field-equal (sym k) two) (refuses _ (ap (λ (y : ℕ). refuse (answer y)) p ∙ value-there m l (fault (faultOf f)) e))
+    unfolding readValue
+    value-refused f n p e = λ m l i k. takes-then _ _ (field-equal (sym k) two) (answers _ (ap answer p ∙ value-there m l (fault (faultOf f)) e))
 
     pub value-read : (t : List ℕ) → text t ≡ valueText (chainedHeap seg head free) off → ValueIs im seg head free kind at Sound
-    unfolding valueWalk
+    unfolding readValue
     value-read t e = λ m l i k. takes-then _ _ (field-equal (sym k) two) (gives _ (value-there m l (text t) e) refl)
 
 -- what was read, by the case that it is
@@ -83,43 +85,43 @@ name-sound im seg g at off n o h =
 module _ (im seg wanted addresses counts : List ℕ) (g : Group) (r : Range) (at : ℕ) (s : State) (addresses′ counts′ : List ℕ) where
   pub name-refused : (off : ℕ) → off ≡ u64 im at → (f : NameFault) (n : ℕ) → n ≡ faultNumber (faultOf f) → fault (faultOf f) ≡ nameText (chainedHeap seg (g .head) (g .free)) off →
       EntryIs im seg wanted addresses counts g r at s addresses′ counts′ (Stopped (faultAt n at))
-  unfolding entryWalk
+  unfolding readEntry
   name-refused off o f n p e = record {
-    walk = λ bounds m t l i. placed-refusal at (refuses _ (ap (λ (y : ℕ). refuse (answer y)) p ∙ ap textWalk (e ∙ ap (nameText (chainedHeap seg (g .head) (g .free))) (o ∙ sym (first-field im at m l)))));
+    walk = λ bounds m t l i. ap (located at) (answers _ (ap answer p ∙ ap readText (e ∙ ap (nameText (chainedHeap seg (g .head) (g .free))) (o ∙ sym (first-field im at m l)))));
     kept = tt;
   }
 
   module _ (n : Name) (sound : NameSound im seg g at n) where
-    name-there : (m : ℕ) → 40 ≤ m → ret (nameIn seg n) ≡ textWalk (nameText (chainedHeap seg (g .head) (g .free)) (u64 (part im at m) 0))
-    name-there m l = ap textWalk (sym (sound .is) ∙ ap (nameText (chainedHeap seg (g .head) (g .free))) (sym (first-field im at m l)))
+    name-there : (m : ℕ) → 40 ≤ m → value (nameIn seg n) ≡ readText (nameText (chainedHeap seg (g .head) (g .free)) (u64 (part im at m) 0))
+    name-there m l = ap readText (sym (sound .is) ∙ ap (nameText (chainedHeap seg (g .head) (g .free))) (sym (first-field im at m l)))
 
     pub order-refused : false ≡ below (nameIn seg (s .last)) (nameIn seg n) → EntryIs im seg wanted addresses counts g r at s addresses′ counts′ (Stopped (faultAt 8 at))
-    unfolding entryWalk
-    order-refused e = record { walk = λ bounds m t l i. placed-refusal at (gives _ (name-there m l) (fails _ _ (sym e))); kept = tt }
+    unfolding readEntry
+    order-refused e = record { walk = λ bounds m t l i. ap (located at) (gives _ (name-there m l) (fails _ _ (sym e))); kept = tt }
 
     module _ (rises : true ≡ below (nameIn seg (s .last)) (nameIn seg n)) where
       pub range-refused : false ≡ rangeHolds seg r (nameIn seg n) → EntryIs im seg wanted addresses counts g r at s addresses′ counts′ (Stopped (faultAt 8 at))
-      unfolding entryWalk
-      range-refused e = record { walk = λ bounds m t l i. placed-refusal at (gives _ (name-there m l) (passes _ _ (sym rises) (fails _ _ (t (nameIn seg n) ∙ sym e)))); kept = tt }
+      unfolding readEntry
+      range-refused e = record { walk = λ bounds m t l i. ap (located at) (gives _ (name-there m l) (passes _ _ (sym rises) (fails _ _ (t (nameIn seg n) ∙ sym e)))); kept = tt }
 
       module _ (held : true ≡ rangeHolds seg r (nameIn seg n)) (kind : ℕ) (k : kind ≡ u32 im (at + 16)) where
         kind-there : (m : ℕ) → 40 ≤ m → u32 (part im at m) 16 ≡ kind
         kind-there m l = field im at m 16 4 l (omega arith) ∙ sym k
 
         pub type-refused : 2 < kind → EntryIs im seg wanted addresses counts g r at s addresses′ counts′ (Stopped (faultAt 8 at))
-        unfolding entryWalk
+        unfolding readEntry
         type-refused h = record {
-          walk = λ bounds m t l i. placed-refusal at (gives _ (name-there m l) (passes _ _ (sym rises) (passes _ _ (t (nameIn seg n) ∙ sym held) (fails _ _ (field-above (kind-there m l) h)))));
+          walk = λ bounds m t l i. ap (located at) (gives _ (name-there m l) (passes _ _ (sym rises) (passes _ _ (t (nameIn seg n) ∙ sym held) (fails _ _ (field-above (kind-there m l) h)))));
           kept = tt;
         }
 
         module _ (known : kind ≤ 2) where
           pub link-refused : (x : ℕ) → ValueIs im seg (g .head) (g .free) kind at (Unsound x) → EntryIs im seg wanted addresses counts g r at s addresses′ counts′ (Stopped (faultAt x at))
-          unfolding entryWalk
+          unfolding readEntry
           link-refused x v = record {
             walk = λ bounds m t l i.
-                placed-refusal at (gives _ (name-there m l) (passes _ _ (sym rises) (passes _ _ (t (nameIn seg n) ∙ sym held) (passes _ _ (field-most (kind-there m l) known)
-                (refuses _ (v m l i (sym (kind-there m l))))))));
+                ap (located at) (gives _ (name-there m l) (passes _ _ (sym rises) (passes _ _ (t (nameIn seg n) ∙ sym held) (passes _ _ (field-most (kind-there m l) known)
+                (answers _ (v m l i (sym (kind-there m l))))))));
             kept = tt;
           }
 
@@ -135,21 +137,21 @@ module _ (im seg wanted addresses counts : List ℕ) (g : Group) (r : Range) (at
             pub visit-refused :
                 Visited addresses counts (s .objects) (g .auditing) (nameIn seg n) wanted kind header (s .link) addresses′ counts′ visits.Full →
                 EntryIs im seg wanted addresses counts g r at s addresses′ counts′ (Stopped (faultAt 12 at))
-            unfolding entryWalk
+            unfolding readEntry
             visit-refused d = record {
               walk = λ bounds m t l i.
-                  placed-refusal at (gives _ (name-there m l) (passes _ _ (sym rises) (passes _ _ (t (nameIn seg n) ∙ sym held) (passes _ _ (field-most (kind-there m l) known)
-                  (gives _ (v m l i (sym (kind-there m l))) (refuses _ (d .walk ∙ visit-there m l _)))))));
+                  ap (located at) (gives _ (name-there m l) (passes _ _ (sym rises) (passes _ _ (t (nameIn seg n) ∙ sym held) (passes _ _ (field-most (kind-there m l) known)
+                  (gives _ (v m l i (sym (kind-there m l))) (answers _ (d .walk ∙ visit-there m l _)))))));
               kept = tt;
             }
 
             pub visited : (objects : ℕ) (link : Link) →
                 Visited addresses counts (s .objects) (g .auditing) (nameIn seg n) wanted kind header (s .link) addresses′ counts′ (visits.Done objects link) →
                 EntryIs im seg wanted addresses counts g r at s addresses′ counts′ (Done (record { count = s .count; objects = objects; last = n; link = link }))
-            unfolding entryWalk
+            unfolding readEntry
             visited objects link d = record {
               walk = λ bounds m t l i.
-                  placed-value at (gives _ (name-there m l) (passes _ _ (sym rises) (passes _ _ (t (nameIn seg n) ∙ sym held) (passes _ _ (field-most (kind-there m l) known)
+                  ap (located at) (gives _ (name-there m l) (passes _ _ (sym rises) (passes _ _ (t (nameIn seg n) ∙ sym held) (passes _ _ (field-most (kind-there m l) known)
                   (gives _ (v m l i (sym (kind-there m l))) (gives _ (d .walk ∙ visit-there m l _) refl))))));
               kept = record { blocks = refl; last = sound .inside; table = d .table .0; links = d .table .1 };
             }
@@ -183,8 +185,8 @@ pub links-fit : (x y i n : ℕ) → x ≤ y + i → y + n < 2 ^ 32 → i < n →
 links-fit x y i n h k l = omega arith
 
 -- the next of k + 1 entries
-entries-next : {S : Type 0} (g : Rattle.format.specs.Symbols.Group S) (bounds : List Bound) (k at : ℕ) (b : List ℕ) (s : GroupState S) →
-    entries g bounds (suc k) at b s ≡ (located at (entryWalk g bounds b s) >>= λ s′. entries g bounds k (at + 40) (drop 40 b) s′)
+entries-next : {S : Type 0} (g : Rattle.format.specs.Entry.Group S) (bounds : List Bound) (k at : ℕ) (b : List ℕ) (s : GroupState S) →
+    entries g bounds (suc k) at b s ≡ (located at (readEntry g bounds b s) >>= λ s′. entries g bounds k (at + 40) (drop 40 b) s′)
 unfolding entries
 entries-next g bounds k at b s = refl
 
@@ -204,7 +206,7 @@ module _ (im seg wanted addresses₀ counts₀ : List ℕ) (g : Group) (r : Rang
     -- the walk from here on, by its next entry
     reading-next : (bounds : List Bound) (m : ℕ) → Tight seg r bounds → 40 * n ≤ m → from + m ≤ length im →
         entries (groupOf seg wanted g) bounds n from (part im from m) (stateOf seg addresses₀ counts₀ s₀)
-        ≡ (located (from + 40 * i) (entryWalk (groupOf seg wanted g) bounds (part im (from + 40 * i) (m - 40 * i)) (stateOf seg addresses counts s))
+        ≡ (located (from + 40 * i) (readEntry (groupOf seg wanted g) bounds (part im (from + 40 * i) (m - 40 * i)) (stateOf seg addresses counts s))
         >>= λ s′. entries (groupOf seg wanted g) bounds (n - (i + 1)) (from + 40 * i + 40) (drop 40 (part im (from + 40 * i) (m - 40 * i))) s′)
     reading-next bounds m t l j =
         let e : n - i ≡ suc (n - (i + 1)) = omega arith in

@@ -8,12 +8,14 @@ use lib.Dec.{ltb}
 use lib.ListN.{length, drop}
 use Rattle.format.specs.Bytes.{if_then_else_, part, u64}
 use Rattle.format.specs.Blocks.{Block}
-use Rattle.format.specs.Walk.{fault as faultAt, answer, located, ret, _>>=_}
+use Rattle.format.specs.Result.{value}
+use Rattle.format.specs.Walk.{fault as faultAt, located, ret, _>>=_}
 use Rattle.format.specs.Heap.{Heap}
-use Rattle.format.specs.Names.{Text, text, fault, outside, noNul, faultNumber, textWalk, beforeNul, stringAt, keyText}
+use Rattle.format.specs.Names.{Text, text, fault, outside, noNul, faultNumber, readText, beforeNul, stringAt, keyText}
 use Rattle.format.specs.Tree.{keysWalk}
 use Rattle.walk.proofs.Bind.{ret-bind, refuse-bind}
-use Rattle.walk.proofs.Checks.{both-done, placed-done, located-refused, located-returned}
+use Rattle.walk.proofs.Checks.{both-done}
+use Rattle.walk.proofs.Results.{located-done}
 use Rattle.walk.proofs.Parts.{drop-part, part-part}
 use Rattle.heap.specs.Segment.{heapWith}
 use Rattle.heap.specs.Texts.{faultOf, textOf, TextRead}
@@ -46,13 +48,13 @@ key-string seg free off t e = go (not (ltb off (length seg))) (not (ltb (off + b
     go false true f = let z : _≡_ {A = ℕ} 0 1 = cc in absurd (omega arith)
     go false false f = cc
 
-text-done : (x : Text) (t : List ℕ) → textWalk x ≡ ret t → x ≡ text t
-text-done (text s) t e = let f : s ≡ t = cc in ap text f
-text-done (fault f) t e = let z : _≡_ {A = ℕ} 0 1 = cc in absurd (omega arith)
+text-value : (x : Text) (t : List ℕ) → readText x ≡ value t → x ≡ text t
+text-value (text s) t e = let f : s ≡ t = cc in ap text f
+text-value (fault f) t e = let z : _≡_ {A = ℕ} 0 1 = cc in absurd (omega arith)
 
 -- the first key of n + 1, then the others
 keys-more : (h : Heap) (n : ℕ) (im : List ℕ) (from m : ℕ) → 8 ≤ m →
-    keysWalk h (suc n) from (part im from m) ≡ located from (textWalk (keyText h (u64 im from))) >>= λ _. keysWalk h n (from + 16) (part im (from + 16) (m - 16))
+    keysWalk h (suc n) from (part im from m) ≡ located from (readText (keyText h (u64 im from))) >>= λ _. keysWalk h n (from + 16) (part im (from + 16) (m - 16))
 unfolding keysWalk
 keys-more h n im from m l =
     let z : from + 0 ≡ from = omega arith in
@@ -79,7 +81,7 @@ keys-end im seg from n i f g h m e k l =
 module _ (im seg : List ℕ) (from n i : ℕ) (f : KeysFrom im seg from n i) (g : i < n) (off : ℕ) (o : off ≡ u64 im (from + 16 * i)) where
   -- the ith key, then the others
   here : (h : Heap) (m : ℕ) → h .segment ≡ seg → 16 * n ≤ m + 8 → from + m ≤ length im →
-      keysWalk h n from (part im from m) ≡ located (from + 16 * i) (textWalk (keyText (heapWith seg []) off)) >>= λ _. keysWalk h (n - (i + 1)) (from + 16 * (i + 1)) (part im (from + 16 * (i + 1)) (m - 16 * (i + 1)))
+      keysWalk h n from (part im from m) ≡ located (from + 16 * i) (readText (keyText (heapWith seg []) off)) >>= λ _. keysWalk h (n - (i + 1)) (from + 16 * (i + 1)) (part im (from + 16 * (i + 1)) (m - 16 * (i + 1)))
   here h m e k l =
       let a : n - i ≡ suc (n - (i + 1)) = omega arith in
       let b : from + 16 * i + 16 ≡ from + 16 * (i + 1) = omega arith in
@@ -91,10 +93,10 @@ module _ (im seg : List ℕ) (from n i : ℕ) (f : KeysFrom im seg from n i) (g 
 
   pub keys-fault : {r : _} (x : NameFault) (y : ℕ) → r ≡ Fault x → ((free : List Block) → TextRead seg off r (keyText (heapWith seg free) off)) → y ≡ faultNumber (faultOf x) → KeysAre im seg from n (Unsound (faultAt y (from + 16 * i)))
   keys-fault x y p t q h m e k l =
-      sym (here h m e k l ∙ rw (← t [] .value, p, q) (located-refused (from + 16 * i) _ _))
+      sym (here h m e k l ∙ rw (← t [] .value, p, q) (refuse-bind (faultAt _ (from + 16 * i)) _))
 
   pub keys-next : {r : _} (size : ℕ) → r ≡ Sound size → ((free : List Block) → TextRead seg off r (keyText (heapWith seg free) off)) → KeysFrom im seg from n (i + 1)
-  keys-next size p t h m e k l = here h m e k l ∙ rw (← t [] .value, p) (located-returned (from + 16 * i) _ _)
+  keys-next size p t h m e k l = here h m e k l ∙ rw (← t [] .value, p) (ret-bind _ _)
 
 -- where the walk of n keys is done, each of them is a string of the segment
 pub keys-sound : (h : Heap) (im seg : List ℕ) (n from m : ℕ) → keysWalk h n from (part im from m) ≡ ret tt → h .segment ≡ seg → 16 * n ≤ m + 8 → from + m ≤ length im → (i : ℕ) → i < n → KeyAt im seg (from + 16 * i)
@@ -102,7 +104,7 @@ keys-sound h im seg zero from m w e k l i g = absurd (omega arith)
 keys-sound h im seg (suc n) from m w e k l zero g =
     let d = both-done _ _ tt (sym (keys-more h n im from m (omega arith)) ∙ w) in
     let z : from + 16 * 0 ≡ from = omega arith in
-    rw z record { inside = omega arith; sound = (d .0, sym (key-segment h seg (u64 im from) e []) ∙ text-done _ (d .0) (placed-done _ (d .0) from (d .1))) }
+    rw z record { inside = omega arith; sound = (d .0, sym (key-segment h seg (u64 im from) e []) ∙ text-value _ (d .0) (located-done _ (d .0) from (d .1))) }
 keys-sound h im seg (suc n) from m w e k l (suc i) g =
     let d = both-done _ _ tt (sym (keys-more h n im from m (omega arith)) ∙ w) in
     let z : from + 16 * suc i ≡ from + 16 + 16 * i = omega arith in

@@ -7,10 +7,10 @@ use native.Mathlib.Omega.{arith}
 use borrow.Author.Tests.{le-leb, lt-leb}
 use lib.Dec.{leb}
 use Rattle.format.specs.Bytes.{if_then_else_, sameBytes}
-use Rattle.format.specs.Walk.{ret}
-use Rattle.format.specs.Symbols.{Entry}
+use Rattle.format.specs.Result.{value}
+use Rattle.format.specs.Entry.{Entry}
 use Rattle.format.specs.Lookup.{hard, soft, compareName}
-use Rattle.walk.proofs.Bind.{ret-bind, refuse-bind}
+use Rattle.walk.proofs.Results.{value-bind, answer-bind}
 use Rattle.ledger.specs.Table.{linkedOf, Table, Discovered}
 use Rattle.ledger.specs.declared.table.Discovery.{Discovery}
 use Rattle.ledger.specs.declared.table.Discovery.the-variants.{Counted, Full as TableFull}
@@ -47,27 +47,27 @@ module _ (xs ts : List ℕ) (n : ℕ) (t : Table xs ts n) (name wanted : List �
   unfolding visitBoth compareName
   visit-compared auditing l′ u e = rw u record {
     walk =
-        ap (λ (k : Rattle.format.specs.Lookup.Link). ret (record { ledger = linkedOf n xs ts; link = k })) (ap linkOf e ∙ link-chosen (sameBytes name wanted) (leb kind 1) header l)
-        ∙ sym (ret-bind _ _);
+        ap (λ (k : Rattle.format.specs.Lookup.Link). value (record { ledger = linkedOf n xs ts; link = k })) (ap linkOf e ∙ link-chosen (sameBytes name wanted) (leb kind 1) header l)
+        ∙ sym (value-bind _ _);
     table = (t, omega arith);
   }
 
   pub visit-passed : (auditing : Bool) → auditing ≡ true → 1 < kind → Visited xs ts n auditing name wanted kind header l xs ts (Done n l)
   unfolding visitBoth
-  visit-passed auditing u h = rw u record { walk = rw (discover-other entry (linkedOf n xs ts) (lt-leb kind 1 h)) (sym (ret-bind _ _)); table = (t, omega arith) }
+  visit-passed auditing u h = rw u record { walk = rw (discover-other entry (linkedOf n xs ts) (lt-leb kind 1 h)) (sym (value-bind _ _)); table = (t, omega arith) }
 
   module _ (auditing : Bool) (u : auditing ≡ true) (h : kind ≤ 1) (xs′ ts′ : List ℕ) where
     pub visit-full : {r : Discovery} → r ≡ TableFull → Discovered xs ts n header xs′ ts′ r → Visited xs ts n auditing name wanted kind header l xs′ ts′ Full
     unfolding visitBoth
     visit-full e d =
         let f : Discovered xs ts n header xs′ ts′ TableFull = rw e at d in
-        rw u record { walk = rw (discover-hard entry (linkedOf n xs ts) (le-leb kind 1 h), ← f .walk) (sym (refuse-bind _ _)); table = tt }
+        rw u record { walk = rw (discover-hard entry (linkedOf n xs ts) (le-leb kind 1 h), ← f .walk) (sym (answer-bind _ _)); table = tt }
 
     pub visit-counted : {r : Discovery} (m : ℕ) → r ≡ Counted m → Discovered xs ts n header xs′ ts′ r → Visited xs ts n auditing name wanted kind header l xs′ ts′ (Done m l)
     unfolding visitBoth
     visit-counted m e d =
         let f : Discovered xs ts n header xs′ ts′ (Counted m) = rw e at d in
         rw u record {
-          walk = rw (discover-hard entry (linkedOf n xs ts) (le-leb kind 1 h), ← f .walk) (sym (ret-bind _ _));
+          walk = rw (discover-hard entry (linkedOf n xs ts) (le-leb kind 1 h), ← f .walk) (sym (value-bind _ _));
           table = (f .table, omega (arith, discovered-sum xs ts n header xs′ ts′ m f));
         }

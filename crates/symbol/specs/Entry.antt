@@ -4,9 +4,11 @@ use mathlib.Core.List.{List}
 use mathlib.Core.Path.{_≡_}
 use lib.ListN.{length}
 use Rattle.format.specs.Bytes.{part, littleEndian, u64}
-use Rattle.format.specs.Walk.{Walk, ret, refuse, answer, located}
+use Rattle.format.specs.Result.{Result, value, answer}
+use Rattle.format.specs.Walk.{Walk, ret, refuse, located}
 use Rattle.format.specs.Names.{Bound, nameText, text}
-use Rattle.format.specs.Symbols.{GroupState, valueWalk, entryWalk, entries}
+use Rattle.format.specs.Entry.{GroupState, readValue, readEntry}
+use Rattle.format.specs.Symbols.{entries}
 use Rattle.heap.specs.FreeBlocks.{Chained}
 use Rattle.heap.specs.Segment.{chainedHeap}
 use Rattle.ledger.specs.Links.{linkSum}
@@ -23,7 +25,7 @@ use Rattle.symbol.specs.declared.entry.Value.{Value}
 use Rattle.symbol.specs.declared.entry.Value.the-variants.{Sound, Unsound}
 
 -- the group as the definitions have it, with the visit for both uses
-abbrev pub groupOf : List ℕ → List ℕ → Group → Rattle.format.specs.Symbols.Group Both
+abbrev pub groupOf : List ℕ → List ℕ → Group → Rattle.format.specs.Entry.Group Both
 groupOf seg wanted g = record { leafK = g .«leaf_k»; internalK = g .«internal_k»; heap = chainedHeap seg (g .head) (g .free); visit = visitBoth (g .auditing) wanted }
 
 abbrev pub stateOf : List ℕ → List ℕ → List ℕ → State → GroupState Both
@@ -31,16 +33,16 @@ stateOf seg addresses counts s = record { last = nameIn seg (s .last); found = b
 
 abbrev pub stepOf : List ℕ → List ℕ → List ℕ → Step → Walk (GroupState Both)
 stepOf seg addresses counts (Done s) = ret (stateOf seg addresses counts s)
-stepOf seg addresses counts (Stopped n) = refuse n
+stepOf seg addresses counts (Stopped r) = refuse r
 
-abbrev pub valueOf : Value → Walk (Unit {0})
-valueOf Sound = ret tt
-valueOf (Unsound n) = refuse (answer n)
+abbrev pub valueOf : Value → Result (Unit {0})
+valueOf Sound = value tt
+valueOf (Unsound n) = answer n
 
--- a value was read as its walk reads it, where the entry's type is this one
+-- a value was read as its reader reads it, where the entry's type is this one
 abbrev pub ValueIs : List ℕ → List ℕ → ℕ → ℕ → ℕ → ℕ → Value → Type 0
 ValueIs im seg head free kind at r =
-    (m : ℕ) → 40 ≤ m → at + m ≤ length im → kind ≡ littleEndian (part (part im at m) 16 4) → valueOf r ≡ valueWalk (chainedHeap seg head free) (part im at m)
+    (m : ℕ) → 40 ≤ m → at + m ≤ length im → kind ≡ littleEndian (part (part im at m) 16 4) → valueOf r ≡ readValue (chainedHeap seg head free) (part im at m)
 
 -- what holds at an entry: the free list can be followed, the strings lie in the segment, and the table is one
 pub record Ready (seg addresses counts : List ℕ) (g : Group) (r : Range) (s : State) : Type 0 where
@@ -65,10 +67,10 @@ abbrev pub KeptIf : List ℕ → List ℕ → List ℕ → State → ℕ → Lis
 KeptIf seg addresses counts s n addresses′ counts′ (Done s′) = Kept seg addresses counts s n addresses′ counts′ s′
 KeptIf seg addresses counts s n addresses′ counts′ (Stopped x) = Unit {0}
 
--- the entry at `at` was read as its walk reads it, from any part of the image that holds it
+-- the entry at `at` was read as its reader reads it, from any part of the image that holds it
 pub record EntryIs (im seg wanted addresses counts : List ℕ) (g : Group) (r : Range) (at : ℕ) (s : State) (addresses′ counts′ : List ℕ) (x : Step) : Type 0 where
   pub walk : (bounds : List Bound) (m : ℕ) → Tight seg r bounds → 40 ≤ m → at + m ≤ length im →
-      stepOf seg addresses′ counts′ x ≡ located at (entryWalk (groupOf seg wanted g) bounds (part im at m) (stateOf seg addresses counts s))
+      stepOf seg addresses′ counts′ x ≡ located at (readEntry (groupOf seg wanted g) bounds (part im at m) (stateOf seg addresses counts s))
   pub kept : KeptIf seg addresses counts s 1 addresses′ counts′ x
 
 -- n entries were read as their walk reads them

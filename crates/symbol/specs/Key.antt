@@ -16,7 +16,7 @@ use Rattle.symbol.specs.declared.key.Keys.the-variants.{Sound, Unsound}
 
 abbrev pub keysOf : Keys → Walk (Unit {0})
 keysOf Sound = ret tt
-keysOf (Unsound n) = refuse n
+keysOf (Unsound r) = refuse r
 
 -- n keys from `from` on were read as their walk reads them, in a heap with this segment, from any part of the image that holds them
 abbrev pub KeysAre : List ℕ → List ℕ → ℕ → ℕ → Keys → Type 0

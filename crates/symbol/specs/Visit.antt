@@ -5,8 +5,8 @@ use mathlib.Core.List.{List}
 use mathlib.Core.Path.{_≡_}
 use lib.Dec.{leb}
 use Rattle.format.specs.Bytes.{if_then_else_, sameBytes}
-use Rattle.format.specs.Walk.{answer, Walk, ret, refuse, _>>=_}
-use Rattle.format.specs.Symbols.{Entry}
+use Rattle.format.specs.Result.{Result, value, answer, _>>=_}
+use Rattle.format.specs.Entry.{Entry}
 use Rattle.format.specs.Ledger.{Linked, discover}
 use Rattle.format.specs.Lookup.{absent, hard, soft, compareName}
 use Rattle.ledger.specs.Links.{linkSum}
@@ -22,9 +22,9 @@ pub record Both : Type 0 where
   pub link : Rattle.format.specs.Lookup.Link
 
 -- the audit discovers and a lookup compares; each leaves the other's part as it is
-unfoldable pub visitBoth : Bool → List ℕ → Entry → Both → Walk Both
-visitBoth true wanted e b = discover e (b .ledger) >>= λ os. ret (record { ledger = os; link = b .link })
-visitBoth false wanted e b = compareName wanted e (b .link) >>= λ l. ret (record { ledger = b .ledger; link = l })
+unfoldable pub visitBoth : Bool → List ℕ → Entry → Both → Result Both
+visitBoth true wanted e b = discover e (b .ledger) >>= λ os. value (record { ledger = os; link = b .link })
+visitBoth false wanted e b = compareName wanted e (b .link) >>= λ l. value (record { ledger = b .ledger; link = l })
 
 abbrev pub linkOf : Link → Rattle.format.specs.Lookup.Link
 linkOf Absent = absent
@@ -38,9 +38,9 @@ linkAfter name wanted kind header l = if sameBytes name wanted then if leb kind 
 abbrev pub bothOf : List ℕ → List ℕ → ℕ → Link → Both
 bothOf addresses counts objects l = record { ledger = linkedOf objects addresses counts; link = linkOf l }
 
-abbrev pub visitOf : List ℕ → List ℕ → Visit → Walk Both
-visitOf addresses counts (Done objects l) = ret (bothOf addresses counts objects l)
-visitOf addresses counts Full = refuse (answer 12)
+abbrev pub visitOf : List ℕ → List ℕ → Visit → Result Both
+visitOf addresses counts (Done objects l) = value (bothOf addresses counts objects l)
+visitOf addresses counts Full = answer 12
 
 -- the table is one again, with one link more at most
 abbrev pub TableKept : List ℕ → List ℕ → ℕ → List ℕ → List ℕ → Visit → Type 0

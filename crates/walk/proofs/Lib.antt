@@ -3,6 +3,7 @@ pub mod Overwrite
 pub mod BlockList
 pub mod Tests
 pub mod Checks
+pub mod Results
 pub mod Parts
 pub mod Bind
 pub mod Plan

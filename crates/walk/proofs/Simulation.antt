@@ -2,7 +2,7 @@
 use mathlib.Core.Path.{_≡_, refl, ap, sym, _∙_}
 use mathlib.Core.Bool.{Bool, true, false}
 use mathlib.Core.List.{List, [], _∷_, _++_}
-use Prim.Native.Nat.{ℕ, suc, zero, _+_, _≤_, _<_}
+use Prim.Native.Nat.{ℕ, suc, _+_, _≤_, _<_}
 use native.Mathlib.Omega.{arith}
 use native.Mathlib.Numerals.{add-one}
 use lib.ListN.{length, getD, set, length-append, length-set}
@@ -11,12 +11,12 @@ use borrow.Author.Tests.{lt-leb}
 use Rattle.format.specs.Bytes.{if_then_else_, part}
 use Rattle.format.specs.Blocks.{Block, block, entryAnswer}
 use Rattle.format.specs.declared.Refusal.{Refusal}
-use Rattle.format.specs.Walk.{Kind, kindNumber, notEntered, shown, Length, fixed, stored, lengthIn, knownLength, Walk, ret, refuse, enter, enterBlock, check, _>>=_, _>>_, Outcome, done, refused, ifEntered, run, andThen}
-use Rattle.walk.specs.Lent.{blocksOf, Lent, Ended, ended, stopped, endOf, left, Walked, entering, entered, entryEnd}
+use Rattle.format.specs.Walk.{Kind, kindNumber, notEntered, shown, Length, stored, lengthIn, knownLength, Walk, ret, refuse, enter, enterBlock, check, _>>=_, _>>_, Outcome, done, refused, ifEntered, run, andThen}
+use Rattle.walk.specs.Lent.{blocksOf, Lent, Ended, ended, stopped, left, Walked, entering, entered, entryEnd}
 use Rattle.walk.specs.declared.blocks.Entry.{Entry}
 use Rattle.walk.specs.declared.blocks.Entry.the-variants.{Entered, Refused}
 use Rattle.walk.proofs.Bind.{run-bind}
-use Rattle.walk.proofs.Growth.{Grown, run-grown}
+use Rattle.walk.proofs.Growth.{run-grown}
 use Rattle.walk.proofs.BlockList.{length-blocksOf, blocks-snoc, entered-zero, refused-suc, entryAnswer-zero, entryAnswer-outside}
 
 -- The walk w₀, begun with n₀ blocks in the list ws₀, has come to w, with n blocks in ws.
@@ -36,17 +36,17 @@ walked-done ws ws′ a c (done b bs) w =
     let e : length bs ≡ c = cc (w .answer) in
     let f : b ≡ a = cc (w .answer) in
     rw f (ap (done a) (rw e at (sym (w .held))))
-walked-done ws ws′ a c (refused n bs) w = let z : _≡_ {A = ℕ} 0 1 = cc (w .answer) in absurd (omega arith)
+walked-done ws ws′ a c (refused r bs) w = let z : _≡_ {A = ℕ} 0 1 = cc (w .answer) in absurd (omega arith)
 
 -- a function that stopped: the outcome is its answer
-pub walked-refused : {A : Type 0} (ws ws′ : List ℕ) (x : Refusal) (o : Outcome A) → Walked ws ws′ (stopped x) o → (bs : List Block) × (o ≡ refused x bs)
-walked-refused ws ws′ x (done a bs) w = let z : _≡_ {A = ℕ} 0 1 = cc (w .answer) in absurd (omega arith)
-walked-refused ws ws′ x (refused n bs) w = let e : n ≡ x = cc (w .answer) in (bs, rw e refl)
+pub walked-refused : {A : Type 0} (ws ws′ : List ℕ) (r : Refusal) (o : Outcome A) → Walked ws ws′ (stopped r) o → (bs : List Block) × (o ≡ refused r bs)
+walked-refused ws ws′ r (done a bs) w = let z : _≡_ {A = ℕ} 0 1 = cc (w .answer) in absurd (omega arith)
+walked-refused ws ws′ r (refused q bs) w = let e : q ≡ r = cc (w .answer) in (bs, rw e refl)
 
 -- a function that stopped has stopped what follows it too
-walked-stopped : {A B : Type 0} (ws ws′ : List ℕ) (n : Refusal) (o : Outcome A) (f : A → List Block → Outcome B) → Walked ws ws′ (stopped n) o → Walked ws ws′ (stopped n) (andThen o f)
-walked-stopped ws ws′ n (done b bs) f w = let z : _≡_ {A = ℕ} 0 1 = cc (w .answer) in absurd (omega arith)
-walked-stopped ws ws′ n (refused m bs) f w = let e : n ≡ m = cc (w .answer) in record { answer = ap stopped e; held = w .held; rest = w .rest }
+walked-stopped : {A B : Type 0} (ws ws′ : List ℕ) (r : Refusal) (o : Outcome A) (f : A → List Block → Outcome B) → Walked ws ws′ (stopped r) o → Walked ws ws′ (stopped r) (andThen o f)
+walked-stopped ws ws′ r (done b bs) f w = let z : _≡_ {A = ℕ} 0 1 = cc (w .answer) in absurd (omega arith)
+walked-stopped ws ws′ r (refused q bs) f w = let e : r ≡ q = cc (w .answer) in record { answer = ap stopped e; held = w .held; rest = w .rest }
 
 -- one stretch of the walk behind another
 pub come-from : {im : List ℕ} {eof room : ℕ} {A : Type 0} {w₀ w₁ w₂ : Walk A} {n₀ n₁ n₂ : ℕ} {ws₀ ws₁ ws₂ : List ℕ} →
@@ -75,18 +75,18 @@ module _ {im : List ℕ} {eof room : ℕ} {A : Type 0} {w₀ : Walk A} {n₀ : �
   unfolding run
   returned {a} s = rw (s .sameRun) (record { answer = ap (ended a) (sym (length-blocksOf n ws)); held = rw length-blocksOf; rest = λ k h. s .rest k (rw length-blocksOf at h) })
 
-  pub refusal : {m : Refusal} → Simulation im eof room w₀ n₀ ws₀ (refuse m) n ws → Walked ws₀ ws (stopped m) (run im eof room w₀ (blocksOf n₀ ws₀))
+  pub refusal : {r : Refusal} → Simulation im eof room w₀ n₀ ws₀ (refuse r) n ws → Walked ws₀ ws (stopped r) (run im eof room w₀ (blocksOf n₀ ws₀))
   unfolding run
   refusal s = rw (s .sameRun) (record { answer = refl; held = rw length-blocksOf; rest = λ k h. s .rest k (rw length-blocksOf at h) })
 
   -- a test that passed, and one that failed
-  pub passed : (t : Bool) (m : Refusal) (f : Unit {0} → Walk A) → t ≡ true → Simulation im eof room w₀ n₀ ws₀ (check t m >>= f) n ws → Simulation im eof room w₀ n₀ ws₀ (f tt) n ws
+  pub passed : (t : Bool) (r : Refusal) (f : Unit {0} → Walk A) → t ≡ true → Simulation im eof room w₀ n₀ ws₀ (check t r >>= f) n ws → Simulation im eof room w₀ n₀ ws₀ (f tt) n ws
   unfolding _>>=_
-  passed t m f e s = same-walk (f tt) (rw e) s
+  passed t r f e s = same-walk (f tt) (rw e) s
 
-  pub failed : (t : Bool) (m : Refusal) (f : Unit {0} → Walk A) → t ≡ false → Simulation im eof room w₀ n₀ ws₀ (check t m >>= f) n ws → Walked ws₀ ws (stopped m) (run im eof room w₀ (blocksOf n₀ ws₀))
+  pub failed : (t : Bool) (r : Refusal) (f : Unit {0} → Walk A) → t ≡ false → Simulation im eof room w₀ n₀ ws₀ (check t r >>= f) n ws → Walked ws₀ ws (stopped r) (run im eof room w₀ (blocksOf n₀ ws₀))
   unfolding _>>=_
-  failed t m f e s = refusal (same-walk (refuse m) (rw e) s)
+  failed t r f e s = refusal (same-walk (refuse r) (rw e) s)
 
   -- a choice that is made
   pub chosen-then : (t : Bool) (x y : Walk A) → t ≡ true → Simulation im eof room w₀ n₀ ws₀ (if t then x else y) n ws → Simulation im eof room w₀ n₀ ws₀ x n ws
@@ -100,9 +100,9 @@ module _ {im : List ℕ} {eof room : ℕ} {A : Type 0} {w₀ : Walk A} {n₀ : �
   unfolding _>>=_
   callee-value w f b e s = same-walk (f b) (rw e) s
 
-  pub callee-refusal : {B : Type 0} (w : Walk B) (f : B → Walk A) (m : Refusal) → w ≡ refuse m → Simulation im eof room w₀ n₀ ws₀ (w >>= f) n ws → Walked ws₀ ws (stopped m) (run im eof room w₀ (blocksOf n₀ ws₀))
+  pub callee-refusal : {B : Type 0} (w : Walk B) (f : B → Walk A) (r : Refusal) → w ≡ refuse r → Simulation im eof room w₀ n₀ ws₀ (w >>= f) n ws → Walked ws₀ ws (stopped r) (run im eof room w₀ (blocksOf n₀ ws₀))
   unfolding _>>=_
-  callee-refusal w f m e s = refusal (same-walk (refuse m) (rw e) s)
+  callee-refusal w f r e s = refusal (same-walk (refuse r) (rw e) s)
 
   -- a block whose prefix, or whose whole, isn't inside
   pub outside : {v : Kind} {a p : ℕ} {rest : List ℕ → ℕ} {k : List ℕ → Walk A} → eof < a + p → Simulation im eof room w₀ n₀ ws₀ (enter v a (stored p rest) k) n ws →
@@ -141,10 +141,10 @@ module _ {im : List ℕ} {eof room : ℕ} {A : Type 0} {w₀ : Walk A} {n₀ : �
               ∙ s .rest i (omega (arith, z .1)));
         }
 
-    pub block-refused : (x : Refusal) → Refused x ≡ entering answer (kindNumber v) a m (blocksOf n ws) n → Walked ws₀ ws₁ (stopped x) (run im eof room w₀ (blocksOf n₀ ws₀))
+    pub block-refused : (r : Refusal) → Refused r ≡ entering answer (kindNumber v) a m (blocksOf n ws) n → Walked ws₀ ws₁ (stopped r) (run im eof room w₀ (blocksOf n₀ ws₀))
     unfolding run
-    block-refused x p =
-        let z = refused-suc (kindNumber v) a m (blocksOf n ws) answer n x p in
+    block-refused r p =
+        let z = refused-suc (kindNumber v) a m (blocksOf n ws) answer n r p in
         let w : ws₁ ≡ ws = rw (z .1) at q in
         let e : run im eof room w₀ (blocksOf n₀ ws₀) ≡ refused (notEntered (suc (z .0)) (kindNumber v) a (knownLength im eof v a l) (blocksOf n ws)) (blocksOf n ws) =
         (rw (← sized) at (s .sameRun))
@@ -162,8 +162,8 @@ module _ {im : List ℕ} {eof room : ℕ} {A : Type 0} {w₀ : Walk A} {n₀ : �
 
     module _ {B : Type 0} (w : Walk B) (f : B → Walk A) (s : Simulation im eof room w₀ n₀ ws₀ (w >>= f) n ws) where
       -- it stopped, and so does the function
-      pub callee-stopped : {x : Refusal} → Walked ws ws₁ (stopped x) (run im eof room w (blocksOf n ws)) → Walked ws₀ ws₁ (stopped x) (run im eof room w₀ (blocksOf n₀ ws₀))
-      callee-stopped {x} h = callee-last s (rw run-bind (walked-stopped ws ws₁ x (run im eof room w (blocksOf n ws)) (λ a cs. run im eof room (f a) cs) h))
+      pub callee-stopped : {r : Refusal} → Walked ws ws₁ (stopped r) (run im eof room w (blocksOf n ws)) → Walked ws₀ ws₁ (stopped r) (run im eof room w₀ (blocksOf n₀ ws₀))
+      callee-stopped {r} h = callee-last s (rw run-bind (walked-stopped ws ws₁ r (run im eof room w (blocksOf n ws)) (λ a cs. run im eof room (f a) cs) h))
 
       -- it returned a value, and the function goes on
       pub callee-done : {b : B} {c : ℕ} → length ws₁ ≡ length ws → Walked ws ws₁ (ended b c) (run im eof room w (blocksOf n ws)) → Simulation im eof room w₀ n₀ ws₀ (f b) c ws₁
@@ -186,4 +186,4 @@ pub one-block : (im : List ℕ) (eof room : ℕ) (v : Kind) (a m n : ℕ) (ws ws
     Walked ws ws₁ (entryEnd r) (run im eof room (enterBlock v a m >> ret tt) (blocksOf n ws))
 unfolding _>>=_
 one-block im eof room v a m n ws ws₁ (Entered c) l e q = returned (block-entered m refl refl ws₁ (start im eof room (enterBlock v a m >> ret tt) n ws l) q c e)
-one-block im eof room v a m n ws ws₁ (Refused x) l e q = block-refused m refl refl ws₁ (start im eof room (enterBlock v a m >> ret tt) n ws l) q x e
+one-block im eof room v a m n ws ws₁ (Refused r) l e q = block-refused m refl refl ws₁ (start im eof room (enterBlock v a m >> ret tt) n ws l) q r e

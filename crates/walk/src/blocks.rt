@@ -6,7 +6,7 @@ ghost use mathlib.Core.List.{_++_};
 ghost use Prim.Native.Nat.{_+_, _-_, _^_, _<_, _≤_};
 ghost use lib.ListN.{length, take, replicate};
 ghost use Rattle.format.specs.Blocks.{overlapsAny, entryAnswer, roomOf};
-ghost use Rattle.format.specs.Walk.{notEntered};
+ghost use Rattle.format.specs.declared.Refusal.the-variants.{NotEntered};
 ghost use Rattle.walk.specs.Lent.{Lent, blocksOf, entering, entered};
 
 // Sets the words from a place on to zero.
@@ -58,7 +58,7 @@ fn overlaps(blocks: &[u64], count: usize, at: u64, size: u64) -> bool
 }
 
 // The answers of document 01 to a block that can't be entered.
-const OUTSIDE: u8 = 5;
+pub const OUTSIDE: u8 = 5;
 
 const OVERLAP: u8 = 6;
 
@@ -67,6 +67,19 @@ const NO_ROOM: u8 = 13;
 pub enum Entry {
     Entered(usize),
     Refused(Refusal),
+}
+
+// The refusal of a block that can't be entered.
+pub fn not_entered(number: u8, kind: u8, at: u64, size: u64, met: u64) -> Refusal
+    ensures { λ r. ⌜ r ≡ NotEntered number kind at size met ⌝ }
+{
+    Refusal::NotEntered {
+        number,
+        kind,
+        at,
+        size,
+        met,
+    }
 }
 
 // Enters the block of `size` bytes at `at`: 5 if it isn't inside, 6 if it overlaps, 13 if there is no room, or the new count.
@@ -84,40 +97,17 @@ pub fn enter(
     ensures { λ r. ⌜ now (blocks .exit) ≡ entered (entryAnswer «end_of_file» room (blocksOf count (now (blocks .entry))) at size) (now (blocks .entry)) count at size ⌝ }
 {
     if end_of_file < at {
-        return Entry::Refused(Refusal::NotEntered {
-            number: OUTSIDE,
-            kind,
-            at,
-            size,
-            met: 0,
-        });
+        return Entry::Refused(not_entered(OUTSIDE, kind, at, size, 0));
     }
     if end_of_file - at < size {
-        return Entry::Refused(Refusal::NotEntered {
-            number: OUTSIDE,
-            kind,
-            at,
-            size,
-            met: 0,
-        });
+        return Entry::Refused(not_entered(OUTSIDE, kind, at, size, 0));
     }
     if overlaps(blocks, count, at, size) {
-        return Entry::Refused(Refusal::NotEntered {
-            number: OVERLAP,
-            kind,
-            at,
-            size,
-            met: first_met(blocks, count, at, size),
-        });
+        let met = first_met(blocks, count, at, size);
+        return Entry::Refused(not_entered(OVERLAP, kind, at, size, met));
     }
     if room <= count {
-        return Entry::Refused(Refusal::NotEntered {
-            number: NO_ROOM,
-            kind,
-            at,
-            size,
-            met: 0,
-        });
+        return Entry::Refused(not_entered(NO_ROOM, kind, at, size, 0));
     }
     blocks[count + count] = at;
     blocks[count + count + 1] = size;

@@ -4,17 +4,20 @@ use lib.Dec.{T}
 use Rattle.format.specs.Limits.{imageLeast, imageMost, inputMost, levelMost, rankMost, objectsMost, blocksMost, nameMost, pathMost}
 use Rattle.format.specs.Bytes.{allHold, littleEndian, toBytes, toWords, overwrite, undefinedAddress, sameBytes, contains}
 use Rattle.format.specs.Blocks.{overlaps, overlapsAny, entryAnswer, roomOf, blockWords}
-use Rattle.format.specs.Walk.{blankCount, shown, _>>=_, located, run}
+use Rattle.format.specs.Result as results
+use Rattle.format.specs.Walk.{blankCount, shown, _>>=_, run}
 use Rattle.format.specs.Superblock.{signature, versionShift, versionsRead, sizesRead, addressesRead, superblockRead, superblockSound, superblockFields, openImage, superblockWalk}
-use Rattle.format.specs.Message.{treatment, messageWalk, messages, ofType, theMessage}
-use Rattle.format.specs.Header.{continuations, headerContents, headerMessages, hasCounts, objectOf, headerWalk}
-use Rattle.format.specs.Heap.{HEAP, freeBlocks, freeList, heapWalk}
+use Rattle.format.specs.Header.{messages, continuations, headerContents, headerMessages, hasCounts, objectOf, headerWalk}
+use Rattle.format.specs.Message.{treatment, readMessage, ofType, theMessage}
+use Rattle.format.specs.FreeList.{freeBlocks, freeList}
+use Rattle.format.specs.Heap.{HEAP, heapWalk}
 use Rattle.format.specs.Names.{beforeNul, stringAt, keyText, isName, nameText, below, within}
-use Rattle.format.specs.Symbols.{SNOD, valueWalk, entryWalk, entries, symbolWalk}
+use Rattle.format.specs.Entry.{readValue, readEntry}
+use Rattle.format.specs.Symbols.{SNOD, entries, symbolWalk}
 use Rattle.format.specs.Tree.{TREE, keysWalk, children, nodeWalk, branches, subtree, treeWalk, groupWalk}
-use Rattle.format.specs.Dataspace.{product, dataspaceWalk}
-use Rattle.format.specs.Datatype.{datatypeWalk}
-use Rattle.format.specs.Layout.{contiguousWalk, layoutWalk}
+use Rattle.format.specs.Dataspace.{product, readDataspace}
+use Rattle.format.specs.Datatype.{readDatatype}
+use Rattle.format.specs.Layout.{readContiguous, readLayout}
 use Rattle.format.specs.Dataset.{dataWalk, datasetWalk}
 use Rattle.format.specs.Ledger.{inLedger, addLink, countLink, discover}
 use Rattle.format.specs.Object.{contentWalk, objectWalk}
@@ -35,11 +38,11 @@ use Rattle.cases.proofs.rows.Tie as tie
 
 all-agree : T (agree table)
 unfolding imageLeast imageMost inputMost levelMost rankMost objectsMost blocksMost nameMost pathMost allHold littleEndian toBytes toWords
-    overwrite undefinedAddress sameBytes contains overlaps overlapsAny entryAnswer roomOf blockWords blankCount shown _>>=_ located run
-    signature versionShift versionsRead sizesRead addressesRead superblockRead superblockSound superblockFields openImage superblockWalk treatment messageWalk messages ofType
+    overwrite undefinedAddress sameBytes contains overlaps overlapsAny entryAnswer roomOf blockWords blankCount shown results._>>=_ _>>=_ run
+    signature versionShift versionsRead sizesRead addressesRead superblockRead superblockSound superblockFields openImage superblockWalk treatment readMessage messages ofType
     theMessage continuations headerContents headerMessages hasCounts objectOf headerWalk HEAP freeBlocks freeList heapWalk beforeNul stringAt
-    keyText isName nameText below within SNOD valueWalk entryWalk entries symbolWalk TREE keysWalk children nodeWalk branches
-    subtree treeWalk groupWalk product dataspaceWalk datatypeWalk contiguousWalk layoutWalk dataWalk datasetWalk inLedger addLink
+    keyText isName nameText below within SNOD readValue readEntry entries symbolWalk TREE keysWalk children nodeWalk branches
+    subtree treeWalk groupWalk product readDataspace readDatatype readContiguous readLayout dataWalk datasetWalk inLedger addLink
     countLink discover contentWalk objectWalk objectsWalk auditWalk auditRun countedIn pathParts isComponent allComponents
     parsePath compareName findWalk targetWalk componentWalk follow locateWalk lookupRun datasetOf describeWalk describeRun
     logWords changes written restored corrections fits allFit undoNumber undone audit lookup describe mend undo objectWords digit

@@ -4,16 +4,17 @@ use mathlib.Core.Path.{_≡_, refl, subst, ap, sym, _∙_}
 use Prim.Native.Nat.{_≤_}
 use borrow.Author.Tests.{not-true, not-false}
 use lib.ListN.{length}
-use Rattle.format.specs.Dataspace.{dataspaceWalk}
-use Rattle.format.specs.Layout.{layoutWalk}
-use Rattle.format.specs.Walk.{ret}
-use Rattle.walk.proofs.Checks.{passes, fails, gives, refuses, placed-value, placed-refusal}
+use Rattle.format.specs.Dataspace.{readDataspace}
+use Rattle.format.specs.Layout.{readLayout}
+use Rattle.format.specs.Result.{value}
+use Rattle.format.specs.Walk.{located}
+use Rattle.walk.proofs.Checks.{passes, fails, gives, refuses}
 use Rattle.image.specs.Message.{messageOf}
 use Rattle.dataset.specs.declared.dataspace.DataspaceRead.{DataspaceRead}
 use Rattle.dataset.specs.declared.dataspace.DataspaceRead.the-variants.{Read}
-use Rattle.dataset.specs.Dataspace.{spaceOf, spaceWalk, sizesEnd, SpaceInside}
-use Rattle.dataset.specs.Datatype.{typeOf, typeWalk}
-use Rattle.dataset.specs.Layout.{layoutOf, layoutRead}
+use Rattle.dataset.specs.Dataspace.{spaceOf, spaceResult, sizesEnd, SpaceInside}
+use Rattle.dataset.specs.Datatype.{typeOf, typeResult}
+use Rattle.dataset.specs.Layout.{layoutOf, layoutResult}
 use Rattle.dataset.specs.Dataset.{bodyOf, typeMessage, messagesWalk}
 use borrow.Author.Needs.{needs}
 use Rattle.dataset.proofs.dataset.messages.Statement.{statement}
@@ -22,8 +23,8 @@ use Rattle.dataset.proofs.dataset.messages.Tie as tie
 -- what was read of each message
 space-read : (c : tie.After-rank) →
     let b = bodyOf (now (c .before .before .before .before .args .image)) (c .before .before .before .before .args .space) in
-    ret (spaceOf b (c .rank .given .0 .0) (c .rank .given .0 .1 .0)) ≡ dataspaceWalk b
-space-read c = ap (spaceWalk _) (sym (c .rank .given .1)) ∙ c .before .before .read-space .ensures .walk
+    value (spaceOf b (c .rank .given .0 .0) (c .rank .given .0 .1 .0)) ≡ readDataspace b
+space-read c = ap (spaceResult _) (sym (c .rank .given .1)) ∙ c .before .before .read-space .ensures .walk
 
 shape-read : (c : tie.After-rank) →
     let b = bodyOf (now (c .before .before .before .before .args .image)) (c .before .before .before .before .args .space) in
@@ -34,13 +35,13 @@ shape-read c =
 
 type-read : (c : tie.After-t) →
     let a = c .before .before .before .before .before .before .before .before .args in
-    ret (typeOf (c .t .given .0 .0)) ≡ typeMessage (messageOf (now (a .image)) 0x0003 (a .datatype))
-type-read c = ap typeWalk (sym (c .t .given .1)) ∙ c .before .before .read-type .ensures
+    value (typeOf (c .t .given .0 .0)) ≡ typeMessage (messageOf (now (a .image)) 0x0003 (a .datatype))
+type-read c = ap typeResult (sym (c .t .given .1)) ∙ c .before .before .read-type .ensures
 
 layout-read : (c : tie.After-l) →
     let a = c .before .before .before .before .before .before .before .before .before .before .before .before .args in
-    ret (layoutOf (c .l .given .0 .0)) ≡ layoutWalk (a .layout .place) (bodyOf (now (a .image)) (a .layout))
-layout-read c = ap layoutRead (sym (c .l .given .1)) ∙ c .before .before .read-layout .ensures
+    value (layoutOf (c .l .given .0 .0)) ≡ readLayout (a .layout .place) (bodyOf (now (a .image)) (a .layout))
+layout-read c = ap layoutResult (sym (c .l .given .1)) ∙ c .before .before .read-layout .ensures
 
 read-space-requires : tie.Need-read-space-requires
 read-space-requires c κs = search needs
@@ -96,25 +97,25 @@ returns c =
     let layout = c .before .before .before .before in
     let type = layout .before .before .before .before in
     let space = type .before .before .before .before in
-    (rw (c .head-of4 .ensures) (gives _ (placed-value _ (space-read space)) (gives _ (placed-value _ (type-read type)) (gives _ (placed-value _ (layout-read layout)) (fails _ _ (sym (c .before .before .filled .ensures) ∙ not-true _ (c .before .if1 .taken)))))), tt)
+    (rw (c .head-of4 .ensures) (gives _ (ap (located _) (space-read space)) (gives _ (ap (located _) (type-read type)) (gives _ (ap (located _) (layout-read layout)) (fails _ _ (sym (c .before .before .filled .ensures) ∙ not-true _ (c .before .if1 .taken)))))), tt)
 
 returns-2 : tie.Need-returns-2
 unfolding messagesWalk
 returns-2 c =
     let space = c .before .before .before .before .read-space .ensures .walk in
-    (rw (c .head-of .ensures) (refuses _ (placed-refusal _ (ap (spaceWalk _) (sym (c .before .before .n .given .1)) ∙ space))), tt)
+    (rw (c .head-of .ensures) (refuses _ (ap (located _) (ap (spaceResult _) (sym (c .before .before .n .given .1)) ∙ space))), tt)
 
 returns-3 : tie.Need-returns-3
 unfolding messagesWalk
 returns-3 c =
-    (rw (c .head-of2 .ensures) (gives _ (placed-value _ (space-read (c .before .before .before .before .before .before))) (refuses _ (placed-refusal _ (ap typeWalk (sym (c .before .before .n2 .given .1)) ∙ c .before .before .before .before .read-type .ensures)))), tt)
+    (rw (c .head-of2 .ensures) (gives _ (ap (located _) (space-read (c .before .before .before .before .before .before))) (refuses _ (ap (located _) (ap typeResult (sym (c .before .before .n2 .given .1)) ∙ c .before .before .before .before .read-type .ensures)))), tt)
 
 returns-4 : tie.Need-returns-4
 unfolding messagesWalk
 returns-4 c =
     let type = c .before .before .before .before .before .before in
     let space = type .before .before .before .before in
-    (rw (c .head-of3 .ensures) (gives _ (placed-value _ (space-read space)) (gives _ (placed-value _ (type-read type)) (refuses _ (placed-refusal _ (ap layoutRead (sym (c .before .before .n3 .given .1)) ∙ c .before .before .before .before .read-layout .ensures))))), tt)
+    (rw (c .head-of3 .ensures) (gives _ (ap (located _) (space-read space)) (gives _ (ap (located _) (type-read type)) (refuses _ (ap (located _) (ap layoutResult (sym (c .before .before .n3 .given .1)) ∙ c .before .before .before .before .read-layout .ensures))))), tt)
 
 returns-5 : tie.Need-returns-5
 unfolding messagesWalk
@@ -122,7 +123,7 @@ returns-5 c =
     let layout = c .before .before .before in
     let type = layout .before .before .before .before in
     let space = type .before .before .before .before in
-    (gives _ (placed-value _ (space-read space)) (gives _ (placed-value _ (type-read type)) (gives _ (placed-value _ (layout-read layout)) (passes _ _ (sym (c .before .filled .ensures) ∙ not-false _ (c .if1 .left)) refl))), shape-read space)
+    (gives _ (ap (located _) (space-read space)) (gives _ (ap (located _) (type-read type)) (gives _ (ap (located _) (layout-read layout)) (passes _ _ (sym (c .before .filled .ensures) ∙ not-false _ (c .if1 .left)) refl))), shape-read space)
 
 pub messages-spec : {M : Type 1} → statement M
 messages-spec =

@@ -1,7 +1,7 @@
 -- The part of the image is the body.
 use denote.Ref.{now}
 use mathlib.Core.Path.{ap, _∙_}
-use Rattle.format.specs.Layout.{layoutWalk}
+use Rattle.format.specs.Layout.{readLayout}
 use Rattle.dataset.proofs.DatasetLaws.{body-part}
 use borrow.Author.Needs.{needs}
 use Rattle.dataset.proofs.dataset.read_layout.Statement.{statement}
@@ -25,7 +25,7 @@ read-requires c κs = search needs
 returns : tie.Need-returns
 returns c =
     let a = c .before .before .before .before .args in
-    c .read .ensures ∙ ap (layoutWalk (a .body .place)) (body-part (now (a .image)) (a .body .place) (a .body .size))
+    c .read .ensures ∙ ap (readLayout (a .body .place)) (body-part (now (a .image)) (a .body .place) (a .body .size))
 
 pub read-layout-spec : {M : Type 1} → statement M
 read-layout-spec =

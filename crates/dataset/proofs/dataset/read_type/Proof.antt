@@ -2,8 +2,8 @@
 use denote.Ref.{now}
 use mathlib.Core.Path.{ap, _∙_}
 use borrow.Author.Tests.{eq-eqb, ne-eqb}
-use Rattle.format.specs.Datatype.{datatypeWalk, sharedWalk}
-use Rattle.walk.proofs.Checks.{takes-then, takes-else}
+use Rattle.format.specs.Datatype.{readDatatype, readShared}
+use Rattle.walk.proofs.Tests.{takes-then, takes-else}
 use Rattle.dataset.proofs.DatasetLaws.{body-part}
 use borrow.Author.Needs.{needs}
 use Rattle.dataset.proofs.dataset.read_type.Statement.{statement}
@@ -27,7 +27,7 @@ read-shared-requires c κs = search needs
 returns : tie.Need-returns
 returns c =
     let a = c .before .before .before .before .before .before .args in
-    takes-then _ _ (eq-eqb _ _ (c .before .before .if1 .taken)) (c .read-shared .ensures ∙ ap sharedWalk (body-part (now (a .image)) (a .body .place) (a .body .size)))
+    takes-then _ _ (eq-eqb _ _ (c .before .before .if1 .taken)) (c .read-shared .ensures ∙ ap readShared (body-part (now (a .image)) (a .body .place) (a .body .size)))
 
 sub-read : tie.Need-sub-read
 sub-read c = search needs
@@ -44,7 +44,7 @@ read-requires c κs = search needs
 returns-2 : tie.Need-returns-2
 returns-2 c =
     let a = c .before .before .before .before .before .before .args in
-    takes-else _ _ (ne-eqb _ _ (c .before .before .if1 .left)) (c .read .ensures ∙ ap datatypeWalk (body-part (now (a .image)) (a .body .place) (a .body .size)))
+    takes-else _ _ (ne-eqb _ _ (c .before .before .if1 .left)) (c .read .ensures ∙ ap readDatatype (body-part (now (a .image)) (a .body .place) (a .body .size)))
 
 pub read-type-spec : {M : Type 1} → statement M
 read-type-spec =

@@ -4,10 +4,10 @@ use mathlib.Core.Path.{_≡_, ap, sym}
 use Prim.Native.Nat.{ℕ, _+_, _*_, _≤_}
 use borrow.Author.Tests.{eq-eqb, ne-eqb, le-leb, lt-leb, not-true, not-false}
 use Rattle.format.specs.Limits.{rankMost}
-use Rattle.format.specs.Dataspace.{Dataspace, dataspaceWalk}
-use Rattle.format.specs.Walk.{answer, Walk, refuse}
+use Rattle.format.specs.Dataspace.{Dataspace, readDataspace}
+use Rattle.format.specs.Result.{Result, answer}
 use Rattle.walk.proofs.Tests.{field-most, field-above}
-use Rattle.walk.proofs.Checks.{passes, fails}
+use Rattle.walk.proofs.Results.{passes, fails}
 use Rattle.dataset.proofs.SpaceChecks.{afterSizes, afterFlags, afterRank, afterVersion, afterLength, first-check, none-stored, maxima-short, maxima-low, maxima-stored, refused-space, plain-space, stored-space}
 use native.Mathlib.Omega.{arith}
 use borrow.Author.Needs.{needs}
@@ -15,29 +15,29 @@ use Rattle.dataset.proofs.dataspace.read.Statement.{statement}
 use Rattle.dataset.proofs.dataspace.read.Tie as tie
 
 -- at each place behind a check, what is left of the walk
-long : (c : tie.Else1) {x : Walk Dataspace} → let b = now (c .before .before .before .args .body) in x ≡ afterLength b → x ≡ dataspaceWalk b
+long : (c : tie.Else1) {x : Result Dataspace} → let b = now (c .before .before .before .args .body) in x ≡ afterLength b → x ≡ readDataspace b
 long c e = first-check _ (passes _ _ (le-leb _ _ (c .if1 .left)) e)
 
-versioned : (c : tie.Else2) {x : Walk Dataspace} → let b = now (c .before .before .before .before .before .args .body) in x ≡ afterVersion b → x ≡ dataspaceWalk b
+versioned : (c : tie.Else2) {x : Result Dataspace} → let b = now (c .before .before .before .before .before .args .body) in x ≡ afterVersion b → x ≡ readDataspace b
 versioned c e = long (c .before .before) (passes _ _ (eq-eqb _ _ (c .if2 .left)) e)
 
 small : (c : tie.Else3) → c .before .before .wide .result ≤ rankMost
 small c = omega (arith, c .if3 .left, c .before .before .before .before .before .before .before .the-limits .ensures .rankMostEqual)
 
-ranked : (c : tie.Else3) {x : Walk Dataspace} → let b = now (c .before .before .before .before .before .before .before .before .before .args .body) in
-    x ≡ afterRank b → x ≡ dataspaceWalk b
+ranked : (c : tie.Else3) {x : Result Dataspace} → let b = now (c .before .before .before .before .before .before .before .before .before .args .body) in
+    x ≡ afterRank b → x ≡ readDataspace b
 ranked c e = versioned (c .before .before .before .before) (passes _ _ (field-most (sym (c .before .before .wide .ensures)) (small c)) e)
 
-flagged : (c : tie.Else4) {x : Walk Dataspace} → let b = now (c .before .before .before .before .before .before .before .before .before .before .before .args .body) in
-    x ≡ afterFlags b → x ≡ dataspaceWalk b
+flagged : (c : tie.Else4) {x : Result Dataspace} → let b = now (c .before .before .before .before .before .before .before .before .before .before .before .args .body) in
+    x ≡ afterFlags b → x ≡ readDataspace b
 flagged c e = ranked (c .before .before) (passes _ _ (le-leb _ _ (c .if4 .left)) e)
 
 sizes-outside : (c : tie.Then5) → let b = now (c .before .before .before .before .before .before .before .before .before .before .before .before .args .body) in
-    refuse (answer 11) ≡ afterFlags b
+    answer 11 ≡ afterFlags b
 sizes-outside c = fails _ _ (field-above (ap (λ (k : ℕ). 8 + 8 * k) (sym (c .before .before .before .before .before .wide .ensures))) (c .if5 .taken))
 
-inside : (c : tie.Else5) {x : Walk Dataspace} → let b = now (c .before .before .before .before .before .before .before .before .before .before .before .before .args .body) in
-    x ≡ afterSizes b → x ≡ dataspaceWalk b
+inside : (c : tie.Else5) {x : Result Dataspace} → let b = now (c .before .before .before .before .before .before .before .before .before .before .before .before .args .body) in
+    x ≡ afterSizes b → x ≡ readDataspace b
 inside c e = flagged (c .before) (passes _ _ (field-most (ap (λ (k : ℕ). 8 + 8 * k) (sym (c .before .before .before .before .before .wide .ensures))) (c .if5 .left)) e)
 
 the-limits-requires : tie.Need-the-limits-requires

@@ -2,29 +2,29 @@
 use denote.Ref.{now}
 use mathlib.Core.Path.{_≡_, sym, _∙_}
 use borrow.Author.Tests.{le-leb, lt-leb, not-true, not-false}
-use Rattle.format.specs.Datatype.{Datatype, datatypeWalk}
-use Rattle.format.specs.Walk.{Walk}
+use Rattle.format.specs.Datatype.{Datatype, readDatatype}
+use Rattle.format.specs.Result.{Result}
 use Rattle.walk.proofs.Tests.{range-below, range-above, range-inside, field-most, field-above, field-least, field-below}
-use Rattle.walk.proofs.Checks.{passes, fails}
+use Rattle.walk.proofs.Results.{passes, fails}
 use Rattle.dataset.proofs.TypeChecks.{afterExtent, afterSize, afterClass, afterVersion, afterLength, first-check, unsound-bits, own-read}
 use borrow.Author.Needs.{needs}
 use Rattle.dataset.proofs.datatype.read.Statement.{statement}
 use Rattle.dataset.proofs.datatype.read.Tie as tie
 
 -- at each place behind a check, what is left of the walk
-long : (c : tie.Else1) {x : Walk Datatype} → let b = now (c .before .before .args .body) in x ≡ afterLength b → x ≡ datatypeWalk b
+long : (c : tie.Else1) {x : Result Datatype} → let b = now (c .before .before .args .body) in x ≡ afterLength b → x ≡ readDatatype b
 long c e = first-check _ (passes _ _ (le-leb _ _ (c .if1 .left)) e)
 
-versioned : (c : tie.Else3) {x : Walk Datatype} → let b = now (c .before .before .before .before .before .args .body) in x ≡ afterVersion b → x ≡ datatypeWalk b
+versioned : (c : tie.Else3) {x : Result Datatype} → let b = now (c .before .before .before .before .before .args .body) in x ≡ afterVersion b → x ≡ readDatatype b
 versioned c e = long (c .before .before .before) (passes _ _ (range-inside 1 3 _ (c .before .if2 .left) (c .if3 .left)) e)
 
-classed : (c : tie.Else4) {x : Walk Datatype} → let b = now (c .before .before .before .before .before .before .before .before .args .body) in x ≡ afterClass b → x ≡ datatypeWalk b
+classed : (c : tie.Else4) {x : Result Datatype} → let b = now (c .before .before .before .before .before .before .before .before .args .body) in x ≡ afterClass b → x ≡ readDatatype b
 classed c e = versioned (c .before .before .before) (passes _ _ (sym (c .before .class-read .ensures) ∙ not-false _ (c .if4 .left)) e)
 
-sized : (c : tie.Else5) {x : Walk Datatype} → let b = now (c .before .before .before .before .before .before .before .before .before .before .args .body) in x ≡ afterSize b → x ≡ datatypeWalk b
+sized : (c : tie.Else5) {x : Result Datatype} → let b = now (c .before .before .before .before .before .before .before .before .before .before .args .body) in x ≡ afterSize b → x ≡ readDatatype b
 sized c e = classed (c .before .before) (passes _ _ (field-least (sym (c .before .u32-at .ensures .value)) (c .if5 .left)) e)
 
-held : (c : tie.Else6) {x : Walk Datatype} → let b = now (c .before .before .before .before .before .before .before .before .before .before .before .before .args .body) in x ≡ afterExtent b → x ≡ datatypeWalk b
+held : (c : tie.Else6) {x : Result Datatype} → let b = now (c .before .before .before .before .before .before .before .before .before .before .before .before .args .body) in x ≡ afterExtent b → x ≡ readDatatype b
 held c e = sized (c .before .before) (passes _ _ (field-most (sym (c .before .needed .ensures)) (c .if6 .left)) e)
 
 returns : tie.Need-returns

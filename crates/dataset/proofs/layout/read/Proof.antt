@@ -1,27 +1,28 @@
 -- The first check that fails decides; the class then chooses the reader.
-use Rattle.walk.proofs.Checks.{takes-then, takes-else, passes, fails}
+use Rattle.walk.proofs.Results.{passes, fails}
+use Rattle.walk.proofs.Tests.{takes-then, takes-else}
 use borrow.Author.Tests.{eq-eqb, ne-eqb, le-leb, lt-leb}
-use Rattle.format.specs.Layout.{layoutWalk}
+use Rattle.format.specs.Layout.{readLayout}
 use borrow.Author.Needs.{needs}
 use Rattle.dataset.proofs.layout.read.Statement.{statement}
 use Rattle.dataset.proofs.layout.read.Tie as tie
 
 returns : tie.Need-returns
-unfolding layoutWalk
+unfolding readLayout
 returns c = fails _ _ (lt-leb _ _ (c .if1 .taken))
 
 shared-slice-read-if2 : tie.Need-shared-slice-read-if2
 shared-slice-read-if2 c = search needs
 
 returns-2 : tie.Need-returns-2
-unfolding layoutWalk
+unfolding readLayout
 returns-2 c = passes _ _ (le-leb _ _ (c .before .before .if1 .left)) (fails _ _ (ne-eqb _ _ (c .if2 .taken)))
 
 shared-slice-read-if3 : tie.Need-shared-slice-read-if3
 shared-slice-read-if3 c = search needs
 
 returns-3 : tie.Need-returns-3
-unfolding layoutWalk
+unfolding readLayout
 returns-3 c =
     let second = c .before .before in
     passes _ _ (le-leb _ _ (second .before .before .if1 .left))
@@ -34,7 +35,7 @@ read-compact-requires : tie.Need-read-compact-requires
 read-compact-requires c κs = search needs
 
 returns-4 : tie.Need-returns-4
-unfolding layoutWalk
+unfolding readLayout
 returns-4 c =
     let third = c .before .before .before in
     let second = third .before .before in
@@ -45,7 +46,7 @@ read-contiguous-requires : tie.Need-read-contiguous-requires
 read-contiguous-requires c κs = search needs
 
 returns-5 : tie.Need-returns-5
-unfolding layoutWalk
+unfolding readLayout
 returns-5 c =
     let third = c .before .before .before in
     let second = third .before .before in

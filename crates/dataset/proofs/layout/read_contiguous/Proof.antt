@@ -1,14 +1,14 @@
 -- The length decides.
 use borrow.Author.Tests.{lt-leb}
-use Rattle.format.specs.Layout.{contiguousWalk}
-use Rattle.walk.proofs.Checks.{fails}
+use Rattle.format.specs.Layout.{readContiguous}
+use Rattle.walk.proofs.Results.{fails}
 use Rattle.dataset.proofs.LayoutLaws.{contiguous-read}
 use borrow.Author.Needs.{needs}
 use Rattle.dataset.proofs.layout.read_contiguous.Statement.{statement}
 use Rattle.dataset.proofs.layout.read_contiguous.Tie as tie
 
 returns : tie.Need-returns
-unfolding contiguousWalk
+unfolding readContiguous
 returns c = fails _ _ (lt-leb _ _ (c .if1 .taken))
 
 u64-at-requires : tie.Need-u64-at-requires

@@ -1,11 +1,10 @@
 -- At height 0 a symbol table node; above it a node whose children are walked one after the other. The height falls at each call.
 use borrow.Author.Needs.{needs}
 use native.Mathlib.Omega.{arith}
-use Prim.Native.Nat.{ℕ, _<_}
+use Prim.Native.Nat.{ℕ, _<_, suc, _+_, _-_, _*_, _≤_}
 use denote.Ref.{now}
 use Rattle.format.specs.Walk.{_>>=_}
 use Rattle.format.specs.Bytes.{u64}
-use Prim.Native.Nat.{suc, _+_, _-_, _*_, _≤_}
 use mathlib.Core.List.{List, [], _∷_}
 use mathlib.Core.Path.{_≡_, refl, sym, ap, _∙_, subst}
 use lib.ListN.{length}

@@ -12,17 +12,23 @@ use borrow.Author.Needs.{needs}
 use Rattle.walk.proofs.blocks.enter.Statement.{statement}
 use Rattle.walk.proofs.blocks.enter.Tie as tie
 
+not-entered-requires : tie.Need-not-entered-requires
+not-entered-requires c κs = search needs
+
 returns : tie.Need-returns
 returns c =
-    let a = c .before .before .args in
+    let a = c .before .before .before .args in
     let h : a .end-of-file < a .at + a .size = omega arith in
-    rw entryAnswer-outside (refl, refl)
+    rw (entryAnswer-outside, c .not-entered .ensures) (refl, refl)
+
+not-entered-requires-2 : tie.Need-not-entered-requires-2
+not-entered-requires-2 c κs = search needs
 
 returns-2 : tie.Need-returns-2
 returns-2 c =
-    let a = c .before .before .before .args in
+    let a = c .before .before .before .before .args in
     let h : a .end-of-file < a .at + a .size = omega arith in
-    rw entryAnswer-outside (refl, refl)
+    rw (entryAnswer-outside, c .not-entered2 .ensures) (refl, refl)
 
 overlaps-requires : tie.Need-overlaps-requires
 overlaps-requires c κs = search needs
@@ -30,27 +36,35 @@ overlaps-requires c κs = search needs
 first-met-requires : tie.Need-first-met-requires
 first-met-requires c κs = search needs
 
+not-entered-requires-3 : tie.Need-not-entered-requires-3
+not-entered-requires-3 c κs = search needs
+
 same-length : tie.Need-same-length
 same-length c = search needs
 
 returns-3 : tie.Need-returns-3
 returns-3 c =
-    let t = c .before .before in
+    let m = c .before in
+    let t = m .before .before in
     let a = t .before .before .before .before .before .before .args in
     let h : a .at + a .size ≤ a .end-of-file = omega arith in
     let k : true ≡ overlapsAny (blocksOf (a .count) (now (a .blocks))) (a .at) (a .size) = sym (t .if3 .taken) ∙ t .before .overlaps .ensures in
-    rw (entryAnswer-overlap, c .first-met .ensures) (refl, refl)
+    rw (entryAnswer-overlap, c .not-entered3 .ensures, m .first-met .ensures) (refl, refl)
+
+not-entered-requires-4 : tie.Need-not-entered-requires-4
+not-entered-requires-4 c κs = search needs
 
 same-length-2 : tie.Need-same-length-2
 same-length-2 c = search needs
 
 returns-4 : tie.Need-returns-4
 returns-4 c =
-    let a = c .before .before .before .before .before .before .before .args in
+    let t = c .before .before in
+    let a = t .before .before .before .before .before .before .args in
     let h : a .at + a .size ≤ a .end-of-file = omega arith in
-    let k : false ≡ overlapsAny (blocksOf (a .count) (now (a .blocks))) (a .at) (a .size) = sym (c .before .if3 .left) ∙ c .before .before .overlaps .ensures in
+    let k : false ≡ overlapsAny (blocksOf (a .count) (now (a .blocks))) (a .at) (a .size) = sym (t .if3 .left) ∙ t .before .overlaps .ensures in
     let l : a .room ≤ length (blocksOf (a .count) (now (a .blocks))) = rw length-blocksOf (omega arith) in
-    rw entryAnswer-full (refl, refl)
+    rw (entryAnswer-full, c .not-entered4 .ensures) (refl, refl)
 
 add-blocks : tie.Need-add-blocks
 add-blocks c = search needs
@@ -91,12 +105,16 @@ pub enter-spec : {M : Type 1} → statement M
 enter-spec =
     tie.close
     (tie.spec
+    not-entered-requires
     returns
+    not-entered-requires-2
     returns-2
     overlaps-requires
     first-met-requires
+    not-entered-requires-3
     same-length
     returns-3
+    not-entered-requires-4
     same-length-2
     returns-4
     add-blocks
