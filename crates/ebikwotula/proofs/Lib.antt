@@ -1,9 +1,0 @@
-mod Reply
-mod Lent
-mod Ended
-mod Follow
-mod Audited
-mod Located
-mod Described
-mod Mended
-mod Undone

@@ -1,0 +1,5 @@
+pub mod Reply
+pub mod Lent
+pub mod Ended
+pub mod Follow
+pub mod AuditRoom

@@ -1,0 +1,81 @@
+// The audit on byte slices.
+use format::BLOCKS_MOST;
+use format::OBJECTS_MOST;
+ghost use mathlib.Core.Path.{_≡_};
+ghost use mathlib.Core.List.{[], _∷_};
+ghost use Prim.Native.Nat.{_+_, _≤_};
+ghost use lib.ListN.{length};
+ghost use Rattle.format.specs.Bytes.{overwrite};
+ghost use Rattle.format.specs.Front.{wordBytes, paddedBytes, objectWords, CReply, cAudit};
+ghost use Rattle.ledger.specs.Report.{countedPlaces};
+ghost use Rattle.front_audit.specs.Room.{Roomy};
+
+// Writes the words of one object.
+fn put_object(reply: &mut [u8], at: usize, address: u64, stored: u32, true_count: u32)
+    requires { ⌜ at + 24 ≤ length (now reply) ⌝ }
+    ensures { λ _. ⌜ now (reply .exit) ≡ overwrite (now (reply .entry)) at (wordBytes (address ∷ stored ∷ «true_count» ∷ [])) ⌝ }
+{
+    words::put_word(reply, at, address);
+    words::put_word(reply, at + 8, stored as u64);
+    words::put_word(reply, at + 16, true_count as u64);
+}
+
+// The reply of an audit that is done: block count, objects, the words of each object, and zeros behind them.
+fn write_reply(
+    reply: &mut [u8],
+    block_count: usize,
+    objects: usize,
+    addresses: &[u64],
+    stored: &[u32],
+    true_counts: &[u32],
+)
+    requires { ⌜ Roomy (length (now reply)) objects (now addresses) (now stored) (now «true_counts») ⌝ }
+    ensures { λ _. ⌜ now (reply .exit) ≡ paddedBytes (length (now (reply .entry))) («block_count» ∷ objects ∷ objectWords (countedPlaces objects (now (addresses .entry)) (now (stored .entry)) (now («true_counts» .entry)))) ⌝ }
+{
+    words::put_word(reply, 0, block_count as u64);
+    words::put_word(reply, 8, objects as u64);
+    let mut i: usize = 0;
+    while i < objects {
+        put_object(reply, 16 + 24 * i, addresses[i], stored[i], true_counts[i]);
+        i += 1;
+    }
+    words::clear_from(reply, 16 + 24 * i);
+}
+
+// The audit of an image. `blocks` gets the block list, `reply` the other fields; the number is returned.
+pub fn audit_bytes(image: &[u8], blocks: &mut [u8], reply: &mut [u8]) -> u32
+    ensures { λ r. ⌜ _≡_ {A = CReply} (record { number = r; list = now (blocks .exit); reply = now (reply .exit) }) (cAudit (now (image .entry)) (length (now (blocks .entry))) (length (now (reply .entry)))) ⌝ }
+{
+    let limits = format::the_limits();
+    if reply.len() / 8 < 2 + 3 * limits.objects_most {
+        front::clear_both(blocks, reply);
+        return front::SHORT_REPLY;
+    }
+    let mut list = [0u64; 2 * BLOCKS_MOST];
+    let mut addresses = [0u64; OBJECTS_MOST];
+    let mut stored = [0u32; OBJECTS_MOST];
+    let mut true_counts = [0u32; OBJECTS_MOST];
+    let n = 2 * walk::blocks::room(blocks.len() / 8);
+    let r = audit::audit_into(
+        image,
+        &mut list[..n],
+        &mut addresses,
+        &mut stored,
+        &mut true_counts,
+    );
+    if r.number != 0 {
+        front::clear_both(blocks, reply);
+        return r.number as u32;
+    }
+    let used = 2 * r.block_count;
+    words::spill(&list[..used], blocks);
+    write_reply(
+        reply,
+        r.block_count,
+        r.objects,
+        &addresses,
+        &stored,
+        &true_counts,
+    );
+    0
+}
