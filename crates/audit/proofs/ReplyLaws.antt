@@ -22,8 +22,8 @@ use Rattle.ledger.specs.Report.{countedPlaces, Empty, Readable, StoredRead}
 use Rattle.ledger.specs.declared.report.Ledger.{Ledger}
 use Rattle.ledger.proofs.TableLaws.{length-linkedOf, table-none}
 use Rattle.ledger.proofs.ReportLaws.{counted-law, empty-law}
-use Rattle.image.specs.Superblock.{superblockOf}
-use Rattle.image.specs.declared.superblock.Superblock.{Superblock}
+use Rattle.superblock.specs.Superblock.{superblockOf}
+use Rattle.superblock.specs.declared.Superblock.{Superblock}
 use Rattle.object.specs.Object.{Bounded}
 use Rattle.object.specs.declared.object.ObjectRead.the-variants.{Done, Stopped}
 use Rattle.links.proofs.HeadersInside.{headers-inside}

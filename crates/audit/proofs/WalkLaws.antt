@@ -16,8 +16,8 @@ use Rattle.walk.proofs.Simulation.{Simulation, start, callee-done, callee-stopp
 use Rattle.ledger.specs.Links.{linkSum}
 use Rattle.ledger.specs.Table.{linkedOf, Started}
 use Rattle.ledger.proofs.LedgerLaws.{sum-first}
-use Rattle.image.specs.Superblock.{superblockOf}
-use Rattle.image.specs.declared.superblock.Superblock.{Superblock}
+use Rattle.superblock.specs.Superblock.{superblockOf}
+use Rattle.superblock.specs.declared.Superblock.{Superblock}
 use Rattle.group.specs.Group.{Ready}
 use Rattle.object.proofs.ObjectLaws.{room-lent}
 use Rattle.object.specs.Object.{LedgerWalked}

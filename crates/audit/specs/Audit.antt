@@ -10,8 +10,8 @@ use Rattle.format.specs.Walk.{answerOf, run}
 use Rattle.format.specs.Audit.{auditWalk}
 use Rattle.format.specs.Answers.{AuditReply, audit}
 use Rattle.walk.specs.Lent.{Walked}
-use Rattle.image.specs.Superblock.{superblockOf}
-use Rattle.image.specs.declared.superblock.Superblock.{Superblock}
+use Rattle.superblock.specs.Superblock.{superblockOf}
+use Rattle.superblock.specs.declared.Superblock.{Superblock}
 use Rattle.object.specs.Object.{objectEnd, ReadyIf}
 use Rattle.object.specs.declared.object.ObjectRead.{ObjectRead}
 use Rattle.ledger.specs.Report.{countedPlaces, countedOf}

@@ -2,14 +2,13 @@
 use format::OBJECTS_MOST;
 use format::Refusal;
 use format::number_of;
-use image::superblock;
-use image::superblock::Opening;
-use image::superblock::Superblock;
 use ledger::report;
 use ledger::report::Ledger;
 use ledger::table;
 use object::object::ObjectRead;
 use object::objects;
+use superblock::Opening;
+use superblock::Superblock;
 use walk::blocks;
 use walk::blocks::Entry;
 ghost use mathlib.Core.Path.{_≡_};

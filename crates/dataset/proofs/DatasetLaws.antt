@@ -20,15 +20,15 @@ use Rattle.walk.specs.declared.blocks.Entry.the-variants.{Entered, Refused}
 use Rattle.walk.proofs.Bind.{bind-assoc, ret-bind}
 use Rattle.walk.proofs.Tests.{all-fails, all-passes, all-last}
 use Rattle.walk.proofs.Simulation.{Simulation, start, same-walk, returned, callee-value, callee-refusal, callee-stopped, callee-done, one-block}
-use Rattle.image.specs.declared.message.Body.{Body}
-use Rattle.image.specs.Message.{messageOf}
+use Rattle.message.specs.declared.Body.{Body}
+use Rattle.message.specs.Message.{messageOf}
 use Rattle.dataset.specs.declared.dataset.Dataset.{Dataset}
 use Rattle.dataset.specs.declared.dataset.MessagesRead.{MessagesRead}
 use Rattle.dataset.specs.declared.dataset.MessagesRead.the-variants as kept
-use Rattle.dataset.specs.declared.datatype.Datatype.the-variants.{Own}
-use Rattle.dataset.specs.declared.layout.Layout.{Layout}
-use Rattle.dataset.specs.declared.layout.Layout.the-variants.{Compact, Contiguous}
-use Rattle.dataset.specs.Layout.{layoutOf}
+use Rattle.datatype.specs.declared.Datatype.the-variants.{Own}
+use Rattle.layout.specs.declared.Layout.{Layout}
+use Rattle.layout.specs.declared.Layout.the-variants.{Compact, Contiguous}
+use Rattle.layout.specs.Layout.{layoutOf}
 use Rattle.dataset.specs.Dataset.{bodyOf, datasetOf, dataFills, messagesWalk, messagesRead}
 
 -- a part of the image from a place to the end of a body is the body

@@ -12,11 +12,11 @@ use Rattle.format.specs.Dataset.{headAt, fills}
 use Rattle.format.specs.Result.{Result}
 use Rattle.format.specs.Walk.{Walk, ret, refuse, fault, located, check, _>>=_, _>>_}
 use Rattle.walk.specs.Lent.{Ended, ended, stopped}
-use Rattle.image.specs.declared.message.Body.{Body}
-use Rattle.dataset.specs.Dataspace.{spaceOf, SpaceInside}
-use Rattle.dataset.specs.declared.dataspace.DataspaceRead.the-variants.{Read}
-use Rattle.dataset.specs.Datatype.{typeOf}
-use Rattle.dataset.specs.Layout.{layoutOf}
+use Rattle.message.specs.declared.Body.{Body}
+use Rattle.dataspace.specs.Dataspace.{spaceOf, SpaceInside}
+use Rattle.dataspace.specs.declared.DataspaceRead.the-variants.{Read}
+use Rattle.datatype.specs.Datatype.{typeOf}
+use Rattle.layout.specs.Layout.{layoutOf}
 use Rattle.dataset.specs.declared.dataset.Dataset.{Dataset}
 use Rattle.dataset.specs.declared.dataset.MessagesRead.{MessagesRead}
 use Rattle.dataset.specs.declared.dataset.MessagesRead.the-variants as messages

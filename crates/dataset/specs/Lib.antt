@@ -1,4 +1,1 @@
-pub mod Dataspace
-pub mod Datatype
-pub mod Layout
 pub mod Dataset

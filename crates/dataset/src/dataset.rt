@@ -1,14 +1,11 @@
 // The dataset walk: the three messages, each read whole, and the data's block.
-use crate::dataspace;
-use crate::dataspace::DataspaceRead;
-use crate::datatype;
-use crate::datatype::Datatype;
-use crate::datatype::DatatypeRead;
-use crate::layout;
-use crate::layout::Layout;
-use crate::layout::LayoutRead;
+use dataspace::DataspaceRead;
+use datatype::Datatype;
+use datatype::DatatypeRead;
 use format::Refusal;
-use image::message::Body;
+use layout::Layout;
+use layout::LayoutRead;
+use message::Body;
 use walk::blocks;
 use walk::blocks::Entry;
 use walk::kinds;
@@ -22,10 +19,10 @@ ghost use Rattle.format.specs.Dataset.{dataWalk, datasetWalk};
 ghost use Rattle.format.specs.Layout.{readLayout};
 ghost use Rattle.format.specs.Walk.{run};
 ghost use Rattle.walk.specs.Lent.{Lent, Walked, blocksOf, entryEnd};
-ghost use Rattle.image.specs.Message.{messageOf};
-ghost use Rattle.dataset.specs.Dataspace.{SpaceRead};
-ghost use Rattle.dataset.specs.Datatype.{typeOf, typeResult};
-ghost use Rattle.dataset.specs.Layout.{layoutOf, layoutResult};
+ghost use Rattle.message.specs.Message.{messageOf};
+ghost use Rattle.dataspace.specs.Dataspace.{SpaceRead};
+ghost use Rattle.datatype.specs.Datatype.{typeOf, typeResult};
+ghost use Rattle.layout.specs.Layout.{layoutOf, layoutResult};
 ghost use Rattle.dataset.specs.Dataset.{Inside, BodiesInside, SizesInside, bodyOf, datasetOf, dataFills, typeMessage, messagesWalk, messagesRead, MessagesShaped, datasetEnd, DatasetShaped};
 
 // What the messages say. The sizes and maxima themselves stay in the body of the dataspace message.

@@ -1,5 +1,2 @@
-// The readers of a dataset's messages, and the dataset walk over them.
+// The dataset walk over its messages and its data.
 pub mod dataset;
-pub mod dataspace;
-pub mod datatype;
-pub mod layout;

@@ -19,15 +19,15 @@ use Rattle.format.specs.Answers.{DescribeReply, describeEnd, describe}
 use Rattle.walk.specs.Lent.{blocksOf}
 use Rattle.walk.proofs.BlockList.{list-cleared, length-blocksOf}
 use Rattle.walk.proofs.Simulation.{walked-done, walked-refused}
-use Rattle.image.specs.declared.message.Body.{Body}
+use Rattle.message.specs.declared.Body.{Body}
 use Rattle.path.specs.Form.{SoundPath, componentsOf}
-use Rattle.dataset.specs.Dataspace.{spaceOf}
+use Rattle.dataspace.specs.Dataspace.{spaceOf}
 use Rattle.dataset.specs.Dataset.{bodyOf, datasetOf}
 use Rattle.dataset.specs.declared.dataset.Dataset.{Dataset}
-use Rattle.dataset.proofs.DataspaceLaws.{length-toWords}
-use Rattle.lookup.specs.Component.{EndsAs}
+use Rattle.dataspace.proofs.DataspaceLaws.{length-toWords}
+use Rattle.component.specs.Component.{EndsAs}
 use Rattle.lookup.specs.Follow.{targetRun}
-use Rattle.lookup.specs.declared.component.Target as targets
+use Rattle.component.specs.declared.Target as targets
 use Rattle.lookup.proofs.FollowLaws.{follow-target}
 use Rattle.describe.specs.Reader.{datasetAtWalk, ReaderIs}
 use Rattle.describe.specs.Fields.{TypeIs, LayoutIs}

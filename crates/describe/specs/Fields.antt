@@ -1,10 +1,10 @@
 -- The fields of a description that are read off a datatype and a layout.
 use mathlib.Core.Path.{_≡_}
 use Rattle.format.specs.Answers.{typeClass, typeVersion, typeBits, typeSize, typeShared}
-use Rattle.dataset.specs.Datatype.{typeOf}
-use Rattle.dataset.specs.Layout.{layoutOf}
-use Rattle.dataset.specs.declared.datatype.Datatype.{Datatype}
-use Rattle.dataset.specs.declared.layout.Layout.{Layout}
+use Rattle.datatype.specs.Datatype.{typeOf}
+use Rattle.layout.specs.Layout.{layoutOf}
+use Rattle.datatype.specs.declared.Datatype.{Datatype}
+use Rattle.layout.specs.declared.Layout.{Layout}
 use Rattle.describe.specs.declared.fields.TypeFields.{TypeFields}
 use Rattle.describe.specs.declared.fields.LayoutFields.{LayoutFields}
 

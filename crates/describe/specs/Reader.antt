@@ -6,7 +6,7 @@ use Rattle.format.specs.Walk.{Walk, run, _>>_}
 use Rattle.format.specs.Superblock.{Superblock, superblockWalk}
 use Rattle.format.specs.Describe.{describeWalk}
 use Rattle.walk.specs.Lent.{Lent, Ended, ended, stopped, Walked}
-use Rattle.image.specs.declared.message.Body.{Body}
+use Rattle.message.specs.declared.Body.{Body}
 use Rattle.dataset.specs.Dataset.{Inside, bodyOf, datasetOf, Shaped}
 use Rattle.dataset.specs.declared.dataset.Dataset.{Dataset}
 use Rattle.describe.specs.declared.reader.DatasetAt.{DatasetAt}

@@ -1,16 +1,15 @@
 // What a description says of a dataset's messages.
 use dataset::dataset::Dataset;
-use dataset::dataspace;
-use dataset::datatype::Datatype;
-use dataset::layout::Layout;
+use datatype::Datatype;
 use format::RANK_MOST;
-use image::message::Body;
+use layout::Layout;
+use message::Body;
 ghost use mathlib.Core.Path.{_≡_};
 ghost use Prim.Native.Nat.{_+_, _*_, _≤_};
 ghost use lib.ListN.{length, drop};
 ghost use Rattle.format.specs.Limits.{rankMost};
 ghost use Rattle.format.specs.Bytes.{toWords, padded};
-ghost use Rattle.dataset.specs.Dataspace.{spaceOf};
+ghost use Rattle.dataspace.specs.Dataspace.{spaceOf};
 ghost use Rattle.dataset.specs.Dataset.{Inside, bodyOf};
 ghost use Rattle.describe.specs.Reader.{Readable};
 ghost use Rattle.describe.specs.Fields.{TypeIs, LayoutIs};

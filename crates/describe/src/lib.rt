@@ -2,18 +2,17 @@
 mod fields;
 pub mod reader;
 
+use component::Target;
 use dataset::dataset::Dataset;
 use format::NO_PLACE;
 use format::RANK_MOST;
 use format::Refusal;
 use format::number_of;
-use image::message::Body;
-use image::superblock;
-use image::superblock::Opening;
-use image::superblock::Superblock;
-use lookup::component::Target;
 use lookup::follow;
+use message::Body;
 use reader::DatasetAt;
+use superblock::Opening;
+use superblock::Superblock;
 use walk::blocks;
 ghost use mathlib.Core.Path.{_≡_};
 ghost use mathlib.Core.List.{List, []};
@@ -24,7 +23,7 @@ ghost use Rattle.format.specs.Walk.{fault, noPlace, done, refused as refusedRun
 ghost use Rattle.format.specs.Lookup.{follow as followRun};
 ghost use Rattle.format.specs.Describe.{describeWalk};
 ghost use Rattle.format.specs.Answers.{describeEnd, describe as describeReply};
-ghost use Rattle.image.specs.Superblock.{superblockOf};
+ghost use Rattle.superblock.specs.Superblock.{superblockOf};
 ghost use Rattle.path.specs.Form.{componentsOf};
 ghost use Rattle.dataset.specs.Dataset.{bodyOf, datasetOf};
 ghost use Rattle.object.specs.Object.{Bounded};

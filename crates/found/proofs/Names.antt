@@ -8,7 +8,7 @@ use native.Mathlib.Omega.{arith}
 use Rattle.format.specs.Bytes.{if_then_else_, sameBytes}
 use Rattle.format.specs.Entry.{Entry, isHard}
 use Rattle.format.specs.Lookup.{absent, hard, soft}
-use Rattle.heap.proofs.OrderLaws.{same-equal}
+use Rattle.order.proofs.OrderLaws.{same-equal}
 use Rattle.group.specs.Entries.{linkTo, remembered, Rising, NoneNamed}
 use Rattle.group.proofs.Entries.{remembered-entry, not-remembered}
 

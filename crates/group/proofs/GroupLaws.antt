@@ -13,14 +13,14 @@ use Rattle.format.specs.Tree.{treeWalk, groupWalk}
 use Rattle.walk.specs.Lent.{blocksOf, Lent, Walked, ended, stopped}
 use Rattle.heap.specs.Segment.{segmentOf, heapOf}
 use Rattle.heap.specs.declared.segment.Heap as heaps
-use Rattle.symbol.specs.Visit.{visitBoth, bothOf}
+use Rattle.visit.specs.Visit.{visitBoth, bothOf}
 use Rattle.symbol.specs.Entry.{groupOf, stateOf}
-use Rattle.symbol.specs.declared.visit.Link.the-variants.{Absent}
+use Rattle.visit.specs.declared.Link.the-variants.{Absent}
 use Rattle.symbol.specs.declared.entry.Group as entries
 use Rattle.symbol.specs.declared.entry.State.{State}
 use Rattle.symbol.specs.declared.entry.Step.{Step}
 use Rattle.symbol.specs.declared.entry.Step.the-variants.{Done, Stopped}
-use Rattle.group.specs.Tree.{stepEnd, SoundIf}
+use Rattle.symbol_node.specs.Tree.{stepEnd, SoundIf}
 use Rattle.group.specs.Group.{groupEnd, ReadyIf}
 use Rattle.walk.proofs.Simulation.{Simulation, start, returned, callee-done, callee-stopped}
 

@@ -1,5 +1,3 @@
-pub mod NodeLaws
-pub mod SymbolLaws
 pub mod TreeLaws
 pub mod GroupLaws
 pub mod Visits

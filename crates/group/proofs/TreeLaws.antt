@@ -21,10 +21,10 @@ use Rattle.walk.proofs.Parts.{part-byte, part-number, part-first-number, drop-p
 use mathlib.Core.Bool.{true, false}
 use Rattle.walk.proofs.Tests.{field-equal, field-unequal, field-least}
 use Rattle.walk.proofs.Simulation.{passed, failed, chosen-then, Simulation, start, same-walk, returned, callee-done, callee-stopped}
-use Rattle.symbol.specs.Range.{Tight}
-use Rattle.symbol.specs.declared.range.Range.{Range}
-use Rattle.symbol.specs.Visit.{Both}
-use Rattle.group.specs.Node.{branchWalk}
+use Rattle.range.specs.Range.{Tight}
+use Rattle.range.specs.declared.Range.{Range}
+use Rattle.visit.specs.Visit.{Both}
+use Rattle.node.specs.Node.{branchWalk}
 
 -- a node below: its own walk, then its children
 subtree-split : (g : Rattle.format.specs.Entry.Group Both) (level at : ℕ) (bounds : List Bound) (s : GroupState Both) →

@@ -9,8 +9,8 @@ use Rattle.format.specs.Tree.{groupWalk}
 use Rattle.walk.specs.Lent.{blocksOf, Lent, Ended, ended, stopped, Walked}
 use Rattle.ledger.specs.Links.{linkSum}
 use Rattle.ledger.specs.Table.{linkedOf, Table}
-use Rattle.symbol.specs.Visit.{Both, visitBoth, bothOf}
-use Rattle.symbol.specs.declared.visit.Link.the-variants.{Absent}
+use Rattle.visit.specs.Visit.{Both, visitBoth, bothOf}
+use Rattle.visit.specs.declared.Link.the-variants.{Absent}
 use Rattle.symbol.specs.declared.entry.Step.{Step}
 use Rattle.symbol.specs.declared.entry.Step.the-variants.{Done, Stopped}
 

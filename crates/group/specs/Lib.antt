@@ -1,4 +1,2 @@
-pub mod Node
-pub mod Tree
 pub mod Group
 pub mod Entries

@@ -2,11 +2,11 @@
 use crate::tree;
 use heap::segment;
 use heap::segment::HeapRead;
+use range::Name;
 use symbol::entry::Group;
 use symbol::entry::State;
 use symbol::entry::Step;
-use symbol::range::Name;
-use symbol::visit::Link;
+use visit::Link;
 ghost use Rattle.group.specs.Group.{Settings, Ready, GroupIs};
 
 // The group with the tree and the heap at these addresses, for the audit or for a lookup of `wanted`.

@@ -1,23 +1,21 @@
 // The descent over a group's tree.
-use crate::node;
-use crate::node::BranchRead;
-use crate::node::NodeRead;
-use crate::symbols;
 use format::Refusal;
+use key::key_at;
+use node::BranchRead;
+use node::NodeRead;
+use range::Name;
+use range::Range;
 use symbol::entry::Group;
 use symbol::entry::State;
 use symbol::entry::Step;
-use symbol::key::key_at;
-use symbol::range;
-use symbol::range::Name;
-use symbol::range::Range;
+use symbol_node;
 use walk::numbers::u16_at;
 use walk::numbers::u64_at;
 ghost use Prim.Native.Nat.{ℕ, _+_, _≤_};
 ghost use lib.ListN.{length};
-ghost use Rattle.symbol.specs.Range.{RangeInside};
-ghost use Rattle.symbol.specs.Key.{KeyAt};
-ghost use Rattle.group.specs.Tree.{Fixed, Sound, Descending, ChildRange, SubtreeIs, HeightAt, TreeIs};
+ghost use Rattle.range.specs.Range.{RangeInside};
+ghost use Rattle.key.specs.Key.{KeyAt};
+ghost use Rattle.symbol_node.specs.Tree.{Fixed, Sound, Descending, ChildRange, SubtreeIs, HeightAt, TreeIs};
 
 // The range of a child: between the key at `at` and the one behind the child's address.
 fn child_range(image: &[u8], segment: &[u8], range: Range, at: usize) -> Range
@@ -49,7 +47,7 @@ pub fn subtree(
     ensures { λ r. ⌜ SubtreeIs (now (image .entry)) (now (segment .entry)) (now (wanted .entry)) (now (list .entry)) (now (addresses .entry)) (now (counts .entry)) group range height at state (now (list .exit)) (now (addresses .exit)) (now (counts .exit)) r ⌝ }
 {
     if height == 0 {
-        return symbols::symbol_node(
+        return symbol_node::symbol_node(
             image,
             segment,
             wanted,

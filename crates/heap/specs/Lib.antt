@@ -1,3 +1,1 @@
-pub mod FreeBlocks
 pub mod Segment
-pub mod Texts

@@ -20,12 +20,12 @@ use Rattle.walk.specs.declared.blocks.Entry.the-variants.{Entered, Refused}
 use Rattle.walk.proofs.BlockList.{blocks-next, blocks-snoc, entered-zero}
 use Rattle.walk.proofs.Parts.{part-length, part-part}
 use Rattle.walk.proofs.Simulation.{Simulation, start, same-walk, returned, block-entered, block-refused, entered-inside, callee-value, callee-refusal}
-use Rattle.image.specs.Tally.{messageAt, Tallied}
+use Rattle.tally.specs.Tally.{messageAt, Tallied}
 use Rattle.image.specs.Scan.{MessagesAre, Holds, Continues, NextIs}
 use Rattle.image.specs.Continuations.{Later, blocksFrom, Waiting, Found, Sought}
-use Rattle.image.specs.declared.tally.Tally.{Tally}
+use Rattle.tally.specs.declared.Tally.{Tally}
 use Rattle.image.specs.declared.continuations.Cursor.{Cursor}
-use Rattle.image.proofs.TallyLaws.{ofType-append}
+use Rattle.tally.proofs.TallyLaws.{ofType-append}
 
 abbrev pub cursor : ℕ → ℕ → ℕ → Cursor
 cursor block at end = record { block = block; at = at; end = end }

@@ -20,13 +20,13 @@ use Rattle.walk.specs.Numbers.{Number}
 use Rattle.walk.specs.declared.blocks.Entry.the-variants.{Entered, Refused}
 use Rattle.walk.proofs.BlockList.{entered-zero}
 use Rattle.walk.proofs.Simulation.{Simulation, start, same-walk, returned, refusal, passed, failed, outside, block-entered, block-refused, entered-inside, callee-value, callee-refusal, callee-last, callee-stopped, callee-done}
-use Rattle.image.specs.Message.{messageOf}
-use Rattle.image.specs.Tally.{messageAt, Placed, Tallied}
+use Rattle.message.specs.Message.{messageOf}
+use Rattle.tally.specs.Tally.{messageAt, Placed, Tallied}
 use Rattle.image.specs.Scan.{MessagesAre, Holds}
 use Rattle.image.specs.Continuations.{Waiting, Gathered}
 use Rattle.image.specs.Header.{Located, BodyAt, headerEnd, KnownAs}
-use Rattle.image.specs.declared.message.Body.{Body}
-use Rattle.image.specs.declared.tally.Tally.{Tally}
+use Rattle.message.specs.declared.Body.{Body}
+use Rattle.tally.specs.declared.Tally.{Tally}
 use Rattle.image.specs.declared.continuations.Continuing.{Continuing}
 use Rattle.image.specs.declared.continuations.Continuing.the-variants.{Done, Stopped}
 use Rattle.image.specs.declared.header.HeaderRead.{HeaderRead}

@@ -15,9 +15,9 @@ use Rattle.format.specs.Path.{withByte, pathParts}
 use Rattle.format.specs.Lookup.{Target, object, symbolic, componentWalk, fromTarget, follow}
 use Rattle.walk.specs.Lent.{Lent}
 use Rattle.path.specs.Form.{EndsAt, componentsOf}
-use Rattle.lookup.specs.Component.{EndsAs}
+use Rattle.component.specs.Component.{EndsAs}
 use Rattle.lookup.specs.Follow.{targetRun, restOf}
-use Rattle.lookup.specs.declared.component.Target as targets
+use Rattle.component.specs.declared.Target as targets
 
 -- there is always a part, if only an empty one
 parts-some : (bs : List ℕ) → isEmpty (pathParts bs) ≡ false

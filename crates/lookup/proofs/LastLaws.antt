@@ -12,8 +12,8 @@ use Rattle.format.specs.Lookup as lookup
 use Rattle.format.specs.Lookup.{kindNumber, locateWalk}
 use Rattle.walk.specs.Lent.{blocksOf, Lent, ended, stopped, Walked}
 use Rattle.walk.proofs.Simulation.{Simulation, start, callee-done, callee-stopped, walked-refused}
-use Rattle.image.specs.Superblock.{superblockOf}
-use Rattle.image.specs.declared.superblock.Superblock.{Superblock}
+use Rattle.superblock.specs.Superblock.{superblockOf}
+use Rattle.superblock.specs.declared.Superblock.{Superblock}
 use Rattle.lookup.specs.Last.{KindIs}
 use Rattle.lookup.specs.declared.last.Kind.the-variants.{Known, Stopped}
 

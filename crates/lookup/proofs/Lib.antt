@@ -1,4 +1,3 @@
-pub mod ComponentLaws
 pub mod FollowLaws
 pub mod LastLaws
 pub mod LookupLaws

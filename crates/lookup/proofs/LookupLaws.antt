@@ -11,14 +11,14 @@ use Rattle.format.specs.Path.{components, badPath, parsePath}
 use Rattle.format.specs.Lookup as lookups
 use Rattle.format.specs.Lookup.{Target, follow, locateWalk, lookupRun}
 use Rattle.format.specs.Answers.{lookupEnd, lookup}
-use Rattle.image.specs.Superblock.{superblockOf}
-use Rattle.image.specs.declared.superblock.Superblock.{Superblock}
+use Rattle.superblock.specs.Superblock.{superblockOf}
+use Rattle.superblock.specs.declared.Superblock.{Superblock}
 use Rattle.path.specs.Form.{componentsOf}
-use Rattle.lookup.specs.Component.{EndsAs}
+use Rattle.component.specs.Component.{EndsAs}
 use Rattle.lookup.specs.Follow.{targetRun}
 use Rattle.lookup.specs.Last.{KindIs}
 use Rattle.lookup.specs.Lookup.{replyOf, LocatedIs}
-use Rattle.lookup.specs.declared.component.Target as targets
+use Rattle.component.specs.declared.Target as targets
 use Rattle.lookup.specs.declared.last.Kind as kinds
 use Rattle.lookup.specs.declared.lookup.Located.{Located}
 use Rattle.lookup.proofs.FollowLaws.{afterTarget, follow-target}

@@ -6,8 +6,8 @@ use Rattle.format.specs.Blocks.{Block}
 use Rattle.format.specs.Walk.{Outcome, done, refused, run, _>>=_, _>>_}
 use Rattle.format.specs.Superblock.{superblockWalk}
 use Rattle.format.specs.Lookup.{Located, locateWalk}
-use Rattle.image.specs.Superblock.{superblockOf}
-use Rattle.image.specs.declared.superblock.Superblock.{Superblock}
+use Rattle.superblock.specs.Superblock.{superblockOf}
+use Rattle.superblock.specs.declared.Superblock.{Superblock}
 use Rattle.lookup.specs.declared.last.Kind.{Kind}
 use Rattle.lookup.specs.declared.last.Kind.the-variants.{Known, Stopped}
 

@@ -1,4 +1,3 @@
-pub mod Component
 pub mod Follow
 pub mod Last
 pub mod Lookup

@@ -7,8 +7,8 @@ use Rattle.format.specs.Blocks.{roomOf}
 use Rattle.format.specs.Walk.{Outcome, done}
 use Rattle.format.specs.Lookup.{follow, locateWalk}
 use Rattle.format.specs.Answers.{LookupReply, lookupEnd}
-use Rattle.image.specs.Superblock.{superblockOf}
-use Rattle.image.specs.declared.superblock.Superblock.{Superblock}
+use Rattle.superblock.specs.Superblock.{superblockOf}
+use Rattle.superblock.specs.declared.Superblock.{Superblock}
 use Rattle.path.specs.Form.{componentsOf}
 use Rattle.lookup.specs.declared.lookup.Located.{Located}
 

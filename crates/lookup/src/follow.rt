@@ -1,18 +1,17 @@
 // All components of a path, from the root on.
-use crate::component;
-use crate::component::Target;
+use component::Target;
 use format::OBJECTS_MOST;
-use image::superblock::Superblock;
+use superblock::Superblock;
 use walk::blocks;
 ghost use Prim.Native.Nat.{_≤_};
 ghost use lib.ListN.{length};
 ghost use Rattle.format.specs.Blocks.{roomOf};
 ghost use Rattle.walk.specs.Lent.{Lent};
 ghost use Rattle.ledger.specs.Table.{Table};
-ghost use Rattle.image.specs.Superblock.{superblockOf};
+ghost use Rattle.superblock.specs.Superblock.{superblockOf};
 ghost use Rattle.object.specs.Object.{Opened, Bounded};
 ghost use Rattle.path.specs.Form.{componentsOf};
-ghost use Rattle.lookup.specs.Component.{EndsAs};
+ghost use Rattle.component.specs.Component.{EndsAs};
 ghost use Rattle.lookup.specs.Follow.{targetRun};
 
 // Looks up one component after the other; the tables are lent to each and stay empty.

@@ -2,8 +2,7 @@
 use format::Refusal;
 use image::header;
 use image::header::HeaderRead;
-use image::superblock;
-use image::superblock::Superblock;
+use superblock::Superblock;
 use walk::blocks::Entry;
 ghost use Rattle.walk.specs.Lent.{Lent};
 ghost use Rattle.object.specs.Object.{Opened};

@@ -1,5 +1,4 @@
 // Path lookup.
-pub mod component;
 pub mod follow;
 pub mod last;
 pub mod lookup;

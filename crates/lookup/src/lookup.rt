@@ -1,14 +1,13 @@
 // Path lookup: the kind and the address of what a path leads to.
-use crate::component::Target;
 use crate::follow;
 use crate::last;
 use crate::last::Kind;
+use component::Target;
 use format::NO_PLACE;
 use format::Refusal;
 use format::number_of;
-use image::superblock;
-use image::superblock::Opening;
-use image::superblock::Superblock;
+use superblock::Opening;
+use superblock::Superblock;
 use walk::blocks;
 ghost use mathlib.Core.Path.{_≡_};
 ghost use Prim.Native.Nat.{_≤_};

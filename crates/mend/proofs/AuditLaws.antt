@@ -15,7 +15,7 @@ use Rattle.format.specs.Superblock.{Superblock, opened, notOpened, openImage, s
 use Rattle.format.specs.Ledger.{Linked}
 use Rattle.format.specs.Audit.{Counted, countedIn, auditRun}
 use Rattle.format.specs.Answers.{AuditReply, audit}
-use Rattle.image.proofs.SuperblockLaws.{end-inside}
+use Rattle.superblock.proofs.SuperblockLaws.{end-inside}
 use Rattle.ledger.specs.Links.{addressesOf}
 use Rattle.ledger.specs.Report.{countedPlaces, countedOf}
 use Rattle.links.proofs.AuditAnswers.{audit-zero}

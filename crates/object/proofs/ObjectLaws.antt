@@ -19,15 +19,15 @@ use Rattle.walk.proofs.BlockList.{room-most, lent-none}
 use Rattle.walk.proofs.Follows.{Ran}
 use Rattle.walk.proofs.Simulation.{Simulation, start, returned, callee-done, callee-stopped, callee-last}
 use Rattle.ledger.specs.Table.{linkedOf}
-use Rattle.symbol.specs.Visit.{Both, bothOf}
+use Rattle.visit.specs.Visit.{Both, bothOf}
 use Rattle.symbol.specs.declared.entry.Step as steps
 use Rattle.dataset.specs.Dataset.{datasetEnd}
 use Rattle.dataset.specs.declared.dataset.DatasetRead as datasets
 use Rattle.group.specs.Group as groups
 use Rattle.group.specs.Group.{Ready, groupEnd, GroupIs}
 use Rattle.group.proofs.Entries.{audit-part}
-use Rattle.image.specs.Superblock.{superblockOf}
-use Rattle.image.specs.declared.superblock.Superblock as superblocks
+use Rattle.superblock.specs.Superblock.{superblockOf}
+use Rattle.superblock.specs.declared.Superblock as superblocks
 use Rattle.object.specs.Object.{Opened, Bounded, objectEnd, ReadyIf, LedgerWalked}
 use Rattle.object.specs.declared.object.ObjectRead.{ObjectRead}
 use Rattle.object.specs.declared.object.ObjectRead.the-variants.{Done, Stopped}

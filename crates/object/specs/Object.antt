@@ -6,9 +6,9 @@ use Rattle.format.specs.Ledger.{Linked}
 use Rattle.walk.specs.Lent.{blocksOf, Ended, ended, stopped, Walked}
 use Rattle.ledger.specs.Table.{linkedOf}
 use Rattle.group.specs.Group.{Settings, Ready}
-use Rattle.image.specs.Superblock.{FieldsBounded}
-use Rattle.image.specs.declared.superblock.Superblock.{Superblock}
-use Rattle.image.specs.declared.superblock.Opening.the-variants as openings
+use Rattle.superblock.specs.Superblock.{FieldsBounded}
+use Rattle.superblock.specs.declared.Superblock.{Superblock}
+use Rattle.superblock.specs.declared.Opening.the-variants as openings
 use Rattle.object.specs.declared.object.ObjectRead.{ObjectRead}
 use Rattle.object.specs.declared.object.ObjectRead.the-variants.{Done, Stopped}
 

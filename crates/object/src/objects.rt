@@ -1,10 +1,10 @@
 // All objects of the audit, in order of discovery.
 use crate::object;
 use crate::object::ObjectRead;
-use image::superblock::Superblock;
+use superblock::Superblock;
 ghost use Rattle.format.specs.Limits.{objectsMost};
 ghost use Rattle.format.specs.Audit.{objectsWalk};
-ghost use Rattle.image.specs.Superblock.{superblockOf};
+ghost use Rattle.superblock.specs.Superblock.{superblockOf};
 ghost use Rattle.group.specs.Group.{Ready};
 ghost use Rattle.object.specs.Object.{Opened, LedgerWalked};
 

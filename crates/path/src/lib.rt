@@ -1,6 +1,6 @@
 // The form of a path, read in place.
-use heap::order::contains;
-use heap::order::same;
+use order::contains;
+use order::same;
 ghost use mathlib.Core.Path.{_≡_};
 ghost use Prim.Native.Nat.{_≤_};
 ghost use lib.ListN.{length, drop};

@@ -13,23 +13,23 @@ use Rattle.format.specs.Names.{Bound, Text, text, fault, faultNumber, readText,
 use Rattle.format.specs.Entry.{GroupState, readValue, readEntry}
 use Rattle.format.specs.Symbols.{entries}
 use Rattle.heap.specs.Segment.{chainedHeap}
-use Rattle.heap.specs.Texts.{faultOf, TextRead}
-use Rattle.heap.specs.declared.names.NameFault.{NameFault}
-use Rattle.heap.specs.declared.names.Text.the-variants as texts
+use Rattle.names.specs.Texts.{faultOf, TextRead}
+use Rattle.names.specs.declared.NameFault.{NameFault}
+use Rattle.names.specs.declared.Text.the-variants as texts
 use Rattle.ledger.specs.Links.{linkSum}
 use Rattle.ledger.specs.Table.{linkedOf}
 use Rattle.walk.proofs.Bind.{ret-bind, refuse-bind}
 use Rattle.walk.proofs.Results.{passes, fails, gives, answers}
 use Rattle.walk.proofs.Parts.{part-part, drop-part}
 use Rattle.walk.proofs.Tests.{takes-then, takes-else, field-equal, field-unequal, field-most, field-above}
-use Rattle.symbol.specs.Range.{nameIn, rangeHolds, Tight}
-use Rattle.symbol.specs.Visit.{Both, visitBoth, Visited}
+use Rattle.range.specs.Range.{nameIn, rangeHolds, Tight}
+use Rattle.visit.specs.Visit.{Both, visitBoth, Visited}
 use Rattle.symbol.specs.Entry.{groupOf, stateOf, ValueIs, Ready, NameSound, Kept, EntryIs, EntriesAre}
-use Rattle.symbol.specs.declared.range.Name.{Name}
-use Rattle.symbol.specs.declared.range.Range.{Range}
-use Rattle.symbol.specs.declared.visit.Link.{Link}
-use Rattle.symbol.specs.declared.visit.Visit.{Visit}
-use Rattle.symbol.specs.declared.visit.Visit.the-variants as visits
+use Rattle.range.specs.declared.Name.{Name}
+use Rattle.range.specs.declared.Range.{Range}
+use Rattle.visit.specs.declared.Link.{Link}
+use Rattle.visit.specs.declared.Visit.{Visit}
+use Rattle.visit.specs.declared.Visit.the-variants as visits
 use Rattle.symbol.specs.declared.entry.Group.{Group}
 use Rattle.symbol.specs.declared.entry.State.{State}
 use Rattle.symbol.specs.declared.entry.Step.{Step}

@@ -1,4 +1,1 @@
-pub mod RangeLaws
-pub mod KeyLaws
-pub mod VisitLaws
 pub mod EntryLaws

@@ -9,14 +9,14 @@ use Rattle.format.specs.Walk.{Walk, ret, refuse, located}
 use Rattle.format.specs.Names.{Bound, nameText, text}
 use Rattle.format.specs.Entry.{GroupState, readValue, readEntry}
 use Rattle.format.specs.Symbols.{entries}
-use Rattle.heap.specs.FreeBlocks.{Chained}
+use Rattle.free_list.specs.FreeBlocks.{Chained}
 use Rattle.heap.specs.Segment.{chainedHeap}
 use Rattle.ledger.specs.Links.{linkSum}
 use Rattle.ledger.specs.Table.{linkedOf, Table}
-use Rattle.symbol.specs.Range.{NameInside, RangeInside, nameIn, Tight}
-use Rattle.symbol.specs.Visit.{Both, visitBoth, bothOf}
-use Rattle.symbol.specs.declared.range.Name.{Name}
-use Rattle.symbol.specs.declared.range.Range.{Range}
+use Rattle.range.specs.Range.{NameInside, RangeInside, nameIn, Tight}
+use Rattle.visit.specs.Visit.{Both, visitBoth, bothOf}
+use Rattle.range.specs.declared.Name.{Name}
+use Rattle.range.specs.declared.Range.{Range}
 use Rattle.symbol.specs.declared.entry.Group.{Group}
 use Rattle.symbol.specs.declared.entry.State.{State}
 use Rattle.symbol.specs.declared.entry.Step.{Step}

@@ -1,4 +1,1 @@
-pub mod Range
-pub mod Key
-pub mod Visit
 pub mod Entry

@@ -1,19 +1,16 @@
 // The entries of a symbol table node.
-use crate::key::fault_number;
-use crate::range;
-use crate::range::Name;
-use crate::range::Range;
-use crate::visit;
-use crate::visit::Link;
-use crate::visit::Visit;
 use format::Refusal;
-use heap::names;
-use heap::names::Text;
+use key::fault_number;
+use names::Text;
+use range::Name;
+use range::Range;
+use visit::Link;
+use visit::Visit;
 use walk::numbers::u32_at;
 use walk::numbers::u64_at;
 ghost use Prim.Native.Nat.{_+_, _*_, _^_, _≤_, _<_};
 ghost use lib.ListN.{length};
-ghost use Rattle.heap.specs.FreeBlocks.{Chained};
+ghost use Rattle.free_list.specs.FreeBlocks.{Chained};
 ghost use Rattle.ledger.specs.Links.{linkSum};
 ghost use Rattle.ledger.specs.Table.{linkedOf};
 ghost use Rattle.symbol.specs.Entry.{ValueIs, Ready, NameSound, EntryIs, EntriesAre};

@@ -8,7 +8,7 @@ use Prim.Native.Nat.{ℕ}
 use mathlib.Core.Path.{_≡_, ap, _∙_}
 use lib.ListN.{length, replicate}
 use Rattle.format.specs.Superblock.{opened, openImage}
-use Rattle.image.specs.Superblock.{superblockOf}
+use Rattle.superblock.specs.Superblock.{superblockOf}
 use Rattle.object.specs.declared.object.ObjectRead.the-variants.{Done}
 use Rattle.object.specs.Object.{Bounded}
 use Rattle.audit.specs.Audit.{ImageWalked}

@@ -4,7 +4,7 @@ use Rattle.describe.proofs.describe.Statement.{statement}
 use Rattle.describe.proofs.describe.Tie as tie
 use denote.Ref.{now}
 use borrow.Author.Tests.{not-true, not-false}
-use Rattle.image.specs.Superblock.{superblockOf}
+use Rattle.superblock.specs.Superblock.{superblockOf}
 use Rattle.describe.proofs.ReplyLaws.{bad-is, not-opened-is, opened-is}
 
 is-sound-requires : tie.Need-is-sound-requires

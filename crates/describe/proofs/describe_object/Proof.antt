@@ -5,7 +5,7 @@ use Rattle.describe.proofs.describe_object.Statement.{statement}
 use Rattle.describe.proofs.describe_object.Tie as tie
 use denote.Ref.{now}
 use lib.ListN.{length}
-use Rattle.image.specs.Superblock.{superblockOf}
+use Rattle.superblock.specs.Superblock.{superblockOf}
 use Rattle.object.proofs.ObjectLaws.{opened, room-lent}
 use Rattle.describe.specs.Reader.{datasetAtWalk}
 use Rattle.describe.proofs.ReplyLaws.{object-stopped, count-fits, count-small, object-described}

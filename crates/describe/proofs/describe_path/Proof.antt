@@ -3,7 +3,7 @@ use borrow.Author.Needs.{needs}
 use Rattle.describe.proofs.describe_path.Statement.{statement}
 use Rattle.describe.proofs.describe_path.Tie as tie
 use denote.Ref.{now}
-use Rattle.image.specs.Superblock.{superblockOf}
+use Rattle.superblock.specs.Superblock.{superblockOf}
 use Rattle.path.specs.Form.{componentsOf}
 use Rattle.describe.proofs.ReplyLaws.{path-stopped, path-symbolic, path-object}
 

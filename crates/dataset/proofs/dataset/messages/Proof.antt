@@ -9,12 +9,12 @@ use Rattle.format.specs.Layout.{readLayout}
 use Rattle.format.specs.Result.{value}
 use Rattle.format.specs.Walk.{located}
 use Rattle.walk.proofs.Checks.{passes, fails, gives, refuses}
-use Rattle.image.specs.Message.{messageOf}
-use Rattle.dataset.specs.declared.dataspace.DataspaceRead.{DataspaceRead}
-use Rattle.dataset.specs.declared.dataspace.DataspaceRead.the-variants.{Read}
-use Rattle.dataset.specs.Dataspace.{spaceOf, spaceResult, sizesEnd, SpaceInside}
-use Rattle.dataset.specs.Datatype.{typeOf, typeResult}
-use Rattle.dataset.specs.Layout.{layoutOf, layoutResult}
+use Rattle.message.specs.Message.{messageOf}
+use Rattle.dataspace.specs.declared.DataspaceRead.{DataspaceRead}
+use Rattle.dataspace.specs.declared.DataspaceRead.the-variants.{Read}
+use Rattle.dataspace.specs.Dataspace.{spaceOf, spaceResult, sizesEnd, SpaceInside}
+use Rattle.datatype.specs.Datatype.{typeOf, typeResult}
+use Rattle.layout.specs.Layout.{layoutOf, layoutResult}
 use Rattle.dataset.specs.Dataset.{bodyOf, typeMessage, messagesWalk}
 use borrow.Author.Needs.{needs}
 use Rattle.dataset.proofs.dataset.messages.Statement.{statement}

@@ -3,7 +3,7 @@ use denote.Ref.{now}
 use mathlib.Core.Path.{subst}
 use mathlib.Core.List.{List}
 use Prim.Native.Nat.{ℕ}
-use Rattle.dataset.specs.Dataspace.{SpaceRead}
+use Rattle.dataspace.specs.Dataspace.{SpaceRead}
 use Rattle.dataset.proofs.DatasetLaws.{body-part}
 use borrow.Author.Needs.{needs}
 use Rattle.dataset.proofs.dataset.read_space.Statement.{statement}

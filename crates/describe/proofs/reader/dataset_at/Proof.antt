@@ -3,7 +3,7 @@ use borrow.Author.Needs.{needs}
 use Rattle.describe.proofs.reader.dataset_at.Statement.{statement}
 use Rattle.describe.proofs.reader.dataset_at.Tie as tie
 use denote.Ref.{now}
-use Rattle.image.specs.Superblock.{superblockOf}
+use Rattle.superblock.specs.Superblock.{superblockOf}
 use Rattle.describe.proofs.ReaderLaws.{superblock-stopped, at-header, object-read}
 
 enter-superblock-requires : tie.Need-enter-superblock-requires

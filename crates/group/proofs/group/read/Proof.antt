@@ -9,8 +9,8 @@ use Rattle.walk.specs.Lent.{blocksOf, Walked}
 use Rattle.heap.specs.Segment.{heapEnd, segmentOf, SoundHeap, SoundRead}
 use Rattle.heap.specs.declared.segment.HeapRead
 use Rattle.heap.specs.declared.segment.HeapRead.{HeapRead}
-use Rattle.symbol.specs.Visit.{visitBoth, bothOf}
-use Rattle.symbol.specs.declared.visit.Link.the-variants.{Absent}
+use Rattle.visit.specs.Visit.{visitBoth, bothOf}
+use Rattle.visit.specs.declared.Link.the-variants.{Absent}
 use Rattle.heap.proofs.SegmentLaws.{part-between}
 use Rattle.group.proofs.GroupLaws.{heap-stopped, at-tree, tree-ended, sound-ready}
 use native.Mathlib.Omega.{arith}

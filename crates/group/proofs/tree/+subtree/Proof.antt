@@ -11,13 +11,13 @@ use lib.ListN.{length}
 use Rattle.format.specs.Names.{Bound, stringAt}
 use Rattle.format.specs.Tree as walk
 use Rattle.walk.proofs.Simulation.{Simulation, start, come-from, same-walk, returned, callee-done, callee-stopped}
-use Rattle.symbol.specs.Range.{Tight}
-use Rattle.symbol.specs.Key.{KeyAt}
+use Rattle.range.specs.Range.{Tight}
+use Rattle.key.specs.Key.{KeyAt}
 use Rattle.symbol.specs.Entry.{groupOf, stateOf}
-use Rattle.group.specs.Node.{BranchIs}
-use Rattle.group.specs.Tree.{Sound}
-use Rattle.group.specs.declared.node.BranchRead
-use Rattle.group.specs.declared.node.BranchRead.{BranchRead}
+use Rattle.node.specs.Node.{BranchIs}
+use Rattle.symbol_node.specs.Tree.{Sound}
+use Rattle.node.specs.declared.BranchRead
+use Rattle.node.specs.declared.BranchRead.{BranchRead}
 use Rattle.symbol.specs.declared.entry.Step
 use Rattle.group.proofs.TreeLaws.{childrenFrom, children-end, children-turn, node-stopped, node-done, leaf-walked}
 use borrow.Fn.Kinds.{In}
@@ -25,8 +25,8 @@ use borrow.Fn.PlainCycle.{Measures, is, falls, and}
 use Rattle.group.proofs.tree.subtree.Reads as subtree
 use Rattle.group.proofs.tree.subtree.Kinds as subtree-kinds
 use Rattle.group.proofs.tree.+subtree.Lts-subtree as subtree-lts
-use Rattle.group.proofs.node.read_branch.Reads as read-branch-reads
-use Rattle.group.proofs.symbols.symbol_node.Reads as symbol-node-reads
+use Rattle.node.proofs.read_branch.Reads as read-branch-reads
+use Rattle.symbol_node.proofs.symbol_node.Reads as symbol-node-reads
 use Rattle.group.proofs.tree.child_range.Reads as child-range-reads
 use Rattle.walk.proofs.numbers.u64_at.Reads as u64-at-reads
 use Rattle.group.proofs.tree.+subtree.{statement}

@@ -6,9 +6,9 @@ use mathlib.Core.Path.{_≡_, refl, sym, subst}
 use Prim.Native.Nat.{_+_}
 use Rattle.format.specs.Bytes.{u16}
 use Rattle.symbol.specs.Entry.{groupOf, stateOf}
-use Rattle.group.specs.Node.{NodeIs}
-use Rattle.group.specs.declared.node.NodeRead
-use Rattle.group.specs.declared.node.NodeRead.{NodeRead}
+use Rattle.node.specs.Node.{NodeIs}
+use Rattle.node.specs.declared.NodeRead
+use Rattle.node.specs.declared.NodeRead.{NodeRead}
 use Rattle.group.proofs.TreeLaws.{no-bounds, root-used, root-stopped, root-empty, empty-level-wrong, empty-read}
 use native.Mathlib.Omega.{arith}
 use borrow.Author.Needs.{needs}

@@ -10,11 +10,11 @@ use mathlib.Core.Path.{_≡_, refl, ap, sym, subst, _∙_}
 use lib.ListN.{length}
 use Rattle.walk.specs.Lent.{Lent}
 use Rattle.ledger.specs.Table.{Table}
-use Rattle.image.specs.Superblock.{superblockOf}
+use Rattle.superblock.specs.Superblock.{superblockOf}
 use Rattle.path.specs.Form.{componentsOf}
-use Rattle.lookup.specs.Component.{EndsAs}
+use Rattle.component.specs.Component.{EndsAs}
 use Rattle.lookup.specs.Follow.{targetRun, restOf}
-use Rattle.lookup.specs.declared.component.Target.the-variants.{Object, Symbolic, Stopped}
+use Rattle.component.specs.declared.Target.the-variants.{Object, Symbolic, Stopped}
 use Rattle.lookup.proofs.FollowLaws.{rest-first, object-next, symbolic-next, stopped-next, none-left, root-alone, lent-same}
 
 abbrev Inv-loop : tie.InvT-loop

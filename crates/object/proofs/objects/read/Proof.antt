@@ -10,7 +10,7 @@ use lib.ListN.{length}
 use Rattle.format.specs.Limits.{objectsMost}
 use Rattle.format.specs.Audit.{objectsWalk}
 use Rattle.ledger.specs.Table.{linkedOf}
-use Rattle.image.specs.Superblock.{superblockOf}
+use Rattle.superblock.specs.Superblock.{superblockOf}
 use Rattle.group.specs.Group.{Ready}
 use Rattle.walk.proofs.Simulation.{Simulation, start}
 use Rattle.object.proofs.ObjectsLaws.{objects-done, object-stopped, object-done}

@@ -1,6 +1,6 @@
 -- The type, then the string that stands there.
 use mathlib.Core.Path.{_≡_}
-use Rattle.heap.proofs.NameLaws.{same-read}
+use Rattle.names.proofs.NameLaws.{same-read}
 use Rattle.symbol.proofs.EntryLaws.{value-none, value-refused, value-read}
 use native.Mathlib.Omega.{arith}
 use borrow.Author.Needs.{needs}

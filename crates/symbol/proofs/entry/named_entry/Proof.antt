@@ -5,7 +5,7 @@ use mathlib.Core.Path.{_≡_, sym, _∙_}
 use borrow.Author.Tests.{not-true, not-false}
 use Rattle.format.specs.Names.{below}
 use Rattle.heap.proofs.SegmentLaws.{part-between}
-use Rattle.symbol.specs.Range.{nameIn, rangeHolds}
+use Rattle.range.specs.Range.{nameIn, rangeHolds}
 use Rattle.symbol.proofs.EntryLaws.{same-value, same-visit, order-refused, range-refused, type-refused, link-refused, visit-refused, visited}
 use borrow.Author.Needs.{needs}
 use Rattle.symbol.proofs.entry.named_entry.Statement.{statement}

@@ -1,6 +1,6 @@
 -- The name, and with a sound one what follows it.
 use denote.Ref.{now}
-use Rattle.heap.proofs.NameLaws.{same-read}
+use Rattle.names.proofs.NameLaws.{same-read}
 use Rattle.symbol.specs.Entry.{NameSound}
 use Rattle.symbol.proofs.EntryLaws.{name-sound, name-refused}
 use borrow.Author.Needs.{needs}

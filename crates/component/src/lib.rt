@@ -1,0 +1,139 @@
+// One component of a path, looked up in the object at an address, on a block list of its own.
+use format::NO_PLACE;
+use format::Refusal;
+use image::header;
+use image::header::HeaderRead;
+use superblock::Superblock;
+use symbol::entry::State;
+use symbol::entry::Step;
+use visit::Link;
+use walk::blocks::Entry;
+ghost use mathlib.Core.Path.{_≡_};
+ghost use Rattle.format.specs.Lookup.{targetWalk};
+ghost use Rattle.visit.specs.Visit.{linkOf};
+ghost use Rattle.ledger.specs.Table.{Table};
+ghost use Rattle.walk.specs.Lent.{Lent};
+ghost use Rattle.group.specs.Group.{Ready};
+ghost use Rattle.object.specs.Object.{Opened};
+ghost use Rattle.component.specs.Component.{targetOf, FoundIs, ComponentIs};
+
+// Where a component leads, or the refusal.
+pub enum Target {
+    Object(u64),
+    Symbolic,
+    Stopped(Refusal),
+}
+
+// The answers of document 01 to a name that leads nowhere.
+const ABSENT: u8 = 15;
+
+const SYMBOLIC_BEFORE_LAST: u8 = 16;
+
+const NOT_A_GROUP: u8 = 17;
+
+// Where the entries of a sound group lead.
+fn target_of(state: State, last: bool) -> Target
+    ensures { λ r. ⌜ targetOf r ≡ targetWalk last (linkOf (state .link)) ⌝ }
+{
+    let link = state.link;
+    match link {
+        Link::Absent => Target::Stopped(Refusal::Fault(ABSENT, NO_PLACE)),
+        Link::Hard(a) => Target::Object(a),
+        Link::Soft => {
+            if last {
+                return Target::Symbolic;
+            }
+            Target::Stopped(Refusal::Fault(SYMBOLIC_BEFORE_LAST, NO_PLACE))
+        }
+    }
+}
+
+// The name in the group with the tree and the heap at these addresses. The tables stay empty.
+fn find(
+    image: &[u8],
+    name: &[u8],
+    list: &mut [u64],
+    addresses: &mut [u64],
+    counts: &mut [u32],
+    superblock: Superblock,
+    room: usize,
+    tree: u64,
+    heap: u64,
+    count: usize,
+    last: bool,
+) -> Target
+    requires { ⌜ Opened (now image) superblock room ⌝ }
+    requires { ⌜ Ready (now list) (now addresses) (now counts) room count 0 ⌝ }
+    ensures { λ r. ⌜ FoundIs (now (image .entry)) (now (name .entry)) (now (list .entry)) superblock room tree heap count last (now (addresses .exit)) (now (counts .exit)) r ⌝ }
+{
+    let end_of_file = superblock.end_of_file;
+    let leaf_k = superblock.leaf_k;
+    let internal_k = superblock.internal_k;
+    match group::group::read(
+        image,
+        name,
+        list,
+        addresses,
+        counts,
+        end_of_file,
+        room,
+        leaf_k,
+        internal_k,
+        false,
+        tree,
+        heap,
+        count,
+        0,
+    ) {
+        Step::Stopped(x) => Target::Stopped(x),
+        Step::Done(s) => target_of(s, last),
+    }
+}
+
+// The component, the last one or not, in the object at `at`.
+pub fn component(
+    image: &[u8],
+    name: &[u8],
+    list: &mut [u64],
+    addresses: &mut [u64],
+    counts: &mut [u32],
+    superblock: Superblock,
+    room: usize,
+    at: u64,
+    last: bool,
+) -> Target
+    requires { ⌜ Opened (now image) superblock room ⌝ }
+    requires { ⌜ Lent (now list) 0 room ⌝ }
+    requires { ⌜ Table (now addresses) (now counts) 0 ⌝ }
+    ensures { λ r. ⌜ ComponentIs (now (image .entry)) (now (name .entry)) superblock room at last (now (addresses .exit)) (now (counts .exit)) r ⌝ }
+{
+    match superblock::enter_superblock(superblock, list, room) {
+        Entry::Refused(x) => Target::Stopped(x),
+        Entry::Entered(n) => {
+            let end_of_file = superblock.end_of_file;
+            match header::read(image, end_of_file, list, n, room, at) {
+                HeaderRead::Stopped(x) => Target::Stopped(x),
+                HeaderRead::Committed(_) => Target::Stopped(Refusal::Fault(NOT_A_GROUP, NO_PLACE)),
+                HeaderRead::Dataset {
+                    space: _,
+                    datatype: _,
+                    layout: _,
+                    count: _,
+                } => Target::Stopped(Refusal::Fault(NOT_A_GROUP, NO_PLACE)),
+                HeaderRead::Group { tree, heap, count } => find(
+                    image,
+                    name,
+                    list,
+                    addresses,
+                    counts,
+                    superblock,
+                    room,
+                    tree,
+                    heap,
+                    count,
+                    last,
+                ),
+            }
+        }
+    }
+}

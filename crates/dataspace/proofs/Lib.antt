@@ -1,0 +1,2 @@
+pub mod DataspaceLaws
+pub mod SpaceChecks

@@ -1,0 +1,2 @@
+pub mod DatatypeLaws
+pub mod TypeChecks

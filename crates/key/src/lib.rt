@@ -1,0 +1,60 @@
+// The keys of a tree node: strings of the heap's segment.
+use format::Refusal;
+use names::NameFault;
+use names::Text;
+use range::Name;
+use walk::numbers::u64_at;
+ghost use mathlib.Core.List.{List};
+ghost use mathlib.Core.Path.{_≡_};
+ghost use Prim.Native.Nat.{_+_, _*_, _≤_};
+ghost use lib.ListN.{length};
+ghost use Rattle.format.specs.Names.{faultNumber};
+ghost use Rattle.names.specs.Texts.{faultOf};
+ghost use Rattle.key.specs.Key.{KeysAre, KeyAt, KeyIs};
+
+// The answer to a fault of a name.
+pub fn fault_number(fault: NameFault) -> u8
+    ensures { λ r. ⌜ r ≡ faultNumber (faultOf fault) ⌝ }
+{
+    match fault {
+        NameFault::Outside => 9,
+        NameFault::NoNul => 9,
+        NameFault::BadForm => 9,
+        NameFault::InFreeBlock => 9,
+    }
+}
+
+pub enum Keys {
+    Sound,
+    Unsound(Refusal),
+}
+
+// Whether `n` keys are strings of the segment. The first stands at `from`, and a child's address behind each but the last.
+pub fn check_keys(image: &[u8], segment: &[u8], from: usize, n: usize) -> Keys
+    requires { ⌜ from + 16 * n ≤ length (now image) + 8 ⌝ }
+    ensures { λ r. ⌜ KeysAre (now (image .entry)) (now (segment .entry)) from n r ⌝ }
+{
+    let mut i: usize = 0;
+    while i < n {
+        match names::key(segment, u64_at(image, from + 16 * i)) {
+            Text::Fault(f) => return Keys::Unsound(Refusal::Fault(fault_number(f), from + 16 * i)),
+            Text::Sound(_) => i += 1,
+        }
+    }
+    Keys::Sound
+}
+
+// The key at `at`, which has been found sound before.
+pub fn key_at(image: &[u8], segment: &[u8], at: usize) -> Name
+    requires { ⌜ KeyAt (now image) (now segment) at ⌝ }
+    ensures { λ r. ⌜ KeyIs (now (image .entry)) (now (segment .entry)) at r ⌝ }
+{
+    let off = u64_at(image, at);
+    match names::key(segment, off) {
+        Text::Fault(_) => Name { at: 0, size: 0 },
+        Text::Sound(n) => Name {
+            at: off as usize,
+            size: n,
+        },
+    }
+}

@@ -1,0 +1,2 @@
+pub mod TreatmentLaws
+pub mod MessageLaws

@@ -1,0 +1,94 @@
+// The keys that bound a name: of all nodes above it the highest key before it and the lowest behind it.
+use order::below;
+ghost use mathlib.Core.Path.{_≡_};
+ghost use Rattle.format.specs.Names.{below as isBelow};
+ghost use Rattle.range.specs.Range.{NameInside, RangeInside, nameIn, rangeHolds, HigherOf, LowerOf, Narrowed};
+
+// A string of the segment: its offset and its length.
+pub struct Name {
+    pub at: usize,
+    pub size: usize,
+}
+
+pub struct Range {
+    pub bounded: bool,
+    pub low: Name,
+    pub high: Name,
+}
+
+// Whether a name is below another.
+pub fn name_below(segment: &[u8], a: Name, b: Name) -> bool
+    requires { ⌜ NameInside (now segment) a ⌝ }
+    requires { ⌜ NameInside (now segment) b ⌝ }
+    ensures { λ r. ⌜ r ≡ isBelow (nameIn (now (segment .entry)) a) (nameIn (now (segment .entry)) b) ⌝ }
+{
+    let a_at = a.at;
+    let a_end = a_at + a.size;
+    let b_at = b.at;
+    let b_end = b_at + b.size;
+    below(&segment[a_at..a_end], &segment[b_at..b_end])
+}
+
+// Whether a name lies above the low key and not above the high key.
+pub fn holds(segment: &[u8], range: Range, name: Name) -> bool
+    requires { ⌜ RangeInside (now segment) range ⌝ }
+    requires { ⌜ NameInside (now segment) name ⌝ }
+    ensures { λ r. ⌜ r ≡ rangeHolds (now (segment .entry)) range (nameIn (now (segment .entry)) name) ⌝ }
+{
+    if !range.bounded {
+        return true;
+    }
+    let low = range.low;
+    if !name_below(segment, low, name) {
+        return false;
+    }
+    let high = range.high;
+    !name_below(segment, high, name)
+}
+
+// The higher of two keys.
+fn higher(segment: &[u8], a: Name, b: Name) -> Name
+    requires { ⌜ NameInside (now segment) a ⌝ }
+    requires { ⌜ NameInside (now segment) b ⌝ }
+    ensures { λ r. ⌜ HigherOf (now (segment .entry)) a b r ⌝ }
+{
+    if name_below(segment, a, b) {
+        return b;
+    }
+    a
+}
+
+// The lower of two keys.
+fn lower(segment: &[u8], a: Name, b: Name) -> Name
+    requires { ⌜ NameInside (now segment) a ⌝ }
+    requires { ⌜ NameInside (now segment) b ⌝ }
+    ensures { λ r. ⌜ LowerOf (now (segment .entry)) a b r ⌝ }
+{
+    if name_below(segment, b, a) {
+        return b;
+    }
+    a
+}
+
+// The range between two keys of a node inside the range of the node.
+pub fn narrowed(segment: &[u8], range: Range, low: Name, high: Name) -> Range
+    requires { ⌜ RangeInside (now segment) range ⌝ }
+    requires { ⌜ NameInside (now segment) low ⌝ }
+    requires { ⌜ NameInside (now segment) high ⌝ }
+    ensures { λ r. ⌜ Narrowed (now (segment .entry)) range low high r ⌝ }
+{
+    if !range.bounded {
+        return Range {
+            bounded: true,
+            low,
+            high,
+        };
+    }
+    let outer_low = range.low;
+    let outer_high = range.high;
+    Range {
+        bounded: true,
+        low: higher(segment, outer_low, low),
+        high: lower(segment, outer_high, high),
+    }
+}

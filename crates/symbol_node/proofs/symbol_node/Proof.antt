@@ -1,0 +1,173 @@
+-- Each test against its place in the walk of a symbol table node, then its entries.
+use denote.Ref.{now}
+use mathlib.Core.List.{[]}
+use mathlib.Core.Path.{_≡_, refl, sym, _∙_}
+use Prim.Native.Nat.{_+_, _*_, _≤_}
+use lib.ListN.{length}
+use Rattle.format.specs.Bytes.{littleEndian}
+use Rattle.format.specs.Symbols.{SNOD}
+use Rattle.walk.specs.Lent.{Lent}
+use Rattle.ledger.specs.Links.{linkSum}
+use Rattle.ledger.specs.Table.{linkedOf}
+use Rattle.symbol.specs.Entry.{groupOf, stateOf}
+use Rattle.symbol.specs.declared.entry.State.{State}
+use Rattle.symbol_node.proofs.SymbolLaws.{blocks-few, symbols-refused, symbols-inside, symbols-lent, symbols-counted, signature-wrong, version-wrong, count-low, count-high, symbols-end, sound-after, kept-count}
+use native.Mathlib.Omega.{arith}
+use borrow.Author.Needs.{needs}
+use Rattle.symbol_node.proofs.symbol_node.Statement.{statement}
+use Rattle.symbol_node.proofs.symbol_node.Tie as tie
+
+-- the node lies inside the image
+whole : (c : tie.After-c) → c .before .before .before .before .before .before .before .before .before .before .before .before .args .at + (8 + 80 * c .before .before .before .before .before .before .before .before .before .before .before .before .args .group .«leaf_k») ≤ length (now (c .before .before .before .before .before .before .before .before .before .before .before .before .args .image))
+whole c =
+    let i = symbols-inside (now (c .before .before .before .before .before .before .before .before .before .before .before .before .args .image)) _ _ _ _ _ (c .before .before .before .before .before .before .before .before .before .before .before .before .pre .sound .lent) _ _ (c .before .before .before .before .enter .ensures .1) (groupOf (now (c .before .before .before .before .before .before .before .before .before .before .before .before .args .segment)) (now (c .before .before .before .before .before .before .before .before .before .before .before .before .args .wanted)) (c .before .before .before .before .before .before .before .before .before .before .before .before .args .group)) refl [] (stateOf (now (c .before .before .before .before .before .before .before .before .before .before .before .before .args .segment)) (now (c .before .before .before .before .before .before .before .before .before .before .before .before .args .addresses)) (now (c .before .before .before .before .before .before .before .before .before .before .before .before .args .counts)) (c .before .before .before .before .before .before .before .before .before .before .before .before .args .state)) _ (sym (c .c .given .1) ∙ c .before .before .before .before .enter .ensures .0) in
+    omega (arith, i, c .before .before .before .before .before .before .before .before .before .before .before .before .pre .fixed .file)
+
+signed : (c : tie.Else1) → c .before .u32-at .result ≡ SNOD
+unfolding SNOD littleEndian
+signed c = c .if1 .left
+
+lent : (c : tie.After-c) → Lent (c .before .before .before .before .enter .last .1 .0) (c .c .given .0 .0) (c .before .before .before .before .before .before .before .before .before .before .before .before .args .group .room)
+lent c = symbols-lent (now (c .before .before .before .before .before .before .before .before .before .before .before .before .args .image)) _ _ _ _ _ (c .before .before .before .before .before .before .before .before .before .before .before .before .pre .sound .lent) _ _ (c .before .before .before .before .enter .ensures .1) (groupOf (now (c .before .before .before .before .before .before .before .before .before .before .before .before .args .segment)) (now (c .before .before .before .before .before .before .before .before .before .before .before .before .args .wanted)) (c .before .before .before .before .before .before .before .before .before .before .before .before .args .group)) refl [] (stateOf (now (c .before .before .before .before .before .before .before .before .before .before .before .before .args .segment)) (now (c .before .before .before .before .before .before .before .before .before .before .before .before .args .addresses)) (now (c .before .before .before .before .before .before .before .before .before .before .before .before .args .counts)) (c .before .before .before .before .before .before .before .before .before .before .before .before .args .state)) _ (sym (c .c .given .1) ∙ c .before .before .before .before .enter .ensures .0)
+
+one-more : (c : tie.After-c) → c .c .given .0 .0 ≡ c .before .before .before .before .before .before .before .before .before .before .before .before .args .state .count + 1
+one-more c = symbols-counted (now (c .before .before .before .before .before .before .before .before .before .before .before .before .args .image)) _ _ _ _ _ (c .before .before .before .before .before .before .before .before .before .before .before .before .pre .sound .lent) _ _ (c .before .before .before .before .enter .ensures .1) _ (sym (c .c .given .1) ∙ c .before .before .before .before .enter .ensures .0)
+
+-- the links fit their 32 bits
+links-fit : (c : tie.Else4) →
+    linkSum (linkedOf (c .before .before .before .before .before .before .before .before .before .before .before .before .before .before .before .before .before .before .before .before .args .state .objects) (now (c .before .before .before .before .before .before .before .before .before .before .before .before .before .before .before .before .before .before .before .before .args .addresses)) (now (c .before .before .before .before .before .before .before .before .before .before .before .before .before .before .before .before .before .before .before .before .args .counts))) + c .before .before .u16-at .result ≤ 65536 * c .before .before .before .before .before .before .before .before .c .given .0 .0
+links-fit c = omega (arith, c .before .before .before .before .before .before .before .before .before .before .before .before .before .before .before .before .before .before .before .before .pre .sound .links, one-more (c .before .before .before .before .before .before .before .before), c .before .before .u16-at .ensures .bound)
+
+mul-enter : tie.Need-mul-enter
+mul-enter c = omega (arith, c .before .before .before .before .before .before .before .pre .fixed .leaf)
+
+add-enter : tie.Need-add-enter
+add-enter c = omega (arith, c .before .before .before .before .before .before .before .pre .fixed .leaf)
+
+enter-requires : tie.Need-enter-requires
+enter-requires c κs = c .before .before .before .before .before .before .before .pre .sound .lent
+
+enum-known-x : tie.Need-enum-known-x
+enum-known-x c = search needs
+
+enum-known-c : tie.Need-enum-known-c
+enum-known-c c = search needs
+
+u32-at-requires : tie.Need-u32-at-requires
+u32-at-requires c κs = let i = whole (c .before) in omega (arith, i, c .before .before .before .before .before .before .before .before .before .before .before .before .before .good .0 .0, c .before .before .before .before .before .before .before .before .before .before .before .before .before .pre .fixed .leaf)
+
+same-length : tie.Need-same-length
+same-length c = search needs
+
+returns : tie.Need-returns
+unfolding SNOD littleEndian
+returns c = record { walked = λ bounds t. signature-wrong (now (c .before .before .before .before .before .before .before .before .before .before .before .before .before .before .before .args .image)) _ _ _ _ _ (c .before .before .before .before .before .before .before .before .before .before .before .before .before .before .before .pre .sound .lent) _ _ (c .before .before .before .before .before .before .before .enter .ensures .1) (groupOf (now (c .before .before .before .before .before .before .before .before .before .before .before .before .before .before .before .args .segment)) (now (c .before .before .before .before .before .before .before .before .before .before .before .before .before .before .before .args .wanted)) (c .before .before .before .before .before .before .before .before .before .before .before .before .before .before .before .args .group)) refl bounds (stateOf (now (c .before .before .before .before .before .before .before .before .before .before .before .before .before .before .before .args .segment)) (now (c .before .before .before .before .before .before .before .before .before .before .before .before .before .before .before .args .addresses)) (now (c .before .before .before .before .before .before .before .before .before .before .before .before .before .before .before .args .counts)) (c .before .before .before .before .before .before .before .before .before .before .before .before .before .before .before .args .state)) _ (sym (c .before .before .before .c .given .1) ∙ c .before .before .before .before .before .before .before .enter .ensures .0) _ (c .before .u32-at .ensures) (c .if1 .taken); sound = tt }
+
+add-if2 : tie.Need-add-if2
+add-if2 c = let i = whole (c .before .before .before) in omega (arith, i, c .before .before .before .before .before .before .before .before .before .before .before .before .before .before .before .good .0 .0, c .before .before .before .before .before .before .before .before .before .before .before .before .before .before .before .pre .fixed .leaf)
+
+shared-slice-read-if2 : tie.Need-shared-slice-read-if2
+shared-slice-read-if2 c = let i = whole (c .before .before .before .before) in omega (arith, i, c .before .before .before .before .before .before .before .before .before .before .before .before .before .before .before .before .good .0 .0, c .before .before .before .before .before .before .before .before .before .before .before .before .before .before .before .before .pre .fixed .leaf)
+
+same-length-2 : tie.Need-same-length-2
+same-length-2 c = search needs
+
+returns-2 : tie.Need-returns-2
+returns-2 c = record { walked = λ bounds t. version-wrong (now (c .before .before .before .before .before .before .before .before .before .before .before .before .before .before .before .before .before .args .image)) _ _ _ _ _ (c .before .before .before .before .before .before .before .before .before .before .before .before .before .before .before .before .before .pre .sound .lent) _ _ (c .before .before .before .before .before .before .before .before .before .enter .ensures .1) (groupOf (now (c .before .before .before .before .before .before .before .before .before .before .before .before .before .before .before .before .before .args .segment)) (now (c .before .before .before .before .before .before .before .before .before .before .before .before .before .before .before .before .before .args .wanted)) (c .before .before .before .before .before .before .before .before .before .before .before .before .before .before .before .before .before .args .group)) refl bounds (stateOf (now (c .before .before .before .before .before .before .before .before .before .before .before .before .before .before .before .before .before .args .segment)) (now (c .before .before .before .before .before .before .before .before .before .before .before .before .before .before .before .before .before .args .addresses)) (now (c .before .before .before .before .before .before .before .before .before .before .before .before .before .before .before .before .before .args .counts)) (c .before .before .before .before .before .before .before .before .before .before .before .before .before .before .before .before .before .args .state)) _ (sym (c .before .before .before .before .before .c .given .1) ∙ c .before .before .before .before .before .before .before .before .before .enter .ensures .0) _ (c .before .before .before .u32-at .ensures) (signed (c .before .before)) (c .if2 .taken); sound = tt }
+
+add-u16-at : tie.Need-add-u16-at
+add-u16-at c = let i = whole (c .before .before .before .before .before) in omega (arith, i, c .before .before .before .before .before .before .before .before .before .before .before .before .before .before .before .before .before .good .0 .0, c .before .before .before .before .before .before .before .before .before .before .before .before .before .before .before .before .before .pre .fixed .leaf)
+
+u16-at-requires : tie.Need-u16-at-requires
+u16-at-requires c κs = let i = whole (c .before .before .before .before .before) in omega (arith, i, c .before .before .before .before .before .before .before .before .before .before .before .before .before .before .before .before .before .good .0 .0, c .before .before .before .before .before .before .before .before .before .before .before .before .before .before .before .before .before .pre .fixed .leaf)
+
+same-length-3 : tie.Need-same-length-3
+same-length-3 c = search needs
+
+returns-3 : tie.Need-returns-3
+returns-3 c = record { walked = λ bounds t. count-low (now (c .before .before .before .before .before .before .before .before .before .before .before .before .before .before .before .before .before .before .before .args .image)) _ _ _ _ _ (c .before .before .before .before .before .before .before .before .before .before .before .before .before .before .before .before .before .before .before .pre .sound .lent) _ _ (c .before .before .before .before .before .before .before .before .before .before .before .enter .ensures .1) (groupOf (now (c .before .before .before .before .before .before .before .before .before .before .before .before .before .before .before .before .before .before .before .args .segment)) (now (c .before .before .before .before .before .before .before .before .before .before .before .before .before .before .before .before .before .before .before .args .wanted)) (c .before .before .before .before .before .before .before .before .before .before .before .before .before .before .before .before .before .before .before .args .group)) refl bounds (stateOf (now (c .before .before .before .before .before .before .before .before .before .before .before .before .before .before .before .before .before .before .before .args .segment)) (now (c .before .before .before .before .before .before .before .before .before .before .before .before .before .before .before .before .before .before .before .args .addresses)) (now (c .before .before .before .before .before .before .before .before .before .before .before .before .before .before .before .before .before .before .before .args .counts)) (c .before .before .before .before .before .before .before .before .before .before .before .before .before .before .before .before .before .before .before .args .state)) _ (sym (c .before .before .before .before .before .before .before .c .given .1) ∙ c .before .before .before .before .before .before .before .before .before .before .before .enter .ensures .0) _ (c .before .before .before .before .before .u32-at .ensures) (signed (c .before .before .before .before)) (c .before .before .if2 .left) _ (c .before .u16-at .ensures) (c .if3 .taken); sound = tt }
+
+mul-if4 : tie.Need-mul-if4
+mul-if4 c = let i = whole (c .before .before .before .before .before .before .before) in omega (arith, i, c .before .before .before .before .before .before .before .before .before .before .before .before .before .before .before .before .before .before .before .good .0 .0, c .before .before .before .before .before .before .before .before .before .before .before .before .before .before .before .before .before .before .before .pre .fixed .leaf)
+
+same-length-4 : tie.Need-same-length-4
+same-length-4 c = search needs
+
+returns-4 : tie.Need-returns-4
+returns-4 c = record { walked = λ bounds t. count-high (now (c .before .before .before .before .before .before .before .before .before .before .before .before .before .before .before .before .before .before .before .before .args .image)) _ _ _ _ _ (c .before .before .before .before .before .before .before .before .before .before .before .before .before .before .before .before .before .before .before .before .pre .sound .lent) _ _ (c .before .before .before .before .before .before .before .before .before .before .before .before .enter .ensures .1) (groupOf (now (c .before .before .before .before .before .before .before .before .before .before .before .before .before .before .before .before .before .before .before .before .args .segment)) (now (c .before .before .before .before .before .before .before .before .before .before .before .before .before .before .before .before .before .before .before .before .args .wanted)) (c .before .before .before .before .before .before .before .before .before .before .before .before .before .before .before .before .before .before .before .before .args .group)) refl bounds (stateOf (now (c .before .before .before .before .before .before .before .before .before .before .before .before .before .before .before .before .before .before .before .before .args .segment)) (now (c .before .before .before .before .before .before .before .before .before .before .before .before .before .before .before .before .before .before .before .before .args .addresses)) (now (c .before .before .before .before .before .before .before .before .before .before .before .before .before .before .before .before .before .before .before .before .args .counts)) (c .before .before .before .before .before .before .before .before .before .before .before .before .before .before .before .before .before .before .before .before .args .state)) _ (sym (c .before .before .before .before .before .before .before .before .c .given .1) ∙ c .before .before .before .before .before .before .before .before .before .before .before .before .enter .ensures .0) _ (c .before .before .before .before .before .before .u32-at .ensures) (signed (c .before .before .before .before .before)) (c .before .before .before .if2 .left) _ (c .before .before .u16-at .ensures) (c .if4 .taken); sound = tt }
+
+add-entries : tie.Need-add-entries
+add-entries c = let i = whole (c .before .before .before .before .before .before .before .before .before .before .before) in omega (arith, i, c .before .before .before .before .before .before .before .before .before .before .before .before .before .before .before .before .before .before .before .before .before .before .before .good .0 .0, c .before .before .before .before .before .before .before .before .before .before .before .before .before .before .before .before .before .before .before .before .before .before .before .pre .fixed .leaf)
+
+entries-requires : tie.Need-entries-requires
+entries-requires c κs =
+    let i = whole (c .before .before .before .before .before .before .before .before .before .before .before) in
+    let f = links-fit (c .before .before .before) in
+    let p = c .before .before .before .before .before .before .before .before .before .before .before .before .before .before .before .before .before .before .before .before .before .before .before .pre in
+    let l = lent (c .before .before .before .before .before .before .before .before .before .before .before) in (
+      omega (arith, i, c .before .before .before .if4 .left),
+      (record { chained = p .fixed .chained; range = p .range; last = p .sound .last; table = p .sound .table }, omega (arith, f, l .counted, p .fixed .room, blocks-few)),
+    )
+
+same-length-5 : tie.Need-same-length-5
+same-length-5 c = search needs
+
+returns-5 : tie.Need-returns-5
+returns-5 c = record { walked = λ bounds t. symbols-refused (now (c .before .before .before .before .before .before .before .before .before .before .before .before .before .args .image)) _ _ _ _ _ (c .before .before .before .before .before .before .before .before .before .before .before .before .before .pre .sound .lent) _ _ (c .before .before .before .before .before .enter .ensures .1) (groupOf (now (c .before .before .before .before .before .before .before .before .before .before .before .before .before .args .segment)) (now (c .before .before .before .before .before .before .before .before .before .before .before .before .before .args .wanted)) (c .before .before .before .before .before .before .before .before .before .before .before .before .before .args .group)) refl bounds (stateOf (now (c .before .before .before .before .before .before .before .before .before .before .before .before .before .args .segment)) (now (c .before .before .before .before .before .before .before .before .before .before .before .before .before .args .addresses)) (now (c .before .before .before .before .before .before .before .before .before .before .before .before .before .args .counts)) (c .before .before .before .before .before .before .before .before .before .before .before .before .before .args .state)) _ (sym (c .before .x .given .1) ∙ c .before .before .before .before .before .enter .ensures .0); sound = tt }
+
+same-length-6 : tie.Need-same-length-6
+same-length-6 c = search needs
+
+same-length-7 : tie.Need-same-length-7
+same-length-7 c = search needs
+
+same-length-8 : tie.Need-same-length-8
+same-length-8 c = search needs
+
+returns-6 : tie.Need-returns-6
+returns-6 c =
+    let p = c .before .before .before .before .before .before .before .before .before .before .before .before .before .before .before .before .before .before .before .before .before .before .before .before .before .before .before .before in
+    let S = p .args .state in
+    let e = c .before .before .before .before .entries in
+    let after : State = record { count = c .before .before .before .before .before .before .before .before .before .before .before .before .before .before .before .before .c .given .0 .0; objects = S .objects; last = S .last; link = S .link } in
+    record {
+      walked = λ bounds t.
+          symbols-end (now (c .before .before .before .before .before .before .before .before .before .before .before .before .before .before .before .before .before .before .before .before .before .before .before .before .before .before .before .before .args .image)) _ _ _ _ _ (c .before .before .before .before .before .before .before .before .before .before .before .before .before .before .before .before .before .before .before .before .before .before .before .before .before .before .before .before .pre .sound .lent) _ _ (c .before .before .before .before .before .before .before .before .before .before .before .before .before .before .before .before .before .before .before .before .enter .ensures .1) (groupOf (now (c .before .before .before .before .before .before .before .before .before .before .before .before .before .before .before .before .before .before .before .before .before .before .before .before .before .before .before .before .args .segment)) (now (c .before .before .before .before .before .before .before .before .before .before .before .before .before .before .before .before .before .before .before .before .before .before .before .before .before .before .before .before .args .wanted)) (c .before .before .before .before .before .before .before .before .before .before .before .before .before .before .before .before .before .before .before .before .before .before .before .before .before .before .before .before .args .group)) refl bounds (stateOf (now (c .before .before .before .before .before .before .before .before .before .before .before .before .before .before .before .before .before .before .before .before .before .before .before .before .before .before .before .before .args .segment)) (now (c .before .before .before .before .before .before .before .before .before .before .before .before .before .before .before .before .before .before .before .before .before .before .before .before .before .before .before .before .args .addresses)) (now (c .before .before .before .before .before .before .before .before .before .before .before .before .before .before .before .before .before .before .before .before .before .before .before .before .before .before .before .before .args .counts)) (c .before .before .before .before .before .before .before .before .before .before .before .before .before .before .before .before .before .before .before .before .before .before .before .before .before .before .before .before .args .state)) _ (sym (c .before .before .before .before .before .before .before .before .before .before .before .before .before .before .before .before .c .given .1) ∙ c .before .before .before .before .before .before .before .before .before .before .before .before .before .before .before .before .before .before .before .before .enter .ensures .0) _ (c .before .before .before .before .before .before .before .before .before .before .before .before .before .before .u32-at .ensures) (signed (c .before .before .before .before .before .before .before .before .before .before .before .before .before)) (c .before .before .before .before .before .before .before .before .before .before .before .if2 .left) _ (c .before .before .before .before .before .before .before .before .before .before .u16-at .ensures) (omega (arith, c .before .before .before .before .before .before .before .before .before .if3 .left)) (c .before .before .before .before .before .before .before .before .if4 .left)
+          (now (p .args .segment)) (e .last .1 .1 .1 .0) (e .last .1 .1 .1 .1 .0) (e .result)
+          (kept-count (now (p .args .segment)) (now (p .args .addresses)) (now (p .args .counts)) after (c .before .before .before .before .before .before .before .before .before .before .u16-at .result) (e .last .1 .1 .1 .0) (e .last .1 .1 .1 .1 .0) (e .result) (e .ensures .kept))
+          (e .ensures .walk bounds (80 * p .args .group .«leaf_k») t (omega (arith, c .before .before .before .before .before .before .before .before .if4 .left)) (let i = whole (c .before .before .before .before .before .before .before .before .before .before .before .before .before .before .before .before) in omega arith));
+      sound = sound-after (now (p .args .segment)) (c .before .before .before .before .before .before .before .before .before .before .before .before .before .before .before .before .before .before .before .before .enter .last .1 .0) (now (p .args .addresses)) (now (p .args .counts)) (p .args .group) after (c .before .before .before .before .before .before .before .before .before .before .u16-at .result) (e .last .1 .1 .1 .0) (e .last .1 .1 .1 .1 .0) (e .result)
+          (lent (c .before .before .before .before .before .before .before .before .before .before .before .before .before .before .before .before)) (links-fit (c .before .before .before .before .before .before .before .before)) (e .ensures .kept);
+    }
+
+pub symbol-node-spec : {M : Type 1} → statement M
+symbol-node-spec =
+    tie.close
+    (tie.spec
+    mul-enter
+    add-enter
+    enter-requires
+    enum-known-x
+    enum-known-c
+    u32-at-requires
+    same-length
+    returns
+    add-if2
+    shared-slice-read-if2
+    same-length-2
+    returns-2
+    add-u16-at
+    u16-at-requires
+    same-length-3
+    returns-3
+    mul-if4
+    same-length-4
+    returns-4
+    add-entries
+    entries-requires
+    same-length-5
+    returns-5
+    same-length-6
+    same-length-7
+    same-length-8
+    returns-6)
