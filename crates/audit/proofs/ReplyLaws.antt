@@ -15,7 +15,7 @@ use Rattle.format.specs.Audit.{auditWalk, auditRun}
 use Rattle.format.specs.Answers.{audit}
 use Rattle.walk.specs.Lent.{blocksOf}
 use Rattle.walk.proofs.BlockList.{list-cleared, length-blocksOf}
-use Rattle.walk.proofs.Simulation.{walked-done, walked-refused}
+use Rattle.laws.proofs.Simulation.{walked-done, walked-refused}
 use Rattle.ledger.specs.Links.{addressesOf}
 use Rattle.ledger.specs.Table.{linkedOf, Table}
 use Rattle.ledger.specs.Report.{countedPlaces, Empty, Readable, StoredRead}

@@ -12,7 +12,7 @@ use Rattle.format.specs.Superblock.{superblockWalk}
 use Rattle.format.specs.Ledger.{Linked, linked}
 use Rattle.format.specs.Audit.{objectsWalk, auditWalk}
 use Rattle.walk.specs.Lent.{blocksOf, Lent, Ended, ended, stopped, endOf, Walked}
-use Rattle.walk.proofs.Simulation.{Simulation, start, callee-done, callee-stopped, callee-last}
+use Rattle.laws.proofs.Simulation.{Simulation, start, callee-done, callee-stopped, callee-last}
 use Rattle.ledger.specs.Links.{linkSum}
 use Rattle.ledger.specs.Table.{linkedOf, Started}
 use Rattle.ledger.proofs.LedgerLaws.{sum-first}

@@ -17,9 +17,9 @@ use Rattle.format.specs.Ledger.{Linked}
 use Rattle.format.specs.Lookup as lookup
 use Rattle.format.specs.Lookup.{compareName, findWalk, targetWalk, componentWalk}
 use Rattle.walk.specs.Lent.{blocksOf, Lent, ended, stopped, Walked}
-use Rattle.walk.proofs.Bind.{run-bind}
-use Rattle.walk.proofs.Follows.{Ran}
-use Rattle.walk.proofs.Simulation.{Simulation, start, callee-done, callee-stopped, walked-refused}
+use Rattle.laws.proofs.Bind.{run-bind}
+use Rattle.laws.proofs.Follows.{Ran}
+use Rattle.laws.proofs.Simulation.{Simulation, start, callee-done, callee-stopped, walked-refused}
 use Rattle.ledger.specs.Links.{linkSum}
 use Rattle.ledger.specs.Table.{linkedOf, Table}
 use Rattle.ledger.proofs.TableLaws.{length-linkedOf}

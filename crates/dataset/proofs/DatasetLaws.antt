@@ -17,9 +17,9 @@ use Rattle.format.specs.Walk.{Walk, ret, dataBlock, _>>=_, _>>_, run}
 use Rattle.walk.specs.Lent.{Lent, Walked, ended, stopped, blocksOf, entering, entered, entryEnd}
 use Rattle.walk.specs.declared.blocks.Entry.{Entry}
 use Rattle.walk.specs.declared.blocks.Entry.the-variants.{Entered, Refused}
-use Rattle.walk.proofs.Bind.{bind-assoc, ret-bind}
+use Rattle.laws.proofs.Bind.{bind-assoc, ret-bind}
 use Rattle.walk.proofs.Tests.{all-fails, all-passes, all-last}
-use Rattle.walk.proofs.Simulation.{Simulation, start, same-walk, returned, callee-value, callee-refusal, callee-stopped, callee-done, one-block}
+use Rattle.laws.proofs.Simulation.{Simulation, start, same-walk, returned, callee-value, callee-refusal, callee-stopped, callee-done, one-block}
 use Rattle.message.specs.declared.Body.{Body}
 use Rattle.message.specs.Message.{messageOf}
 use Rattle.dataset.specs.declared.dataset.Dataset.{Dataset}

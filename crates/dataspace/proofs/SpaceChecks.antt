@@ -11,7 +11,7 @@ use Rattle.format.specs.Limits.{rankMost}
 use Rattle.format.specs.Bytes.{if_then_else_, _implies_, u8, toWords}
 use Rattle.format.specs.Dataspace.{Dataspace, allAtMost, readDataspace}
 use Rattle.format.specs.Result.{Result, value, answer, check, _>>=_, _>>_}
-use Rattle.walk.proofs.Results.{passes, fails}
+use Rattle.laws.proofs.Results.{passes, fails}
 use Rattle.dataspace.specs.declared.DataspaceRead.the-variants.{Read, Refused}
 use Rattle.dataspace.specs.Dataspace.{spaceOf, SpaceRead}
 

@@ -9,7 +9,7 @@ use Rattle.format.specs.Bytes.{_implies_, inRange, littleEndian, part, u8, u16,
 use Rattle.format.specs.Datatype.{Datatype, own, classRead, hasBits, extent, readDatatype}
 use Rattle.format.specs.Result.{Result, value, answer, check, _>>=_, _>>_}
 use Rattle.walk.specs.Numbers.{Number}
-use Rattle.walk.proofs.Results.{passes, fails}
+use Rattle.laws.proofs.Results.{passes, fails}
 use Rattle.datatype.specs.Datatype.{bitsSound}
 
 -- what follows the check of the length, of the version, of the class, of the size, of the extent

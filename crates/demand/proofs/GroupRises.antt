@@ -15,7 +15,7 @@ use Rattle.format.specs.Names.{Bound, readText, nameText, below, within, string
 use Rattle.format.specs.Entry.{Entry, Group, GroupState, readValue, readEntry}
 use Rattle.format.specs.Symbols.{entries, symbolWalk}
 use Rattle.format.specs.Tree.{children, branches, subtree, treeWalk, groupWalk}
-use Rattle.walk.proofs.Results.{both-values, check-value}
+use Rattle.laws.proofs.Results.{both-values, check-value}
 use Rattle.links.proofs.Outcomes.{bind-done}
 use Rattle.demand.specs.Bytes.{IsBytes}
 use Rattle.demand.proofs.BytesBack.{part-bytes}

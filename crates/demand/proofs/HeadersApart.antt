@@ -13,7 +13,7 @@ use Rattle.format.specs.Superblock.{Superblock, superblockWalk}
 use Rattle.format.specs.Header.{headerContents, headerMessages, headerWalk, objectOf}
 use Rattle.format.specs.Ledger.{Linked, inLedger}
 use Rattle.format.specs.Audit.{auditWalk}
-use Rattle.walk.proofs.Agreement.{Shown, contents}
+use Rattle.laws.proofs.Agreement.{Shown, contents}
 use Rattle.links.proofs.Outcomes.{enter-inside}
 use Rattle.found.proofs.Whole.{whole, whole-then}
 use Rattle.found.proofs.WholeApart.{Beside, blocks-beside}

@@ -9,7 +9,7 @@ use Rattle.format.specs.Blocks.{Block, block, entryAnswer}
 use Rattle.format.specs.declared.Refusal.{Refusal}
 use Rattle.format.specs.Result.{Result, value, answer}
 use Rattle.format.specs.Walk.{Kind, shown, fault, Walk, ret, refuse, enterBlock, located, _>>=_, done, refused, ifEntered, run}
-use Rattle.walk.proofs.Restart.{run-done}
+use Rattle.laws.proofs.Restart.{run-done}
 use Rattle.links.proofs.Outcomes.{bind-done}
 
 module _ (im : List ℕ) (eof room : ℕ) where

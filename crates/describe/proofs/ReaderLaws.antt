@@ -15,7 +15,7 @@ use Rattle.format.specs.Dataset.{datasetWalk}
 use Rattle.format.specs.Describe as describes
 use Rattle.format.specs.Describe.{describeWalk}
 use Rattle.walk.specs.Lent.{blocksOf, Lent, ended, stopped, Walked}
-use Rattle.walk.proofs.Simulation.{Simulation, start, same-walk, refusal, callee-done, callee-stopped, callee-last}
+use Rattle.laws.proofs.Simulation.{Simulation, start, same-walk, refusal, callee-done, callee-stopped, callee-last}
 use Rattle.message.specs.declared.Body.{Body}
 use Rattle.dataset.specs.Dataset.{Inside, bodyOf, datasetOf, Shaped}
 use Rattle.dataset.specs.declared.dataset.Dataset.{Dataset}

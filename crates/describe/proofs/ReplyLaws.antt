@@ -18,7 +18,7 @@ use Rattle.format.specs.Describe.{describeWalk, describeRun}
 use Rattle.format.specs.Answers.{DescribeReply, describeEnd, describe}
 use Rattle.walk.specs.Lent.{blocksOf}
 use Rattle.walk.proofs.BlockList.{list-cleared, length-blocksOf}
-use Rattle.walk.proofs.Simulation.{walked-done, walked-refused}
+use Rattle.laws.proofs.Simulation.{walked-done, walked-refused}
 use Rattle.message.specs.declared.Body.{Body}
 use Rattle.path.specs.Form.{SoundPath, componentsOf}
 use Rattle.dataspace.specs.Dataspace.{spaceOf}

@@ -17,7 +17,7 @@ use Rattle.format.specs.Lookup.{follow, followPath, Located, locateWalk, lookup
 use Rattle.format.specs.Dataset.{Dataset}
 use Rattle.format.specs.Describe.{describeWalk, describeRun}
 use Rattle.format.specs.Answers.{lookup, lookupEnd, describe, describeEnd}
-use Rattle.walk.proofs.Agreement.{Shown}
+use Rattle.laws.proofs.Agreement.{Shown}
 use Rattle.links.specs.Reached.{atRoot}
 use Rattle.links.specs.Sound.{Sound}
 use Rattle.walk.proofs.BlockList.{room-most}

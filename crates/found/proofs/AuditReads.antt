@@ -15,12 +15,12 @@ use Rattle.format.specs.Ledger.{Linked, linked, inLedger}
 use Rattle.format.specs.Object.{objectWalk}
 use Rattle.format.specs.Audit.{objectsWalk, auditWalk}
 use Rattle.walk.specs.Lent.{left}
-use Rattle.walk.proofs.Bind.{run-bind}
-use Rattle.walk.proofs.Disjoint.{Apart, fresh-apart, apart-first, apart-none}
-use Rattle.walk.proofs.Growth.{run-grown}
-use Rattle.walk.proofs.Plan.{plan, blocks}
-use Rattle.walk.proofs.Restart.{run-done, restart}
-use Rattle.walk.proofs.Agreement.{Shown}
+use Rattle.laws.proofs.Bind.{run-bind}
+use Rattle.laws.proofs.Disjoint.{Apart, fresh-apart, apart-first, apart-none}
+use Rattle.laws.proofs.Growth.{run-grown}
+use Rattle.laws.proofs.Plan.{plan, blocks}
+use Rattle.laws.proofs.Restart.{run-done, restart}
+use Rattle.laws.proofs.Agreement.{Shown}
 use Rattle.ledger.proofs.LedgerLaws.{count-most}
 use Rattle.links.specs.Reached.{entriesAt}
 use Rattle.links.specs.Trace.{Trace, ended, next}

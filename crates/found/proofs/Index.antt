@@ -10,8 +10,8 @@ use Rattle.format.specs.Superblock.{Superblock, superblockWalk}
 use Rattle.format.specs.Header.{Object, group, dataset, committed, headerWalk}
 use Rattle.format.specs.Entry.{Entry}
 use Rattle.format.specs.Lookup.{Link, Target, absent, compareName, findWalk, targetWalk, componentWalk}
-use Rattle.walk.proofs.Bind.{bind-assoc, run-bind}
-use Rattle.walk.proofs.Follows.{Follows, follows-then, follows-ret, Ran, follows-run}
+use Rattle.laws.proofs.Bind.{bind-assoc, run-bind}
+use Rattle.laws.proofs.Follows.{Follows, follows-then, follows-ret, Ran, follows-run}
 use Rattle.group.specs.Entries.{keepEntry, entriesWalk, linkTo, remembered}
 use Rattle.group.proofs.Entries.{remembered-last}
 use Rattle.group.proofs.Visits.{group-follows}

@@ -11,7 +11,7 @@ use Rattle.format.specs.Walk.{fault, answerOf, _>>=_, Outcome, done, refused, r
 use Rattle.format.specs.Superblock.{Superblock, superblockWalk}
 use Rattle.format.specs.Header.{Object, group, dataset, committed, headerWalk}
 use Rattle.format.specs.Entry.{Entry}
-use Rattle.walk.proofs.Follows.{Ran}
+use Rattle.laws.proofs.Follows.{Ran}
 use Rattle.group.specs.Entries.{keepEntry, entriesWalk, Rising}
 use Rattle.group.proofs.Entries.{entries-rise}
 use Rattle.links.proofs.Outcomes.{bind-done}

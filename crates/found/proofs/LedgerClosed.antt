@@ -13,10 +13,10 @@ use Rattle.format.specs.Header.{Object, group, dataset, committed, headerWalk}
 use Rattle.format.specs.Entry.{Entry, isHard}
 use Rattle.format.specs.Ledger.{Linked, inLedger}
 use Rattle.format.specs.Lookup.{Target, object}
-use Rattle.walk.proofs.Bind.{run-bind}
-use Rattle.walk.proofs.Plan.{plan, blocks}
-use Rattle.walk.proofs.Disjoint.{apart-none}
-use Rattle.walk.proofs.Restart.{run-done, restart}
+use Rattle.laws.proofs.Bind.{run-bind}
+use Rattle.laws.proofs.Plan.{plan, blocks}
+use Rattle.laws.proofs.Disjoint.{apart-none}
+use Rattle.laws.proofs.Restart.{run-done, restart}
 use Rattle.links.specs.Reached.{contentEntries, entriesAt, HasEntries, byLink}
 use Rattle.links.specs.Sound.{Sound}
 use Rattle.links.proofs.Outcomes.{done-fits}

@@ -13,8 +13,8 @@ use Rattle.format.specs.Superblock.{Superblock, superblockWalk}
 use Rattle.format.specs.Header.{headerContents, headerMessages, headerWalk, objectOf}
 use Rattle.format.specs.Ledger.{Linked, inLedger}
 use Rattle.format.specs.Audit.{auditWalk}
-use Rattle.walk.proofs.Agreement.{Shown, contents, size, shownBy}
-use Rattle.walk.proofs.CountFields.{OnlyCounts, Spared, Spares, AllSpare, run-spared}
+use Rattle.laws.proofs.Agreement.{Shown, contents, size, shownBy}
+use Rattle.laws.proofs.CountFields.{OnlyCounts, Spared, Spares, AllSpare, run-spared}
 use Rattle.links.proofs.Outcomes.{enter-inside}
 use Rattle.found.specs.Covered.{Covered}
 use Rattle.found.proofs.Whole.{whole, whole-then}

@@ -9,7 +9,7 @@ use Rattle.format.specs.Walk.{Walk, ret, Outcome, done, run, andThen, _>>_}
 use Rattle.format.specs.Superblock.{Superblock, superblockWalk}
 use Rattle.format.specs.Header.{Object, headerWalk}
 use Rattle.format.specs.Lookup.{Located, kindNumber, locateWalk, lookupRun}
-use Rattle.walk.proofs.Bind.{bind-assoc, run-bind}
+use Rattle.laws.proofs.Bind.{bind-assoc, run-bind}
 use Rattle.links.proofs.Numbered.{Numbered, numbers, run-number}
 use Rattle.links.proofs.NumberedHeader.{header-numbered}
 use Rattle.found.specs.Found.{RefusedWith, HeaderIs, LeadsToObject, LeadsToSymbolic, IsFound, IsAbsent}

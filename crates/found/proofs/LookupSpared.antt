@@ -16,8 +16,8 @@ use Rattle.format.specs.Path.{Parsed, components, badPath, parsePath}
 use Rattle.format.specs.Lookup.{Target, object, symbolic, componentWalk, fromTarget, follow, followPath, locateWalk, lookupRun}
 use Rattle.format.specs.Describe.{describeWalk, describeRun}
 use Rattle.format.specs.Answers.{lookup, lookupEnd, describe, describeEnd}
-use Rattle.walk.proofs.Agreement.{Shown}
-use Rattle.walk.proofs.CountFields.{OnlyCounts}
+use Rattle.laws.proofs.Agreement.{Shown}
+use Rattle.laws.proofs.CountFields.{OnlyCounts}
 use Rattle.links.specs.Reached.{atRoot}
 use Rattle.links.specs.Sound.{Sound}
 use Rattle.walk.proofs.BlockList.{room-most}

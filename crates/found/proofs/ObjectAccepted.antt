@@ -12,8 +12,8 @@ use Rattle.format.specs.Header.{Object, group, dataset, committed, headerWalk}
 use Rattle.format.specs.Dataset.{datasetWalk}
 use Rattle.format.specs.Lookup.{Link, absent, hard, soft, targetWalk, componentWalk, kindNumber, locateWalk}
 use Rattle.format.specs.Describe.{datasetOf, describeWalk}
-use Rattle.walk.proofs.Bind.{run-bind, bind-assoc}
-use Rattle.walk.proofs.Agreement.{Shown}
+use Rattle.laws.proofs.Bind.{run-bind, bind-assoc}
+use Rattle.laws.proofs.Agreement.{Shown}
 use Rattle.group.specs.Entries.{remembered}
 use Rattle.links.specs.Reached.{contentEntries}
 use Rattle.links.proofs.Outcomes.{bind-done}

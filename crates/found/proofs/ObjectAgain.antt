@@ -11,8 +11,8 @@ use Rattle.format.specs.Dataset.{datasetWalk}
 use Rattle.format.specs.Entry.{Entry}
 use Rattle.format.specs.Lookup.{Link, absent, hard, soft, findWalk, targetWalk, componentWalk, locateWalk}
 use Rattle.format.specs.Describe.{datasetOf, describeWalk}
-use Rattle.walk.proofs.Bind.{bind-ret}
-use Rattle.walk.proofs.Agreement.{Shown}
+use Rattle.laws.proofs.Bind.{bind-ret}
+use Rattle.laws.proofs.Agreement.{Shown}
 use Rattle.links.specs.Reached.{contentEntries, entriesAt}
 use Rattle.links.proofs.Outcomes.{bind-done}
 use Rattle.found.specs.Leads.{indexOf}

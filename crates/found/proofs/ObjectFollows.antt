@@ -9,7 +9,7 @@ use Rattle.format.specs.Dataset.{datasetWalk}
 use Rattle.format.specs.Entry.{Entry}
 use Rattle.format.specs.Ledger.{Linked, discover}
 use Rattle.format.specs.Object.{contentWalk, objectWalk}
-use Rattle.walk.proofs.Follows.{Follows, follows-then, follows-ret, follows-value}
+use Rattle.laws.proofs.Follows.{Follows, follows-then, follows-ret, follows-value}
 use Rattle.group.specs.Entries.{keepEntry, entriesWalk}
 use Rattle.group.proofs.Visits.{group-follows}
 use Rattle.links.specs.Reached.{contentEntries, entriesAt}

@@ -11,9 +11,9 @@ use lib.ListN.{length}
 use Rattle.format.specs.Blocks.{Block}
 use Rattle.format.specs.declared.Refusal.{Refusal}
 use Rattle.format.specs.Walk.{answerOf, Walk, Outcome, done, refused, run, andThen}
-use Rattle.walk.proofs.Plan.{plan, blocks, no-room-answer}
-use Rattle.walk.proofs.Disjoint.{apart-none}
-use Rattle.walk.proofs.Restart.{run-done, restart, restart-short}
+use Rattle.laws.proofs.Plan.{plan, blocks, no-room-answer}
+use Rattle.laws.proofs.Disjoint.{apart-none}
+use Rattle.laws.proofs.Restart.{run-done, restart, restart-short}
 
 abbrev pub Only : (ℕ → Type 0) → {A : Type 0} → Outcome A → Type 0
 Only N (done a bs) = Unit {0}

@@ -11,7 +11,7 @@ use Rattle.format.specs.Limits.{imageLeast, imageMost}
 use Rattle.format.specs.Bytes.{if_then_else_, inRange, part, u8, u64}
 use Rattle.format.specs.Walk.{superblockBlock, shown}
 use Rattle.format.specs.Superblock.{Superblock, opened, notOpened, signature, versionShift, versionsRead, sizesRead, addressesRead, superblockRead, superblockSound, superblockFields, openImage}
-use Rattle.walk.proofs.CountFields.{OnlyCounts, shown-same}
+use Rattle.laws.proofs.CountFields.{OnlyCounts, shown-same}
 
 -- what an image that can be opened says
 opened-fields : (im : List ℕ) (s : Superblock) → openImage im ≡ opened s → superblockFields im ≡ s

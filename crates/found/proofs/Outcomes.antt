@@ -7,7 +7,7 @@ use native.Mathlib.Omega.{arith}
 use Rattle.format.specs.Blocks.{Block}
 use Rattle.format.specs.declared.Refusal.{Refusal}
 use Rattle.format.specs.Walk.{Walk, _>>=_, Outcome, done, refused, run, andThen}
-use Rattle.walk.proofs.Bind.{run-bind}
+use Rattle.laws.proofs.Bind.{run-bind}
 
 pub then-refused : {A B : Type 0} (o : Outcome A) (f : A → List Block → Outcome B) (r : Refusal) (ms : List Block) → andThen o f ≡ refused r ms →
     (o ≡ refused r ms) ⊎ ((a : A) × (cs : List Block) × (o ≡ done a cs) × (f a cs ≡ refused r ms))

@@ -7,7 +7,7 @@ use Rattle.format.specs.Blocks.{Block}
 use Rattle.format.specs.Walk.{_>>_, done, run}
 use Rattle.format.specs.Superblock.{Superblock, superblockWalk}
 use Rattle.format.specs.Entry.{Entry}
-use Rattle.walk.proofs.Agreement.{Shown}
+use Rattle.laws.proofs.Agreement.{Shown}
 use Rattle.links.specs.Reached.{entriesAt}
 use Rattle.found.proofs.Whole.{whole}
 

@@ -13,7 +13,7 @@ use Rattle.format.specs.Audit.{auditWalk, auditRun}
 use Rattle.format.specs.Lookup.{componentWalk}
 use Rattle.format.specs.Describe.{describeWalk}
 use Rattle.format.specs.Entry.{Entry}
-use Rattle.walk.proofs.Agreement.{shownBy}
+use Rattle.laws.proofs.Agreement.{shownBy}
 use Rattle.links.specs.Reached.{entriesAt}
 use Rattle.links.proofs.AuditSound.{audit-opened}
 use Rattle.found.specs.Covered.{AllCovered, auditShown}

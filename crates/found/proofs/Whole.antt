@@ -8,10 +8,10 @@ use Rattle.format.specs.Bytes.{if_then_else_, part}
 use Rattle.format.specs.Blocks.{Block, block}
 use Rattle.format.specs.declared.Refusal.{Refusal}
 use Rattle.format.specs.Walk.{kindNumber, shown, lengthIn, Walk, ret, refuse, enter, _>>=_, done, run}
-use Rattle.walk.proofs.Plan.{fault, step, plan, EndsIn}
-use Rattle.walk.proofs.Restart.{run-done}
-use Rattle.walk.proofs.Follows.{Follows}
-use Rattle.walk.proofs.Agreement.{Shown, contents, size}
+use Rattle.laws.proofs.Plan.{fault, step, plan, EndsIn}
+use Rattle.laws.proofs.Restart.{run-done}
+use Rattle.laws.proofs.Follows.{Follows}
+use Rattle.laws.proofs.Agreement.{Shown, contents, size}
 
 unfoldable pub whole : {A : Type 0} → List ℕ → ℕ → Walk A → List Shown
 whole im eof (ret a) = []

@@ -10,10 +10,10 @@ use Rattle.format.specs.Bytes.{if_then_else_, part}
 use Rattle.format.specs.Blocks.{Block, block, overlapsAny}
 use Rattle.format.specs.declared.Refusal.{Refusal}
 use Rattle.format.specs.Walk.{Kind, kindNumber, Length, shown, lengthIn, Walk, ret, refuse, enter, done, run}
-use Rattle.walk.proofs.Disjoint.{Apart, Fresh, fresh-apart, apart-second, apart-order}
-use Rattle.walk.proofs.Plan.{fault, step, plan, blocks, EndsIn}
-use Rattle.walk.proofs.Restart.{run-done}
-use Rattle.walk.proofs.Agreement.{contents, size}
+use Rattle.laws.proofs.Disjoint.{Apart, Fresh, fresh-apart, apart-second, apart-order}
+use Rattle.laws.proofs.Plan.{fault, step, plan, blocks, EndsIn}
+use Rattle.laws.proofs.Restart.{run-done}
+use Rattle.laws.proofs.Agreement.{contents, size}
 use Rattle.found.proofs.Whole.{whole}
 
 -- n bytes at a, and n′ bytes at a′, share none

@@ -12,7 +12,7 @@ use Rattle.format.specs.Bytes.{if_then_else_, part}
 use Rattle.format.specs.Blocks.{Block, block, overlapsAny, entryAnswer}
 use Rattle.format.specs.declared.Refusal.{Refusal}
 use Rattle.format.specs.Walk.{Kind, Length, shown, lengthIn, Walk, ret, refuse, enter, Outcome, done, refused, ifEntered, run}
-use Rattle.walk.proofs.Agreement.{Shown, contents, size, shownBy}
+use Rattle.laws.proofs.Agreement.{Shown, contents, size, shownBy}
 use Rattle.links.proofs.Outcomes.{enter-inside}
 use Rattle.found.specs.Covered.{Covered}
 use Rattle.found.proofs.Whole.{whole}

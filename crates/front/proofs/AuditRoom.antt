@@ -9,7 +9,7 @@ use Rattle.format.specs.Walk.{run}
 use Rattle.format.specs.Superblock.{Opening, opened, notOpened, openImage, runOpened}
 use Rattle.format.specs.Audit.{auditRun, auditWalk}
 use Rattle.walk.specs.Lent.{left}
-use Rattle.walk.proofs.Growth.{run-grown}
+use Rattle.laws.proofs.Growth.{run-grown}
 use Rattle.front.proofs.Lent.{roomOf-room}
 
 -- the run depends on the words lent by their room alone

@@ -11,7 +11,7 @@ use Rattle.format.specs.Superblock.{Superblock, Opening, opened, notOpened, ope
 use Rattle.format.specs.Path.{Parsed, components, badPath}
 use Rattle.format.specs.Lookup.{Target, object, symbolic, componentWalk, fromTarget, follow, followPath}
 use Rattle.walk.specs.Lent.{left}
-use Rattle.walk.proofs.Growth.{run-grown}
+use Rattle.laws.proofs.Growth.{run-grown}
 use Rattle.front.proofs.Lent.{roomOf-room}
 
 -- The object found is walked by `last`, and a symbolic link ends in x.

@@ -14,7 +14,7 @@ use Rattle.format.specs.Answers.{AuditReply, auditEnd, audit}
 use Rattle.format.specs.Front.{paddedBytes, objectWords, CReply, cAuditEnd, cAudit}
 use Rattle.ledger.specs.Report.{countedPlaces}
 use Rattle.walk.specs.Lent.{left}
-use Rattle.walk.proofs.Growth.{run-grown}
+use Rattle.laws.proofs.Growth.{run-grown}
 use Rattle.audit.specs.Audit.{AuditedIs, replyOf}
 use Rattle.audit.specs.declared.Audited.{Audited}
 use Rattle.front.proofs.Reply.{length-places}

@@ -13,11 +13,11 @@ use Rattle.format.specs.Entry.{Entry}
 use Rattle.format.specs.Tree.{groupWalk}
 use Rattle.format.specs.Ledger.{Linked, discover}
 use Rattle.format.specs.Lookup.{Link, absent, compareName}
-use Rattle.walk.proofs.Results.{bind-value, bind-assoc, value-bind}
+use Rattle.laws.proofs.Results.{bind-value, bind-assoc, value-bind}
 use Rattle.order.proofs.OrderLaws.{below-irreflexive, below-transitive, same-refl, same-equal}
 use Rattle.visit.specs.Visit.{visitBoth}
 use Rattle.group.specs.Entries.{keepEntry, entriesWalk, countEntries, linkTo, remembered, AllAbove, AllBelow, Rising, NoneNamed}
-use Rattle.walk.proofs.Follows.{follows-ret, follows-value, follows-map, Ran, follows-run}
+use Rattle.laws.proofs.Follows.{follows-ret, follows-value, follows-map, Ran, follows-run}
 use Rattle.group.proofs.Visits.{group-follows}
 
 -- an entry at the end is counted last, and remembered last

@@ -22,7 +22,7 @@ use Rattle.symbol.specs.declared.entry.Step.{Step}
 use Rattle.symbol.specs.declared.entry.Step.the-variants.{Done, Stopped}
 use Rattle.symbol_node.specs.Tree.{stepEnd, SoundIf}
 use Rattle.group.specs.Group.{groupEnd, ReadyIf}
-use Rattle.walk.proofs.Simulation.{Simulation, start, returned, callee-done, callee-stopped}
+use Rattle.laws.proofs.Simulation.{Simulation, start, returned, callee-done, callee-stopped}
 
 module _ {S : Type 0} (im : List ℕ) (eof room : ℕ) (ws : List ℕ) (count : ℕ) (l : Lent ws count room) (leafK internalK tree heap : ℕ) (visit : Entry → S → Result S) (found : S) (ws₁ : List ℕ) where
   abbrev w : Walk S

@@ -16,11 +16,11 @@ use Rattle.format.specs.Entry.{GroupState}
 use Rattle.format.specs.Symbols.{symbolWalk}
 use Rattle.format.specs.Tree.{TREE, treeWalk, nodeWalk, children, branches, subtree}
 use Rattle.walk.specs.Lent.{blocksOf, Lent, Ended, ended, stopped, Walked}
-use Rattle.walk.proofs.Bind.{bind-assoc, ret-bind}
+use Rattle.laws.proofs.Bind.{bind-assoc, ret-bind}
 use Rattle.walk.proofs.Parts.{part-byte, part-number, part-first-number, drop-part}
 use mathlib.Core.Bool.{true, false}
 use Rattle.walk.proofs.Tests.{field-equal, field-unequal, field-least}
-use Rattle.walk.proofs.Simulation.{passed, failed, chosen-then, Simulation, start, same-walk, returned, callee-done, callee-stopped}
+use Rattle.laws.proofs.Simulation.{passed, failed, chosen-then, Simulation, start, same-walk, returned, callee-done, callee-stopped}
 use Rattle.range.specs.Range.{Tight}
 use Rattle.range.specs.declared.Range.{Range}
 use Rattle.visit.specs.Visit.{Both}

@@ -13,8 +13,8 @@ use Rattle.format.specs.Names.{Bound, readText, nameText, below, within}
 use Rattle.format.specs.Entry.{Entry, Group, GroupState, readValue, readEntry}
 use Rattle.format.specs.Symbols.{SNOD, entries, symbolWalk}
 use Rattle.format.specs.Tree.{nodeWalk, keysWalk, children, branches, subtree, treeWalk, groupWalk}
-use Rattle.walk.proofs.Results.{located-bind, located-check}
-use Rattle.walk.proofs.Follows.{Follows, follows-bind, follows-then, follows-check, follows-if, follows-ret}
+use Rattle.laws.proofs.Results.{located-bind, located-check}
+use Rattle.laws.proofs.Follows.{Follows, follows-bind, follows-then, follows-check, follows-if, follows-ret}
 
 -- an entry where it stands, as a walk: its readers and tests one after the other
 pub entry-walk : {S : Type 0} (g : Group S) (bounds : List Bound) (at : ℕ) (b : List ℕ) (s : GroupState S) →

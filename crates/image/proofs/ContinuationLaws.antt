@@ -19,7 +19,7 @@ use Rattle.walk.specs.Lent.{blocksOf, Lent, Walked, ended, stopped, entering, e
 use Rattle.walk.specs.declared.blocks.Entry.the-variants.{Entered, Refused}
 use Rattle.walk.proofs.BlockList.{blocks-next, blocks-snoc, entered-zero}
 use Rattle.walk.proofs.Parts.{part-length, part-part}
-use Rattle.walk.proofs.Simulation.{Simulation, start, same-walk, returned, block-entered, block-refused, entered-inside, callee-value, callee-refusal}
+use Rattle.laws.proofs.Simulation.{Simulation, start, same-walk, returned, block-entered, block-refused, entered-inside, callee-value, callee-refusal}
 use Rattle.tally.specs.Tally.{messageAt, Tallied}
 use Rattle.image.specs.Scan.{MessagesAre, Holds, Continues, NextIs}
 use Rattle.image.specs.Continuations.{Later, blocksFrom, Waiting, Found, Sought}

@@ -19,7 +19,7 @@ use Rattle.walk.specs.Lent.{blocksOf, Lent, Ended, ended, stopped, Walked, ente
 use Rattle.walk.specs.Numbers.{Number}
 use Rattle.walk.specs.declared.blocks.Entry.the-variants.{Entered, Refused}
 use Rattle.walk.proofs.BlockList.{entered-zero}
-use Rattle.walk.proofs.Simulation.{Simulation, start, same-walk, returned, refusal, passed, failed, outside, block-entered, block-refused, entered-inside, callee-value, callee-refusal, callee-last, callee-stopped, callee-done}
+use Rattle.laws.proofs.Simulation.{Simulation, start, same-walk, returned, refusal, passed, failed, outside, block-entered, block-refused, entered-inside, callee-value, callee-refusal, callee-last, callee-stopped, callee-done}
 use Rattle.message.specs.Message.{messageOf}
 use Rattle.tally.specs.Tally.{messageAt, Placed, Tallied}
 use Rattle.image.specs.Scan.{MessagesAre, Holds}

@@ -13,9 +13,9 @@ use Rattle.format.specs.Walk.{fault as faultAt, located, ret, _>>=_}
 use Rattle.format.specs.Heap.{Heap}
 use Rattle.format.specs.Names.{Text, text, fault, outside, noNul, faultNumber, readText, beforeNul, stringAt, keyText}
 use Rattle.format.specs.Tree.{keysWalk}
-use Rattle.walk.proofs.Bind.{ret-bind, refuse-bind}
-use Rattle.walk.proofs.Checks.{both-done}
-use Rattle.walk.proofs.Results.{located-done}
+use Rattle.laws.proofs.Bind.{ret-bind, refuse-bind}
+use Rattle.laws.proofs.Checks.{both-done}
+use Rattle.laws.proofs.Results.{located-done}
 use Rattle.walk.proofs.Parts.{drop-part, part-part}
 use Rattle.heap.specs.Segment.{heapWith}
 use Rattle.names.specs.Texts.{faultOf, textOf, TextRead}

@@ -7,7 +7,7 @@ use lib.ListN.{length}
 use Rattle.format.specs.Layout.{readCompact, readContiguous}
 use Rattle.format.specs.Result.{value, answer}
 use Rattle.walk.specs.Numbers.{Number}
-use Rattle.walk.proofs.Results.{passes, fails}
+use Rattle.laws.proofs.Results.{passes, fails}
 
 -- the compact data's size was read as r
 module _ (place : ℕ) {b : List ℕ} {r : ℕ} (size : Number b 2 2 r) where

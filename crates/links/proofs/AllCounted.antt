@@ -13,9 +13,9 @@ use Rattle.format.specs.Superblock.{Superblock}
 use Rattle.format.specs.Entry.{Entry}
 use Rattle.format.specs.Ledger.{Linked, linked}
 use Rattle.format.specs.Audit.{auditWalk}
-use Rattle.walk.proofs.Plan.{plan, blocks}
-use Rattle.walk.proofs.Disjoint.{apart-none}
-use Rattle.walk.proofs.Restart.{run-done, restart}
+use Rattle.laws.proofs.Plan.{plan, blocks}
+use Rattle.laws.proofs.Disjoint.{apart-none}
+use Rattle.laws.proofs.Restart.{run-done, restart}
 use Rattle.ledger.specs.Links.{addressesOf}
 use Rattle.group.specs.Entries.{countEntries}
 use Rattle.links.specs.Reached.{entriesAt, HasEntries, EntriesOfAll}

@@ -7,7 +7,7 @@ use Rattle.format.specs.Bytes.{if_then_else_}
 use Rattle.format.specs.Result.{Result, value, _>>=_}
 use Rattle.format.specs.Entry.{Entry, isHard}
 use Rattle.format.specs.Ledger.{Linked, inLedger, countLink, discover}
-use Rattle.walk.proofs.Results.{value-bind, bind-assoc, both-values}
+use Rattle.laws.proofs.Results.{value-bind, bind-assoc, both-values}
 use Rattle.ledger.specs.Links.{addressesOf}
 use Rattle.ledger.proofs.LedgerLaws.{discover-hard, discover-other, count-addresses}
 use Rattle.group.specs.Entries.{countEntries}

@@ -15,8 +15,8 @@ use Rattle.format.specs.Dataset.{datasetWalk}
 use Rattle.format.specs.Entry.{Entry}
 use Rattle.format.specs.Ledger.{Linked, discover}
 use Rattle.format.specs.Object.{contentWalk, objectWalk}
-use Rattle.walk.proofs.Bind.{run-bind}
-use Rattle.walk.proofs.Follows.{Ran}
+use Rattle.laws.proofs.Bind.{run-bind}
+use Rattle.laws.proofs.Follows.{Ran}
 use Rattle.group.specs.Entries.{entriesWalk, countEntries}
 use Rattle.group.proofs.Entries.{audit-entries}
 use Rattle.links.specs.Reached.{contentEntries, entriesAt}

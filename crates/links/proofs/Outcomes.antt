@@ -7,8 +7,8 @@ use lib.ListN.{length}
 use Rattle.format.specs.Blocks.{Block, entryAnswer}
 use Rattle.format.specs.declared.Refusal.{Refusal}
 use Rattle.format.specs.Walk.{Kind, Length, lengthIn, Walk, enter, _>>=_, Outcome, done, refused, ifEntered, run, andThen}
-use Rattle.walk.proofs.Bind.{run-bind}
-use Rattle.walk.proofs.Growth.{run-grown}
+use Rattle.laws.proofs.Bind.{run-bind}
+use Rattle.laws.proofs.Growth.{run-grown}
 use Rattle.walk.proofs.BlockList.{entryAnswer-zero}
 
 pub then-done : {A B : Type 0} (o : Outcome A) (f : A → List Block → Outcome B) (b : B) (ms : List Block) → andThen o f ≡ done b ms → (a : A) × (cs : List Block) × (o ≡ done a cs) × (f a cs ≡ done b ms)

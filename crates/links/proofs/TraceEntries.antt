@@ -8,7 +8,7 @@ use lib.ListN.{drop}
 use Rattle.format.specs.Result.{Result, value, _>>=_}
 use Rattle.format.specs.Entry.{Entry}
 use Rattle.format.specs.Ledger.{Linked}
-use Rattle.walk.proofs.Results.{value-bind}
+use Rattle.laws.proofs.Results.{value-bind}
 use Rattle.ledger.specs.Links.{addressesOf}
 use Rattle.group.specs.Entries.{countEntries}
 use Rattle.links.specs.Reached.{Each}

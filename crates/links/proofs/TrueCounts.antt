@@ -12,7 +12,7 @@ use Rattle.format.specs.Bytes.{if_then_else_}
 use Rattle.format.specs.Result.{value}
 use Rattle.format.specs.Entry.{Entry, isHard}
 use Rattle.format.specs.Ledger.{Linked, linked, inLedger, countLink, discover}
-use Rattle.walk.proofs.Results.{both-values}
+use Rattle.laws.proofs.Results.{both-values}
 use Rattle.ledger.specs.Links.{linkSum, linksTo, oneFor, Distinct}
 use Rattle.ledger.proofs.LedgerLaws.{discover-hard, discover-other, count-sum, count-links, sum-first, links-first}
 use Rattle.group.specs.Entries.{countEntries}

@@ -11,7 +11,7 @@ use Rattle.format.specs.Header.{headerWalk}
 use Rattle.format.specs.Lookup as lookup
 use Rattle.format.specs.Lookup.{kindNumber, locateWalk}
 use Rattle.walk.specs.Lent.{blocksOf, Lent, ended, stopped, Walked}
-use Rattle.walk.proofs.Simulation.{Simulation, start, callee-done, callee-stopped, walked-refused}
+use Rattle.laws.proofs.Simulation.{Simulation, start, callee-done, callee-stopped, walked-refused}
 use Rattle.superblock.specs.Superblock.{superblockOf}
 use Rattle.superblock.specs.declared.Superblock.{Superblock}
 use Rattle.lookup.specs.Last.{KindIs}

@@ -11,7 +11,7 @@ use lib.ListN.{length}
 use Rattle.format.specs.Bytes.{_implies_, inRange, part, littleEndian, u8, u16, u64}
 use Rattle.format.specs.Result.{value, answer}
 use Rattle.format.specs.Message.{treatment, allowed, isShared, readMessage}
-use Rattle.walk.proofs.Results.{check-passes, check-fails}
+use Rattle.laws.proofs.Results.{check-passes, check-fails}
 use Rattle.walk.proofs.Parts.{part-length, part-byte, part-part}
 use Rattle.message.specs.Message.{messageOf}
 

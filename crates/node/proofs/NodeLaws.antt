@@ -17,7 +17,7 @@ use Rattle.walk.specs.Numbers.{Number}
 use Rattle.walk.specs.declared.blocks.Entry.the-variants.{Entered, Refused}
 use Rattle.walk.proofs.BlockList.{entered-zero}
 use Rattle.walk.proofs.Parts.{part-byte, part-number, part-first-number, drop-part}
-use Rattle.walk.proofs.Simulation.{Simulation, start, same-walk, returned, passed, failed, block-entered, block-refused, entered-inside, callee-done, callee-stopped, callee-value, callee-refusal}
+use Rattle.laws.proofs.Simulation.{Simulation, start, same-walk, returned, passed, failed, block-entered, block-refused, entered-inside, callee-done, callee-stopped, callee-value, callee-refusal}
 use Rattle.walk.proofs.Tests.{field-equal, field-unequal, field-most, field-above, field-least, field-below}
 use Rattle.node.specs.Node.{branchWalk}
 

@@ -16,8 +16,8 @@ use Rattle.format.specs.Lookup as lookup
 use Rattle.format.specs.Object.{contentWalk, objectWalk}
 use Rattle.walk.specs.Lent.{blocksOf, Lent, ended, stopped, Walked}
 use Rattle.walk.proofs.BlockList.{room-most, lent-none}
-use Rattle.walk.proofs.Follows.{Ran}
-use Rattle.walk.proofs.Simulation.{Simulation, start, returned, callee-done, callee-stopped, callee-last}
+use Rattle.laws.proofs.Follows.{Ran}
+use Rattle.laws.proofs.Simulation.{Simulation, start, returned, callee-done, callee-stopped, callee-last}
 use Rattle.ledger.specs.Table.{linkedOf}
 use Rattle.visit.specs.Visit.{Both, bothOf}
 use Rattle.symbol.specs.declared.entry.Step as steps

@@ -12,7 +12,7 @@ use Rattle.format.specs.Superblock.{Superblock}
 use Rattle.format.specs.Object.{objectWalk}
 use Rattle.format.specs.Audit.{objectsWalk}
 use Rattle.walk.specs.Lent.{blocksOf, Walked, ended, stopped}
-use Rattle.walk.proofs.Simulation.{Simulation, same-walk, returned, callee-done, callee-stopped}
+use Rattle.laws.proofs.Simulation.{Simulation, same-walk, returned, callee-done, callee-stopped}
 use Rattle.ledger.specs.Table.{linkedOf, Table}
 use Rattle.ledger.proofs.TableLaws.{drop-linkedOf, drop-past}
 

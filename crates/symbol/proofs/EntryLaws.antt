@@ -18,8 +18,8 @@ use Rattle.names.specs.declared.NameFault.{NameFault}
 use Rattle.names.specs.declared.Text.the-variants as texts
 use Rattle.ledger.specs.Links.{linkSum}
 use Rattle.ledger.specs.Table.{linkedOf}
-use Rattle.walk.proofs.Bind.{ret-bind, refuse-bind}
-use Rattle.walk.proofs.Results.{passes, fails, gives, answers}
+use Rattle.laws.proofs.Bind.{ret-bind, refuse-bind}
+use Rattle.laws.proofs.Results.{passes, fails, gives, answers}
 use Rattle.walk.proofs.Parts.{part-part, drop-part}
 use Rattle.walk.proofs.Tests.{takes-then, takes-else, field-equal, field-unequal, field-most, field-above}
 use Rattle.range.specs.Range.{nameIn, rangeHolds, Tight}

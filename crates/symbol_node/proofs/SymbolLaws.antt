@@ -18,7 +18,7 @@ use Rattle.walk.specs.Numbers.{Number}
 use Rattle.walk.specs.declared.blocks.Entry.the-variants.{Entered, Refused}
 use Rattle.walk.proofs.BlockList.{entered-zero}
 use Rattle.walk.proofs.Parts.{part-byte, part-number, part-first-number, drop-part}
-use Rattle.walk.proofs.Simulation.{Simulation, start, same-walk, returned, refusal, passed, failed, block-entered, block-refused, entered-inside}
+use Rattle.laws.proofs.Simulation.{Simulation, start, same-walk, returned, refusal, passed, failed, block-entered, block-refused, entered-inside}
 use Rattle.walk.proofs.Tests.{field-equal, field-unequal, range-below, range-above, range-inside}
 use Rattle.ledger.specs.Links.{linkSum}
 use Rattle.ledger.specs.Table.{linkedOf}

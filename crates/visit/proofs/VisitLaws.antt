@@ -10,7 +10,7 @@ use Rattle.format.specs.Bytes.{if_then_else_, sameBytes}
 use Rattle.format.specs.Result.{value}
 use Rattle.format.specs.Entry.{Entry}
 use Rattle.format.specs.Lookup.{hard, soft, compareName}
-use Rattle.walk.proofs.Results.{value-bind, answer-bind}
+use Rattle.laws.proofs.Results.{value-bind, answer-bind}
 use Rattle.ledger.specs.Table.{linkedOf, Table, Discovered}
 use Rattle.ledger.specs.declared.table.Discovery.{Discovery}
 use Rattle.ledger.specs.declared.table.Discovery.the-variants.{Counted, Full as TableFull}

@@ -2,16 +2,4 @@ pub mod LittleEndian
 pub mod Overwrite
 pub mod BlockList
 pub mod Tests
-pub mod Checks
-pub mod Results
 pub mod Parts
-pub mod Bind
-pub mod Plan
-pub mod Disjoint
-pub mod Growth
-pub mod Restart
-pub mod Agreement
-pub mod Blank
-pub mod CountFields
-pub mod Simulation
-pub mod Follows

@@ -7,7 +7,7 @@ use Rattle.format.specs.Limits.{rankMost}
 use Rattle.format.specs.Dataspace.{Dataspace, readDataspace}
 use Rattle.format.specs.Result.{Result, answer}
 use Rattle.walk.proofs.Tests.{field-most, field-above}
-use Rattle.walk.proofs.Results.{passes, fails}
+use Rattle.laws.proofs.Results.{passes, fails}
 use Rattle.dataspace.proofs.SpaceChecks.{afterSizes, afterFlags, afterRank, afterVersion, afterLength, first-check, none-stored, maxima-short, maxima-low, maxima-stored, refused-space, plain-space, stored-space}
 use native.Mathlib.Omega.{arith}
 use borrow.Author.Needs.{needs}

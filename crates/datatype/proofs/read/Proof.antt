@@ -5,7 +5,7 @@ use borrow.Author.Tests.{le-leb, lt-leb, not-true, not-false}
 use Rattle.format.specs.Datatype.{Datatype, readDatatype}
 use Rattle.format.specs.Result.{Result}
 use Rattle.walk.proofs.Tests.{range-below, range-above, range-inside, field-most, field-above, field-least, field-below}
-use Rattle.walk.proofs.Results.{passes, fails}
+use Rattle.laws.proofs.Results.{passes, fails}
 use Rattle.datatype.proofs.TypeChecks.{afterExtent, afterSize, afterClass, afterVersion, afterLength, first-check, unsound-bits, own-read}
 use borrow.Author.Needs.{needs}
 use Rattle.datatype.proofs.read.Statement.{statement}

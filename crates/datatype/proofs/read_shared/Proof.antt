@@ -3,7 +3,7 @@ use mathlib.Core.Path.{ap, sym, _∙_}
 use borrow.Author.Tests.{le-leb, lt-leb, not-true, not-false}
 use Rattle.format.specs.Datatype.{sharedAt, readShared}
 use Rattle.format.specs.Result.{value}
-use Rattle.walk.proofs.Results.{passes, fails}
+use Rattle.laws.proofs.Results.{passes, fails}
 use borrow.Author.Needs.{needs}
 use Rattle.datatype.proofs.read_shared.Statement.{statement}
 use Rattle.datatype.proofs.read_shared.Tie as tie

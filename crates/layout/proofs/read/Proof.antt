@@ -1,5 +1,5 @@
 -- The first check that fails decides; the class then chooses the reader.
-use Rattle.walk.proofs.Results.{passes, fails}
+use Rattle.laws.proofs.Results.{passes, fails}
 use Rattle.walk.proofs.Tests.{takes-then, takes-else}
 use borrow.Author.Tests.{eq-eqb, ne-eqb, le-leb, lt-leb}
 use Rattle.format.specs.Layout.{readLayout}

@@ -1,7 +1,7 @@
 -- The length decides.
 use borrow.Author.Tests.{lt-leb}
 use Rattle.format.specs.Layout.{readContiguous}
-use Rattle.walk.proofs.Results.{fails}
+use Rattle.laws.proofs.Results.{fails}
 use Rattle.layout.proofs.LayoutLaws.{contiguous-read}
 use borrow.Author.Needs.{needs}
 use Rattle.layout.proofs.read_contiguous.Statement.{statement}

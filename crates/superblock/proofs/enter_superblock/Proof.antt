@@ -3,7 +3,7 @@ use denote.Ref.{now}
 use Rattle.format.specs.Superblock.{superblockWalk}
 use Rattle.format.specs.Walk.{superblockBlock}
 use Rattle.walk.specs.Lent.{blocksOf}
-use Rattle.walk.proofs.Simulation.{one-block}
+use Rattle.laws.proofs.Simulation.{one-block}
 use native.Mathlib.Omega.{arith}
 use borrow.Author.Needs.{needs}
 use Rattle.superblock.proofs.enter_superblock.Statement.{statement}

@@ -8,7 +8,7 @@ use Rattle.format.specs.Dataspace.{readDataspace}
 use Rattle.format.specs.Layout.{readLayout}
 use Rattle.format.specs.Result.{value}
 use Rattle.format.specs.Walk.{located}
-use Rattle.walk.proofs.Checks.{passes, fails, gives, refuses}
+use Rattle.laws.proofs.Checks.{passes, fails, gives, refuses}
 use Rattle.message.specs.Message.{messageOf}
 use Rattle.dataspace.specs.declared.DataspaceRead.{DataspaceRead}
 use Rattle.dataspace.specs.declared.DataspaceRead.the-variants.{Read}

@@ -10,7 +10,7 @@ use mathlib.Core.Path.{_≡_, refl, sym, ap, _∙_, subst}
 use lib.ListN.{length}
 use Rattle.format.specs.Names.{Bound, stringAt}
 use Rattle.format.specs.Tree as walk
-use Rattle.walk.proofs.Simulation.{Simulation, start, come-from, same-walk, returned, callee-done, callee-stopped}
+use Rattle.laws.proofs.Simulation.{Simulation, start, come-from, same-walk, returned, callee-done, callee-stopped}
 use Rattle.range.specs.Range.{Tight}
 use Rattle.key.specs.Key.{KeyAt}
 use Rattle.symbol.specs.Entry.{groupOf, stateOf}

@@ -12,7 +12,7 @@ use Rattle.format.specs.Audit.{objectsWalk}
 use Rattle.ledger.specs.Table.{linkedOf}
 use Rattle.superblock.specs.Superblock.{superblockOf}
 use Rattle.group.specs.Group.{Ready}
-use Rattle.walk.proofs.Simulation.{Simulation, start}
+use Rattle.laws.proofs.Simulation.{Simulation, start}
 use Rattle.object.proofs.ObjectsLaws.{objects-done, object-stopped, object-done}
 
 abbrev Inv-loop : tie.InvT-loop

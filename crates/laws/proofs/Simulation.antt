@@ -12,12 +12,12 @@ use Rattle.format.specs.Bytes.{if_then_else_, part}
 use Rattle.format.specs.Blocks.{Block, block, entryAnswer}
 use Rattle.format.specs.declared.Refusal.{Refusal}
 use Rattle.format.specs.Walk.{Kind, kindNumber, notEntered, shown, Length, stored, lengthIn, knownLength, Walk, ret, refuse, enter, enterBlock, check, _>>=_, _>>_, Outcome, done, refused, ifEntered, run, andThen}
 use Rattle.walk.specs.Lent.{blocksOf, Lent, Ended, ended, stopped, left, Walked, entering, entered, entryEnd}
 use Rattle.walk.specs.declared.blocks.Entry.{Entry}
 use Rattle.walk.specs.declared.blocks.Entry.the-variants.{Entered, Refused}
-use Rattle.walk.proofs.Bind.{run-bind}
-use Rattle.walk.proofs.Growth.{run-grown}
+use Rattle.laws.proofs.Bind.{run-bind}
+use Rattle.laws.proofs.Growth.{run-grown}
 use Rattle.walk.proofs.BlockList.{length-blocksOf, blocks-snoc, entered-zero, refused-suc, entryAnswer-zero, entryAnswer-outside}
 
 -- The walk w₀, begun with n₀ blocks in the list ws₀, has come to w, with n blocks in ws.
 pub record Simulation (im : List ℕ) (eof room : ℕ) {A : Type 0} (w₀ : Walk A) (n₀ : ℕ) (ws₀ : List ℕ) (w : Walk A) (n : ℕ) (ws : List ℕ) : Type 0 where

@@ -1,0 +1,12 @@
+pub mod Checks
+pub mod Results
+pub mod Bind
+pub mod Plan
+pub mod Disjoint
+pub mod Growth
+pub mod Restart
+pub mod Agreement
+pub mod Blank
+pub mod CountFields
+pub mod Simulation
+pub mod Follows

@@ -1,0 +1,1 @@
+// The laws of walks and of readers of parts. No code.
