@@ -7,13 +7,16 @@ use Rattle.format.specs.Limits.{objectsMost}
 use Rattle.format.specs.Blocks.{roomOf}
 use Rattle.format.specs.declared.Refusal.{Refusal}
 use Rattle.format.specs.Walk.{answerOf, run}
+use Rattle.format.specs.Ledger.{Linked}
 use Rattle.format.specs.Audit.{auditWalk}
 use Rattle.format.specs.Answers.{AuditReply, audit}
-use Rattle.walk.specs.Lent.{Walked}
+use Rattle.walk.specs.Lent.{Ended, ended, stopped, Walked}
 use Rattle.superblock.specs.Superblock.{superblockOf}
 use Rattle.superblock.specs.declared.Superblock.{Superblock}
-use Rattle.object.specs.Object.{objectEnd, ReadyIf}
+use Rattle.ledger.specs.Table.{linkedOf}
+use Rattle.group.specs.Group.{Ready}
 use Rattle.object.specs.declared.object.ObjectRead.{ObjectRead}
+use Rattle.object.specs.declared.object.ObjectRead.the-variants.{Done, Stopped}
 use Rattle.ledger.specs.Report.{countedPlaces, countedOf}
 use Rattle.ledger.specs.declared.report.Ledger.{Ledger}
 use Rattle.audit.specs.declared.Audited.{Audited}
@@ -23,10 +26,19 @@ use Rattle.audit.specs.declared.Reply.{Reply}
 abbrev pub refusedWith : Refusal → Audited
 refusedWith r = record { number = answerOf r; «block_count» = 0; objects = 0 }
 
+-- the ledger, with the number of blocks then entered, or the refusal
+abbrev pub ledgerEnd : List ℕ → List ℕ → ObjectRead → Ended (List Linked)
+ledgerEnd addresses counts (Done count objects) = ended (linkedOf objects addresses counts) count
+ledgerEnd addresses counts (Stopped r) = stopped r
+
+abbrev pub ReadyIf : List ℕ → List ℕ → List ℕ → ℕ → ℕ → ObjectRead → Type 0
+ReadyIf ws addresses counts eof room (Done count objects) = Ready ws addresses counts eof room count objects
+ReadyIf ws addresses counts eof room (Stopped r) = Unit {0}
+
 -- the walk of an opened image was walked, in the whole of the list lent
 pub record ImageWalked (im ws : List ℕ) (s : Superblock) (ws′ addresses′ counts′ : List ℕ) (r : ObjectRead) : Type 0 where
-  pub walked : Walked ws ws′ (objectEnd addresses′ counts′ r) (run im (s .«end_of_file») (roomOf (length ws)) (auditWalk (superblockOf s)) [])
-  pub ready : ReadyIf ws′ addresses′ counts′ (roomOf (length ws)) r
+  pub walked : Walked ws ws′ (ledgerEnd addresses′ counts′ r) (run im (s .«end_of_file») (roomOf (length ws)) (auditWalk (superblockOf s)) [])
+  pub ready : ReadyIf ws′ addresses′ counts′ (s .«end_of_file») (roomOf (length ws)) r
 
 -- "kept in a table of 256 places that starts empty"
 pub record Lists (addresses stored counts : List ℕ) : Type 0 where

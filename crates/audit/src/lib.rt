@@ -1,4 +1,4 @@
-// The link audit: counts the hard links that reach each object of a file.
+// The link audit: counts the hard links and sharings that reach each object of a file.
 use format::OBJECTS_MOST;
 use format::Refusal;
 use format::number_of;
@@ -6,7 +6,7 @@ use ledger::report;
 use ledger::report::Ledger;
 use ledger::table;
 use object::object::ObjectRead;
-use object::objects;
+use objects;
 use superblock::Opening;
 use superblock::Superblock;
 use walk::blocks;
@@ -36,7 +36,8 @@ fn refused(list: &mut [u64], refusal: Refusal) -> Audited
     }
 }
 
-// The audit's walk: the superblock, then all objects from the root on. The superblock's root entry is the root's first link.
+// The audit's walk: the superblock, then all objects from the root on. The superblock's root entry is the root's first link,
+// and nothing else is known of any object yet.
 fn walk_image(
     image: &[u8],
     list: &mut [u64],
@@ -54,7 +55,18 @@ fn walk_image(
         Entry::Entered(n) => {
             let root = superblock.root;
             table::start(addresses, true_counts, root);
-            objects::read(image, list, addresses, true_counts, superblock, room, n, 1)
+            let mut marks = [0u8; OBJECTS_MOST];
+            objects::read(
+                image,
+                list,
+                addresses,
+                true_counts,
+                &mut marks,
+                superblock,
+                room,
+                n,
+                1,
+            )
         }
     }
 }

@@ -1,6 +1,8 @@
--- Where faults are met: files E and H of document 01 with one or two bytes changed, so that each kind of place and each kind of block is named.
--- The comment above a row says what was changed. In H the superblock is at 0, the root's header at 96, its tree node at 136, its heap at 680 with
--- the segment at 712, its symbol table node at 800, the dataset's header at 1128 and the data at 1224.
+-- Where faults are met: files E and H of document 01 and file C with one or two bytes changed, so that each kind of place and each kind of block is
+-- named. The comment above a row says what was changed. In H the superblock is at 0, the root's header at 96, its tree node at 136, its heap at 680
+-- with the segment at 712, its symbol table node at 800, the dataset's header at 1128 and the data at 1224. In C the root's header is at 96 with its
+-- attribute message at 136, whose body is at 144 and whose shared part is at 154; the header of "d" is at 1168 with its messages at 1184, 1200 and
+-- 1224, that of "t" at 1256.
 use Prim.Native.Nat.{ℕ}
 use mathlib.Core.List.{List, [], _∷_}
 use lib.ListN.{set, take}
@@ -9,8 +11,8 @@ use Rattle.format.specs.Walk.{Outcome, done, refused}
 use Rattle.format.specs.Audit.{auditRun}
 use Rattle.format.specs.Lookup.{lookupRun}
 use Rattle.format.specs.Describe.{describeRun}
-use Rattle.cases.specs.Files.{ascii, fileE, fileContinued}
-use Rattle.cases.specs.Table.{Case, _is_, soundH}
+use Rattle.cases.specs.Files.{ascii, message, fileE, fileContinued, fileC}
+use Rattle.cases.specs.Table.{Case, _is_, soundH, sharingC, flaggedC}
 
 -- the answer, and the place of the fault
 abbrev pub fault : (number place : ℕ) → List ℕ
@@ -41,6 +43,13 @@ damagedTwice place byte place′ byte′ = audited (set (set soundH place byte) 
 -- the file of which a part of the dataset's header is continued, with this byte at this place
 abbrev pub continued : (place byte : ℕ) → List ℕ
 continued place byte = audited (set fileContinued place byte)
+
+-- C with this byte at this place, and with two bytes changed
+abbrev pub sharing : (place byte : ℕ) → List ℕ
+sharing place byte = audited (set sharingC place byte)
+
+abbrev pub sharingTwice : (place byte place′ byte′ : ℕ) → List ℕ
+sharingTwice place byte place′ byte′ = audited (set (set sharingC place byte) place′ byte′)
 
 unfoldable pub damagedTable : List Case
 damagedTable =
@@ -110,11 +119,37 @@ damagedTable =
     (continued 0 0x89 is []) ∷
     (continued 1153 33 is fault 11 1144) ∷
     (continued 1204 0 is fault 11 1192) ∷
-    -- a message of the continuation; the number of all messages; a layout of another type, so that there is no kind; the continuation's length
+    -- a message of the continuation; the number of all messages; a layout of another type, so that there is no kind; an attribute whose parts leave
+    -- its body; the continuation's length
     (continued 1216 2 is fault 3 1216) ∷
     (continued 1130 5 is fault 10 1128) ∷
-    (continued 1216 12 is fault 10 1128) ∷
+    (continued 1216 4 is fault 10 1128) ∷
+    (continued 1216 12 is fault 10 1216) ∷
     (continued 1184 80 is notEntered 5 3 1192 80 0) ∷
+    -- the attribute of C: flags 2 and 3, version 4, a datatype of 9 bytes, a dataspace of 99
+    (sharing 145 2 is fault 3 136) ∷
+    (sharing 145 3 is fault 3 136) ∷
+    (sharing 144 4 is fault 3 136) ∷
+    (sharing 148 9 is fault 10 136) ∷
+    (sharing 150 99 is fault 10 136) ∷
+    -- version 1, whose padded parts take 40 bytes of 32; version 3, whose shared part would begin a byte later and gives another address
+    (sharing 144 1 is fault 10 136) ∷
+    (sharing 144 3 is notEntered 5 2 72057594037927940 16 0) ∷
+    -- the shared part's version is 1; the shared flag on the attribute message
+    (sharing 154 1 is fault 3 136) ∷
+    (sharing 140 2 is fault 3 136) ∷
+    -- the attribute shares 96, the root itself: its kind is known behind its last message, so that a message of type 2 is met before
+    (sharingTwice 156 96 157 0 is fault 10 96) ∷
+    (audited (set (set (fileC (message 2 0 [])) 156 96) 157 0) is fault 3 176) ∷
+    -- the attribute shares "d", whose kind is known later
+    (sharing 156 144 is fault 10 1168) ∷
+    -- "d" shares itself, and so it does with a layout of version 0; a dataspace of version 0 is met before
+    (sharing 1210 144 is fault 10 1200) ∷
+    (sharingTwice 1210 144 1232 0 is fault 10 1200) ∷
+    (sharingTwice 1210 144 1192 0 is fault 3 1184) ∷
+    -- the shared flag on the message of "t"
+    (audited flaggedC is fault 10 1256) ∷
+    (refusal (lookupRun flaggedC (ascii "/t") 16) is fault 10 1256) ∷
     -- what a path is answered names no place
     (refusal (lookupRun soundH (ascii "a") 16) is fault 14 0) ∷
     (refusal (lookupRun soundH (ascii "/c") 16) is fault 15 0) ∷

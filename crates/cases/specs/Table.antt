@@ -1,13 +1,13 @@
 -- The starred small files of document 01 as one table: in each row a call of the definitions, and the whole reply that 01 gives to it.
--- The comment above a row is the sentence of 01.
+-- The comment above a row is the sentence of 01. The last rows are about file C, which has sharings; their comments quote Item 2 of document 02.
 use Prim.Native.Nat.{ℕ}
 use mathlib.Core.List.{List, [], _∷_, _++_}
-use lib.ListN.{length}
+use lib.ListN.{length, set}
 use Rattle.format.specs.Audit.{Counted}
 use Rattle.format.specs.Answers.{AuditReply, LookupReply, DescribeReply, MendReply, UndoReply, audit, lookup, describe, mend, undo}
 use Rattle.format.specs.Front.{objectWords}
 use Rattle.format.specs.Command.{command}
-use Rattle.cases.specs.Files.{ascii, zeros, fileE, fileH, nameA, nameB}
+use Rattle.cases.specs.Files.{ascii, zeros, fileE, fileH, nameA, nameB, fileC}
 
 -- a list with its length before it
 abbrev pub sized : List ℕ → List ℕ
@@ -81,11 +81,37 @@ outputH =
     ascii "00000000000000600000000100000001\n" ++
     ascii "00000000000004680000000100000002\n"
 
+-- C, and the blocks that its audit enters
+abbrev pub sharingC : List ℕ
+sharingC = fileC []
+
+abbrev pub beginC : List ℕ
+beginC = 0 ∷ 96 ∷ 96 ∷ 80 ∷ 720 ∷ 32 ∷ 752 ∷ 88 ∷ 176 ∷ 544 ∷ 840 ∷ 328 ∷ []
+
+abbrev pub blocksC : List ℕ
+blocksC = beginC ++ (1256 ∷ 40 ∷ 1168 ∷ 88 ∷ [])
+
+-- the same where the attribute shares nothing: "d" comes before "t"
+abbrev pub blocksUnshared : List ℕ
+blocksUnshared = beginC ++ (1168 ∷ 88 ∷ 1256 ∷ 40 ∷ [])
+
+-- the command's output for C
+abbrev pub outputC : List ℕ
+outputC =
+    ascii "0000000000000003\n" ++
+    ascii "00000000000000600000000100000001\n" ++
+    ascii "00000000000004e80000000100000003\n" ++
+    ascii "00000000000004900000000100000001\n"
+
+-- C with the shared flag on the message of the committed datatype "t"
+abbrev pub flaggedC : List ℕ
+flaggedC = set sharingC 1276 2
+
 -- undo of all that a mender did
 abbrev pub undoAll : MendReply → UndoReply
 undoAll m = undo (m .image) (m .log) (m .entries) (m .entries)
 
--- E is lent 12 words at first, so that two stay zero, and H is lent 16, the words of its 8 blocks.
+-- E is lent 12 words at first, so that two stay zero, and H and C are lent 16, the words of their 8 blocks.
 unfoldable pub table : List Case
 table =
     -- E: Blocks in order: 0/96, 96/40, 680/32, 712/88, 136/544. One object, true count 1.
@@ -144,4 +170,30 @@ table =
     })) ∷
     -- Names "b", "a" in that order: 8.
     (audited (audit (fileH nameB nameA 2) 16) is auditRefused 8 16) ∷
+    -- true count is now hard links plus such sharings; an attribute's [address is discovered] with its header's messages (C: "t" has one name and two
+    -- sharings, and is the second object, before "d")
+    (audited (audit sharingC 16) is auditDone 8 (counted 96 1 1 ∷ counted 1256 1 3 ∷ counted 1168 1 1 ∷ []) blocksC) ∷
+    -- gives the log 1260, 4294967299 (room for one entry, a write limit of 1)
+    (mended (mend sharingC 16 2 1) is mended (record {
+      number = 0;
+      blockCount = 8;
+      entries = 1;
+      writes = 1;
+      list = blocksC;
+      log = 1260 ∷ 4294967299 ∷ [];
+      image = set sharingC 1260 3;
+    })) ∷
+    -- and the output
+    (command sharingC is outputC) ∷
+    -- each attribute whose flags say so (flags 0: only "d" shares "t", which is found by its name, behind "d")
+    (audited (audit (set sharingC 145 0) 16) is auditDone 8 (counted 96 1 1 ∷ counted 1168 1 1 ∷ counted 1256 1 2 ∷ []) blocksUnshared) ∷
+    -- Only the audit reads attribute messages, of versions 1 to 3 (version 4)
+    (audited (audit (set sharingC 144 4) 16) is auditRefused 3 16) ∷
+    (found (lookup (set sharingC 144 4) (ascii "/d") 16) is datasetFound 1168 16) ∷
+    -- as does a shared flag on a committed datatype's own message (it gives 10, also for a lookup of it and through it)
+    (audited (audit flaggedC 16) is auditRefused 10 16) ∷
+    (found (lookup flaggedC (ascii "/t") 16) is lookupRefused 10 16) ∷
+    (found (lookup flaggedC (ascii "/t/x") 16) is lookupRefused 10 16) ∷
+    -- "/d" is still found
+    (found (lookup flaggedC (ascii "/d") 16) is datasetFound 1168 16) ∷
     []

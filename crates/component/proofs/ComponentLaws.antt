@@ -18,6 +18,7 @@ use Rattle.format.specs.Lookup as lookup
 use Rattle.format.specs.Lookup.{compareName, findWalk, targetWalk, componentWalk}
 use Rattle.walk.specs.Lent.{blocksOf, Lent, ended, stopped, Walked}
 use Rattle.laws.proofs.Bind.{run-bind}
+use Rattle.laws.proofs.SumOfLengths.{grown-apart, grown-inside}
 use Rattle.laws.proofs.Follows.{Ran}
 use Rattle.laws.proofs.Simulation.{Simulation, start, callee-done, callee-stopped, walked-refused}
 use Rattle.ledger.specs.Links.{linkSum}
@@ -146,9 +147,11 @@ module _ (im name ws : List ℕ) (s : Superblock) (room at : ℕ) (last : Bool) 
 
         module _ (tree heap : ℕ) (k : Walked ws₁ ws₂ (ended (headers.group tree heap) m) (run im (s .«end_of_file») room (headerWalk at) (blocksOf n ws₁))) where
           -- the lists for the group, with empty tables
-          pub group-ready : (addresses counts : List ℕ) → Table addresses counts 0 → Ready ws₂ addresses counts room m 0
-          unfolding linkedOf linkSum
-          group-ready addresses counts t = record { lent = at-kind (headers.group tree heap) m same₂ k .lent; table = t; links = omega arith }
+          pub group-ready : (addresses counts : List ℕ) → Table addresses counts 0 → Ready ws₂ addresses counts (s .«end_of_file») room m 0
+          unfolding linkedOf linkSum blocksOf
+          group-ready addresses counts t =
+              let a = at-kind (headers.group tree heap) m same₂ k in
+              record { lent = a .lent; table = t; apart = grown-apart (a .blocks) tt; inside = grown-inside (a .blocks) tt; links = omega arith }
 
           pub group-is : (addresses counts : List ℕ) (r : Target) → FoundIs im name ws₂ s room tree heap m last addresses counts r → ComponentIs im name s room at last addresses counts r
           unfolding findWalk blocksOf

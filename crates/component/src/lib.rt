@@ -63,7 +63,7 @@ fn find(
     last: bool,
 ) -> Target
     requires { ⌜ Opened (now image) superblock room ⌝ }
-    requires { ⌜ Ready (now list) (now addresses) (now counts) room count 0 ⌝ }
+    requires { ⌜ Ready (now list) (now addresses) (now counts) (superblock .«end_of_file») room count 0 ⌝ }
     ensures { λ r. ⌜ FoundIs (now (image .entry)) (now (name .entry)) (now (list .entry)) superblock room tree heap count last (now (addresses .exit)) (now (counts .exit)) r ⌝ }
 {
     let end_of_file = superblock.end_of_file;

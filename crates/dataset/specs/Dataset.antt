@@ -3,21 +3,23 @@ use Prim.Native.Nat.{ℕ, _+_, _*_, _≤_}
 use mathlib.Core.List.{List}
 use mathlib.Core.Bool.{Bool}
 use lib.ListN.{length}
-use Rattle.format.specs.Bytes.{if_then_else_, part}
-use Rattle.format.specs.Message.{Message, isShared}
-use Rattle.format.specs.Dataspace.{readDataspace}
-use Rattle.format.specs.Datatype.{readDatatype, readShared}
+use Rattle.format.specs.Bytes.{part}
+use Rattle.format.specs.Message.{Message}
+use Rattle.format.specs.Dataspace.{Dataspace, readDataspace}
 use Rattle.format.specs.Layout.{readLayout}
-use Rattle.format.specs.Dataset.{headAt, fills}
-use Rattle.format.specs.Result.{Result}
+use Rattle.format.specs.Dataset.{headAt, fills, readType, storageWalk}
 use Rattle.format.specs.Walk.{Walk, ret, refuse, fault, located, check, _>>=_, _>>_}
 use Rattle.walk.specs.Lent.{Ended, ended, stopped}
 use Rattle.message.specs.declared.Body.{Body}
+use Rattle.message.specs.Message.{messageOf}
 use Rattle.dataspace.specs.Dataspace.{spaceOf, SpaceInside}
 use Rattle.dataspace.specs.declared.DataspaceRead.the-variants.{Read}
 use Rattle.datatype.specs.Datatype.{typeOf}
 use Rattle.layout.specs.Layout.{layoutOf}
 use Rattle.dataset.specs.declared.dataset.Dataset.{Dataset}
+use Rattle.dataset.specs.declared.dataset.Parts.{Parts}
+use Rattle.dataset.specs.declared.dataset.PartsRead.{PartsRead}
+use Rattle.dataset.specs.declared.dataset.PartsRead.the-variants as parts
 use Rattle.dataset.specs.declared.dataset.MessagesRead.{MessagesRead}
 use Rattle.dataset.specs.declared.dataset.MessagesRead.the-variants as messages
 use Rattle.dataset.specs.declared.dataset.DatasetRead.{DatasetRead}
@@ -50,18 +52,50 @@ datasetOf b d = record { space = spaceOf b (d .rank) (d .«maxima_stored»); typ
 abbrev pub dataFills : Rattle.format.specs.Dataset.Dataset → Bool
 dataFills d = fills (d .space) (d .type) (d .layout)
 
--- the datatype message, shared or not
-abbrev pub typeMessage : Message → Result Rattle.format.specs.Datatype.Datatype
-typeMessage m = if isShared (m .flags) then readShared (m .body) else readDatatype (m .body)
+-- dataspace and datatype as the definitions have them
+pub record SpaceAndType : Type 0 where
+  pub space : Dataspace
+  pub type : Rattle.format.specs.Datatype.Datatype
 
--- the dataset walk before its data's block
-unfoldable pub messagesWalk : Message → Message → Message → Walk Rattle.format.specs.Dataset.Dataset
-messagesWalk space type layout = do
+-- the dataset walk before its layout
+unfoldable pub partsWalk : Message → Message → Walk SpaceAndType
+partsWalk space type = do
   d ← located (headAt space) (readDataspace (space .body))
-  t ← located (headAt type) (typeMessage type)
+  t ← located (headAt type) (readType type)
+  ret (record { space = d; type = t })
+
+-- what was read of the dataspace and the datatype message; b is the body of the first
+abbrev pub partsOf : List ℕ → Parts → SpaceAndType
+partsOf b p = record { space = spaceOf b (p .rank) (p .«maxima_stored»); type = typeOf (p .datatype) }
+
+-- the answer as the end of that walk
+abbrev pub partsResult : List ℕ → PartsRead → Walk SpaceAndType
+partsResult b (parts.Read p) = ret (partsOf b p)
+partsResult b (parts.Refused r) = refuse r
+
+-- the sizes and maxima of the dataspace stand in the body b of its message
+abbrev pub PartsShaped : List ℕ → PartsRead → Type 0
+PartsShaped b (parts.Read p) = SpaceInside b (Read (p .rank) (p .«maxima_stored»))
+PartsShaped b (parts.Refused r) = Unit {0}
+
+-- dataspace and layout lie in the image, and the dataspace's sizes and maxima in its body
+pub record StorageInside (im : List ℕ) (space : Body) (p : Parts) (layout : Body) : Type 0 where
+  pub spaceInside : Inside im space
+  pub layoutInside : Inside im layout
+  pub shaped : SpaceInside (bodyOf im space) (Read (p .rank) (p .«maxima_stored»))
+
+-- the storage walk before its data's block
+unfoldable pub layoutWalk : Dataspace → Rattle.format.specs.Datatype.Datatype → Message → Walk Rattle.format.specs.Dataset.Dataset
+layoutWalk d t layout = do
   l ← located (headAt layout) (readLayout (layout .place) (layout .body))
   check (fills d t l) (fault 11 (headAt layout))
   ret (record { space = d; type = t; layout = l })
+
+-- where the storage walk begins: behind the parts
+abbrev pub storageOf : List ℕ → Body → Parts → Body → Walk Rattle.format.specs.Dataset.Dataset
+storageOf im space p layout =
+    let v = partsOf (bodyOf im space) p in
+    storageWalk (v .space) (v .type) (messageOf im 0x0008 layout)
 
 -- the sizes and maxima of a dataset stand in the body b of its dataspace message
 abbrev pub Shaped : List ℕ → Dataset → Type 0

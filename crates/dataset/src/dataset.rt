@@ -15,7 +15,7 @@ ghost use mathlib.Core.List.{List};
 ghost use Prim.Native.Nat.{ℕ, _-_, _≤_};
 ghost use lib.ListN.{length};
 ghost use Rattle.format.specs.Bytes.{part};
-ghost use Rattle.format.specs.Dataset.{dataWalk, datasetWalk};
+ghost use Rattle.format.specs.Dataset.{readType, dataWalk, datasetWalk};
 ghost use Rattle.format.specs.Layout.{readLayout};
 ghost use Rattle.format.specs.Walk.{run};
 ghost use Rattle.walk.specs.Lent.{Lent, Walked, blocksOf, entryEnd};
@@ -23,7 +23,9 @@ ghost use Rattle.message.specs.Message.{messageOf};
 ghost use Rattle.dataspace.specs.Dataspace.{SpaceRead};
 ghost use Rattle.datatype.specs.Datatype.{typeOf, typeResult};
 ghost use Rattle.layout.specs.Layout.{layoutOf, layoutResult};
-ghost use Rattle.dataset.specs.Dataset.{Inside, BodiesInside, SizesInside, bodyOf, datasetOf, dataFills, typeMessage, messagesWalk, messagesRead, MessagesShaped, datasetEnd, DatasetShaped};
+ghost use Rattle.dataset.specs.Dataset.{Inside, BodiesInside, SizesInside, StorageInside, bodyOf, datasetOf, dataFills};
+ghost use Rattle.dataset.specs.Dataset.{partsOf, partsWalk, partsResult, PartsShaped, layoutWalk, messagesRead, MessagesShaped};
+ghost use Rattle.dataset.specs.Dataset.{storageOf, datasetEnd, DatasetShaped};
 
 // What the messages say. The sizes and maxima themselves stay in the body of the dataspace message.
 pub struct Dataset {
@@ -31,6 +33,18 @@ pub struct Dataset {
     pub maxima_stored: bool,
     pub datatype: Datatype,
     pub layout: Layout,
+}
+
+// What the first two of them say: the dataset before its layout.
+pub struct Parts {
+    pub rank: usize,
+    pub maxima_stored: bool,
+    pub datatype: Datatype,
+}
+
+pub enum PartsRead {
+    Read(Parts),
+    Refused(Refusal),
 }
 
 pub enum MessagesRead {
@@ -44,7 +58,7 @@ pub enum DatasetRead {
 }
 
 // Where the message of a body stands: 8 bytes before it.
-fn head_of(body: Body) -> usize
+pub fn head_of(body: Body) -> usize
     ensures { λ r. ⌜ r ≡ body .place - 8 ⌝ }
 {
     let place = body.place;
@@ -66,7 +80,7 @@ fn read_space(image: &[u8], body: Body) -> DataspaceRead
 
 fn read_type(image: &[u8], body: Body) -> DatatypeRead
     requires { ⌜ Inside (now image) body ⌝ }
-    ensures { λ r. ⌜ typeResult r ≡ typeMessage (messageOf (now (image .entry)) 0x0003 body) ⌝ }
+    ensures { λ r. ⌜ typeResult r ≡ readType (messageOf (now (image .entry)) 0x0003 body) ⌝ }
 {
     let place = body.place;
     let end = place + body.size;
@@ -118,35 +132,55 @@ fn filled(image: &[u8], space: Body, dataset: Dataset) -> bool
     }
 }
 
-// Reads the three messages, the dataspace first, and compares the data's size: what they say, or 3 or 11.
-fn messages(image: &[u8], space: Body, datatype: Body, layout: Body) -> MessagesRead
-    requires { ⌜ BodiesInside (now image) space datatype layout ⌝ }
-    ensures { λ r. ⌜ messagesRead (bodyOf (now (image .entry)) space) r ≡ messagesWalk (messageOf (now (image .entry)) 0x0001 space) (messageOf (now (image .entry)) 0x0003 datatype) (messageOf (now (image .entry)) 0x0008 layout) ⌝ }
-    ensures { λ r. ⌜ MessagesShaped (bodyOf (now (image .entry)) space) r ⌝ }
+// Reads the dataspace message and then the datatype message, each whole: what they say, or 3 or 11.
+pub fn read_parts(image: &[u8], space: Body, datatype: Body) -> PartsRead
+    requires { ⌜ Inside (now image) space ⌝ }
+    requires { ⌜ Inside (now image) datatype ⌝ }
+    ensures { λ r. ⌜ partsResult (bodyOf (now (image .entry)) space) r
+        ≡ partsWalk (messageOf (now (image .entry)) 0x0001 space) (messageOf (now (image .entry)) 0x0003 datatype) ⌝ }
+    ensures { λ r. ⌜ PartsShaped (bodyOf (now (image .entry)) space) r ⌝ }
 {
     match read_space(image, space) {
-        DataspaceRead::Refused(n) => MessagesRead::Refused(Refusal::Fault(n, head_of(space))),
+        DataspaceRead::Refused(n) => PartsRead::Refused(Refusal::Fault(n, head_of(space))),
         DataspaceRead::Read {
             rank,
             maxima_stored,
         } => match read_type(image, datatype) {
-            DatatypeRead::Refused(n) => MessagesRead::Refused(Refusal::Fault(n, head_of(datatype))),
-            DatatypeRead::Read(t) => match read_layout(image, layout) {
-                LayoutRead::Refused(n) => MessagesRead::Refused(Refusal::Fault(n, head_of(layout))),
-                LayoutRead::Read(l) => {
-                    let dataset = Dataset {
-                        rank: rank,
-                        maxima_stored: maxima_stored,
-                        datatype: t,
-                        layout: l,
-                    };
-                    if !filled(image, space, dataset) {
-                        return MessagesRead::Refused(Refusal::Fault(11, head_of(layout)));
-                    }
-                    MessagesRead::Read(dataset)
-                }
-            },
+            DatatypeRead::Refused(n) => PartsRead::Refused(Refusal::Fault(n, head_of(datatype))),
+            DatatypeRead::Read(t) => {
+                let parts = Parts {
+                    rank: rank,
+                    maxima_stored: maxima_stored,
+                    datatype: t,
+                };
+                PartsRead::Read(parts)
+            }
         },
+    }
+}
+
+// Reads the layout message behind the other two, and compares the data's size: what all three say, or 3 or 11.
+fn messages(image: &[u8], space: Body, parts: Parts, layout: Body) -> MessagesRead
+    requires { ⌜ StorageInside (now image) space parts layout ⌝ }
+    ensures { λ r. ⌜ messagesRead (bodyOf (now (image .entry)) space) r
+        ≡ layoutWalk (partsOf (bodyOf (now (image .entry)) space) parts .space) (typeOf (parts .datatype)) (messageOf (now (image .entry)) 0x0008 layout) ⌝ }
+    ensures { λ r. ⌜ MessagesShaped (bodyOf (now (image .entry)) space) r ⌝ }
+{
+    match read_layout(image, layout) {
+        LayoutRead::Refused(n) => MessagesRead::Refused(Refusal::Fault(n, head_of(layout))),
+        LayoutRead::Read(l) => {
+            let t = parts.datatype;
+            let dataset = Dataset {
+                rank: parts.rank,
+                maxima_stored: parts.maxima_stored,
+                datatype: t,
+                layout: l,
+            };
+            if !filled(image, space, dataset) {
+                return MessagesRead::Refused(Refusal::Fault(11, head_of(layout)));
+            }
+            MessagesRead::Read(dataset)
+        }
     }
 }
 
@@ -179,6 +213,35 @@ fn enter_data(
     }
 }
 
+// The dataset walk behind the parts: reads the layout and enters the data's block. The count of blocks is the new one.
+pub fn read_storage(
+    image: &[u8],
+    end_of_file: u64,
+    blocks: &mut [u64],
+    count: usize,
+    room: usize,
+    space: Body,
+    parts: Parts,
+    layout: Body,
+) -> DatasetRead
+    requires { ⌜ Lent (now blocks) count room ⌝ }
+    requires { ⌜ StorageInside (now image) space parts layout ⌝ }
+    ensures { λ r. ⌜ Walked (now (blocks .entry)) (now (blocks .exit)) (datasetEnd (bodyOf (now (image .entry)) space) r)
+        (run (now (image .entry)) «end_of_file» room (storageOf (now (image .entry)) space parts layout) (blocksOf count (now (blocks .entry)))) ⌝ }
+    ensures { λ r. ⌜ DatasetShaped (bodyOf (now (image .entry)) space) r ⌝ }
+{
+    match messages(image, space, parts, layout) {
+        MessagesRead::Refused(n) => DatasetRead::Stopped(n),
+        MessagesRead::Read(dataset) => {
+            let data = dataset.layout;
+            match enter_data(end_of_file, blocks, count, room, data) {
+                Entry::Refused(n) => DatasetRead::Stopped(n),
+                Entry::Entered(entered) => DatasetRead::Read(dataset, entered),
+            }
+        }
+    }
+}
+
 // The dataset walk: reads the messages and enters the data's block. The count of blocks is the new one.
 pub fn read(
     image: &[u8],
@@ -195,14 +258,17 @@ pub fn read(
     ensures { λ r. ⌜ Walked (now (blocks .entry)) (now (blocks .exit)) (datasetEnd (bodyOf (now (image .entry)) space) r) (run (now (image .entry)) «end_of_file» room (datasetWalk (messageOf (now (image .entry)) 0x0001 space) (messageOf (now (image .entry)) 0x0003 datatype) (messageOf (now (image .entry)) 0x0008 layout)) (blocksOf count (now (blocks .entry)))) ⌝ }
     ensures { λ r. ⌜ DatasetShaped (bodyOf (now (image .entry)) space) r ⌝ }
 {
-    match messages(image, space, datatype, layout) {
-        MessagesRead::Refused(n) => DatasetRead::Stopped(n),
-        MessagesRead::Read(dataset) => {
-            let data = dataset.layout;
-            match enter_data(end_of_file, blocks, count, room, data) {
-                Entry::Refused(n) => DatasetRead::Stopped(n),
-                Entry::Entered(entered) => DatasetRead::Read(dataset, entered),
-            }
-        }
+    match read_parts(image, space, datatype) {
+        PartsRead::Refused(n) => DatasetRead::Stopped(n),
+        PartsRead::Read(parts) => read_storage(
+            image,
+            end_of_file,
+            blocks,
+            count,
+            room,
+            space,
+            parts,
+            layout,
+        ),
     }
 }

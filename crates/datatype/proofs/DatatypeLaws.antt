@@ -7,10 +7,10 @@ use native.Mathlib.Omega.{arith}
 use borrow.Author.Tests.{eq-eqb, ne-eqb, le-leb, lt-leb}
 use lib.Dec.{leb, eqb}
 use Rattle.format.specs.Bytes.{if_then_else_, u8}
-use Rattle.format.specs.Datatype.{classRead, hasBits, extent}
+use Rattle.format.specs.Datatype.{classRead, hasBits, extent, sharedRead}
 use Rattle.walk.specs.Numbers.{Number}
 use Rattle.walk.proofs.Tests.{range-below}
-use Rattle.datatype.specs.Datatype.{bitsSound, sharedRead}
+use Rattle.datatype.specs.Datatype.{bitsSound}
 
 -- A class by the tests that code makes.
 module _ (c : ℕ) where

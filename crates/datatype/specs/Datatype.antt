@@ -1,9 +1,9 @@
 -- What the datatype readers' answers mean.
 use Prim.Native.Nat.{ℕ, _+_, _*_}
-use mathlib.Core.Bool.{Bool, _&&_, _||_}
+use mathlib.Core.Bool.{Bool, _&&_}
 use mathlib.Core.List.{List}
-use lib.Dec.{leb, eqb}
-use Rattle.format.specs.Bytes.{u8, u16}
+use lib.Dec.{leb}
+use Rattle.format.specs.Bytes.{u16}
 use Rattle.format.specs.Datatype.{own, sharedAt}
 use Rattle.format.specs.Result.{Result, value, answer}
 use Rattle.datatype.specs.declared.Datatype.{Datatype}
@@ -24,7 +24,3 @@ typeResult (Refused n) = answer n
 -- "precision is 1 or more and offset plus precision is at most 8 times size"
 abbrev pub bitsSound : List ℕ → ℕ → Bool
 bitsSound b size = leb 1 (u16 b 10) && leb (u16 b 8 + u16 b 10) (8 * size)
-
--- "version 2, or version 3 with type 2"
-abbrev pub sharedRead : List ℕ → Bool
-sharedRead b = eqb (u8 b 0) 2 || (eqb (u8 b 0) 3 && eqb (u8 b 1) 2)

@@ -6,9 +6,9 @@ ghost use mathlib.Core.Path.{_≡_};
 ghost use Prim.Native.Nat.{_^_, _≤_, _<_};
 ghost use lib.ListN.{length};
 ghost use Rattle.format.specs.Bytes.{_implies_};
-ghost use Rattle.format.specs.Datatype.{classRead, hasBits, extent, readDatatype, readShared};
+ghost use Rattle.format.specs.Datatype.{classRead, hasBits, extent, readDatatype, sharedRead, readShared};
 ghost use Rattle.walk.specs.Numbers.{Number};
-ghost use Rattle.datatype.specs.Datatype.{typeResult, bitsSound, sharedRead};
+ghost use Rattle.datatype.specs.Datatype.{typeResult, bitsSound};
 
 pub enum Datatype {
     Own {
@@ -138,7 +138,7 @@ pub fn read(body: &[u8]) -> DatatypeRead
 }
 
 // Whether the shared message is one that is read: version 2, or version 3 with type 2.
-fn shared_read(body: &[u8]) -> bool
+pub fn shared_read(body: &[u8]) -> bool
     requires { ⌜ 2 ≤ length (now body) ⌝ }
     ensures { λ r. ⌜ r ≡ sharedRead (now (body .entry)) ⌝ }
 {

@@ -91,5 +91,5 @@ module _ (im : List ℕ) (lent : ℕ) (s : Superblock) (os : List Linked) (bs : 
   pub audit-small : IsBytes im → Small (corrections (countedIn im os))
   audit-small b = record {
     old = λ c m. rw (audit-fields .stored c m) (count-small im b (c .field) (omega (arith, audit-fields .image c m)));
-    new = λ c m. let r = mended c m in rw (r .2) (counts-small im lent s os bs p e b (r .0) (r .1));
+    new = λ c m. let r = mended c m in rw (r .2) (counts-small im lent s os bs p e (r .0) (r .1));
   }

@@ -69,7 +69,7 @@ module _ (im : List ℕ) (lent : ℕ) (s : Superblock) (os : List Linked) (bs : 
           let w : Wrong (countedIn im os) (countedOf im o) = record { member = counted-member im os o m; differ = eqb-false (u32 im (o .address + 4)) (o .links) k } in
           let i = correction-of (countedIn im os) (countedOf im o) w in
           count-read (written im cs) (o .address + 4) (o .links)
-          (new-held im (s .endOfFile) cs f im (state-first im (s .endOfFile) cs f b) cs (λ d j. j) (changeOf (countedOf im o)) i) (counts-small im lent s os bs p e b o m)
+          (new-held im (s .endOfFile) cs f im (state-first im (s .endOfFile) cs f b) cs (λ d j. j) (changeOf (countedOf im o)) i) (counts-small im lent s os bs p e o m)
 
   pub mended-none : corrections (countedIn (written im cs) os) ≡ []
   mended-none =

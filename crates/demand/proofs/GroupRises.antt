@@ -1,37 +1,25 @@
--- The walk of a group raises what its visit raises by one at an entry by no more than 65,536 a block: a symbol node's count has two bytes.
-use Prim.Native.Nat.{ℕ, zero, suc, _+_, _*_, _<_, _≤_}
+-- The walk of a group raises what its visit raises by one at an entry by no more than the lengths of the blocks: a symbol node has no more
+-- entries than bytes.
+use Prim.Native.Nat.{ℕ, zero, suc, _+_, _*_, _≤_}
 use mathlib.Core.Bool.{Bool, true, false}
 use mathlib.Core.List.{List, [], _∷_}
 use mathlib.Core.Path.{_≡_, ap}
 use native.Mathlib.Omega.{arith}
 use lib.Dec.{leb, eqb}
-use lib.ListN.{take, drop}
-use lib.Seq.{getD-drop}
-use Rattle.format.specs.Bytes.{if_then_else_, littleEndian, part, u8, u16, u32, u64}
+use lib.ListN.{drop}
+use Rattle.format.specs.Bytes.{if_then_else_, inRange, part, u8, u16, u32, u64}
 use Rattle.format.specs.Result.{Result, value}
-use Rattle.format.specs.Walk.{symbolBlock, shown, fault, located, Walk, ret, check, enterBlock, _>>=_, _>>_}
+use Rattle.format.specs.Walk.{symbolBlock, shown, fault, located, Walk, ret, check, _>>=_, _>>_}
 use Rattle.format.specs.Heap.{Heap}
 use Rattle.format.specs.Names.{Bound, readText, nameText, below, within, stringAt}
 use Rattle.format.specs.Entry.{Entry, Group, GroupState, readValue, readEntry}
 use Rattle.format.specs.Symbols.{entries, symbolWalk}
 use Rattle.format.specs.Tree.{children, branches, subtree, treeWalk, groupWalk}
 use Rattle.laws.proofs.Results.{both-values, check-value}
-use Rattle.links.proofs.Outcomes.{bind-done}
-use Rattle.demand.specs.Bytes.{IsBytes}
-use Rattle.demand.proofs.BytesBack.{part-bytes}
-use Rattle.demand.proofs.Rises.{block-entered, Rises, rises-ret, rises-located, rises-after, rises-then, rises-on}
+use Rattle.walk.proofs.Tests.{range-most}
+use Rattle.demand.proofs.Rises.{Rises, rises-ret, rises-located, rises-least, rises-checked, rises-block, rises-after, rises-then, rises-on}
 
-two-small : (l : List ℕ) → IsBytes l → littleEndian (take 2 l) < 65536
-unfolding littleEndian
-two-small [] b = omega arith
-two-small (x ∷ []) b = omega (arith, b 0)
-two-small (x ∷ y ∷ l) b = omega (arith, b 0, b 1)
-
--- a number of two bytes
-u16-small : (l : List ℕ) (a : ℕ) → IsBytes l → u16 l a < 65536
-u16-small l a b = two-small (drop a l) (λ k. rw getD-drop (b (a + k)))
-
-module _ (im : List ℕ) (bytes : IsBytes im) (eof room : ℕ) {S : Type 0} (μ : S → ℕ) where
+module _ (im : List ℕ) (eof room : ℕ) {S : Type 0} (μ : S → ℕ) where
   abbrev found : GroupState S → ℕ
   found s = μ (s .found)
 
@@ -62,19 +50,16 @@ module _ (im : List ℕ) (bytes : IsBytes im) (eof room : ℕ) {S : Type 0} (μ 
 
     -- a symbol node is one block
     symbol-rises : (at : ℕ) (bounds : List Bound) (s : GroupState S) → Rises im eof room found (symbolWalk g at bounds s) (μ (s .found))
-    unfolding symbolWalk shown
-    symbol-rises at bounds s bs a ms e =
+    unfolding symbolWalk
+    symbol-rises at bounds s =
         let size = 8 + 80 * g .leafK in
-        let d = bind-done im eof room (enterBlock symbolBlock at size) _ bs a ms e in
-        let n = block-entered im eof room symbolBlock at size bs (d .0) (d .1) (d .2) in
-        let own : d .0 ≡ part im at size = n .1 in
-        let count : u16 (d .0) 6 < 65536 = rw own (u16-small (part im at size) 6 (part-bytes im at size bytes)) in
-        let rest =
-        rises-after im eof room found _ _ (μ (s .found) + u16 (d .0) 6)
-        (λ _.
-        rises-after im eof room found _ _ (μ (s .found) + u16 (d .0) 6)
-        (λ _. rises-after im eof room found _ _ (μ (s .found) + u16 (d .0) 6) (λ _. entries-rise bounds (u16 (d .0) 6) (at + 8) (drop 8 (d .0)) s))) (d .1) a ms (d .3) in
-        omega (arith, rest, n .0)
+        let b = shown symbolBlock (part im at size) in
+        let m = u16 b 6 in
+        rises-block im eof room found symbolBlock at size _ (μ (s .found))
+        (rises-after im eof room found _ _ _ λ _.
+        rises-after im eof room found _ _ _ λ _.
+        rises-checked im eof room found (inRange 1 (2 * g .leafK) m) _ _ _ λ held.
+        rises-least im eof room found _ _ _ (omega (arith, range-most 1 (2 * g .leafK) m held)) (entries-rise bounds m (at + 8) (drop 8 b) s))
 
     children-rise : (h : Heap) (walk : ℕ → List Bound → GroupState S → Walk (GroupState S)) →
         ((at : ℕ) (bounds : List Bound) (s : GroupState S) → Rises im eof room found (walk at bounds s) (μ (s .found))) →

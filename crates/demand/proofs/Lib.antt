@@ -3,6 +3,8 @@ pub mod Opened
 pub mod HeadersApart
 pub mod Corrections
 pub mod Rises
+pub mod SharingRises
+pub mod HeaderRises
 pub mod GroupRises
 pub mod AuditCounts
 pub mod AuditFields

@@ -53,6 +53,10 @@ module _ (im : List ℕ) (s : Superblock) (p : openImage im ≡ opened s) where
   unfolding superblockFields
   opened-end = omega (arith, leb-true (u64 im (40 + versionShift im)) (length im) end-most, ap (λ (t : Superblock). t .endOfFile) (tested im s p .fields))
 
+  pub opened-size : 1 ≤ s .size
+  unfolding superblockFields
+  opened-size = omega (arith, ap (λ (t : Superblock). t .size) (tested im s p .fields))
+
   pub opened-long : 96 ≤ length im
   unfolding superblockSound
   opened-long =

@@ -10,7 +10,7 @@ use Rattle.format.specs.Bytes.{part, u32}
 use Rattle.format.specs.Blocks.{Block}
 use Rattle.format.specs.Walk.{Kind, superblockBlock, headerBlock, Length, fixed, stored, lengthIn, shown, Walk, enter, ret, _>>=_, _>>_, done, run}
 use Rattle.format.specs.Superblock.{Superblock, superblockWalk}
-use Rattle.format.specs.Header.{headerContents, headerMessages, headerWalk, objectOf}
+use Rattle.format.specs.Header.{headerMessages, headerWith, headerWalk}
 use Rattle.format.specs.Ledger.{Linked, inLedger}
 use Rattle.format.specs.Audit.{auditWalk}
 use Rattle.laws.proofs.Agreement.{Shown, contents, size, shownBy}
@@ -37,9 +37,10 @@ module _ (im : List ℕ) (eof : ℕ) where
       let inside = le-leb (a + lengthIn im v a l) eof (enter-inside im eof room v a l k bs x ms e) in
       rw inside (List·Memᴰ·head refl)
 
-  header-shown : (at room : ℕ) (bs : List Block) (o : _) (ms : List Block) → run im eof room (headerWalk at) bs ≡ done o ms → List·Memᴰ (contents headerBlock at (headerSize im at)) (whole im eof (headerWalk at))
-  unfolding headerWalk headerMessages _>>=_
-  header-shown at room bs o ms e = first-shown headerBlock at (stored 16 (λ p. u32 p 8)) (λ b. headerContents at b >>= objectOf at) room bs o ms e
+  header-shown : (at room : ℕ) (bs : List Block) (o : _) (ms : List Block) → run im eof room (headerWalk at) bs ≡ done o ms →
+      List·Memᴰ (contents headerBlock at (headerSize im at)) (whole im eof (headerWalk at))
+  unfolding headerWalk headerWith headerMessages _>>=_
+  header-shown at room bs o ms e = first-shown headerBlock at (stored 16 (λ p. u32 p 8)) _ room bs o ms e
 
   superblock-shown : (s : Superblock) (room : ℕ) (bs ms : List Block) → run im eof room (superblockWalk s) bs ≡ done tt ms → List·Memᴰ (contents superblockBlock 0 (s .size)) (whole im eof (superblockWalk s))
   unfolding superblockWalk _>>=_
@@ -47,13 +48,13 @@ module _ (im : List ℕ) (eof : ℕ) where
 
 -- the header of an object that was read, and the superblock, are among what was shown
 module _ (im : List ℕ) (s : Superblock) (ss : List Shown) (at : ℕ) (r : ReadWhole im s ss at) where
-  steps : Steps im s (r .room) at (r .entries) (r .left)
-  steps = read-steps im s (r .room) at (r .entries) (r .left) (r .ran)
+  steps : Steps im s (r .room) at (r .left)
+  steps = read-steps im s (r .room) at (r .references) (r .left) (r .ran)
 
   both : whole im (s .endOfFile) (superblockWalk s >> headerWalk at) ≡ whole im (s .endOfFile) (superblockWalk s) ++ whole im (s .endOfFile) (headerWalk at)
   both = whole-then im (s .endOfFile) (superblockWalk s) (λ _. headerWalk at) (r .room) [] tt (steps .first) (steps .superblock)
 
-  header-member : List·Memᴰ (contents headerBlock at (headerSize im at)) ss
+  pub header-member : List·Memᴰ (contents headerBlock at (headerSize im at)) ss
   header-member =
       header-among im s ss at r _
       (rw both (Memᴰ·append-right (whole im (s .endOfFile) (superblockWalk s)) (header-shown im (s .endOfFile) at (r .room) (steps .first) (steps .object) (steps .second) (steps .header))))

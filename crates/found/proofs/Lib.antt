@@ -12,7 +12,6 @@ pub mod DescribeFound
 pub mod Whole
 pub mod WholeApart
 pub mod WholeShown
-pub mod ObjectFollows
 pub mod ReadWhole
 pub mod AuditReads
 pub mod ObjectAgain

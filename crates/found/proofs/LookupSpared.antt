@@ -1,11 +1,10 @@
 -- "after a mend every lookup and description answers as before": a mend writes only count fields of headers of the ledger, and no lookup, description or
 -- audit of an accepted image depends on these.
-use Prim.Native.Nat.{ℕ, _≤_}
+use Prim.Native.Nat.{ℕ}
 use mathlib.Core.Bool.{true}
 use mathlib.Core.List.{List, [], _∷_}
 use mathlib.Core.Path.{_≡_, refl, ap, sym, _∙_}
 use native.Mathlib.Omega.{arith}
-use Rattle.format.specs.Limits.{blocksMost}
 use Rattle.format.specs.Bytes.{isEmpty}
 use Rattle.format.specs.Blocks.{Block, roomOf}
 use Rattle.format.specs.Walk.{Walk, _>>_, Outcome, done, refused, run, andThen}
@@ -20,7 +19,6 @@ use Rattle.laws.proofs.Agreement.{Shown}
 use Rattle.laws.proofs.CountFields.{OnlyCounts}
 use Rattle.links.specs.Reached.{atRoot}
 use Rattle.links.specs.Sound.{Sound}
-use Rattle.walk.proofs.BlockList.{room-most}
 use Rattle.links.proofs.AuditSound.{audit-sound}
 use Rattle.found.proofs.Whole.{whole}
 use Rattle.found.proofs.ReadWhole.{Sub, ReadWhole}
@@ -63,7 +61,7 @@ module _ (im : List ℕ) (lent : ℕ) (s : Superblock) (os : List Linked) (bs : 
   audit-spared words = rw (p, opened′) (same (auditWalk s) (λ x m. m) (roomOf words))
 
   module _ {A : Type 0} (last : ℕ → Walk A) (x : Outcome A) (lasts : (at : ℕ) → ReadWhole im s total at → Sub (whole im (s .endOfFile) (superblockWalk s >> last at)) total)
-      (room : ℕ) (most : room ≤ blocksMost) where
+      (room : ℕ) where
     follow-spared : (ps : List (List ℕ)) (at : ℕ) → inLedger at os ≡ true → follow im s room last x ps at ≡ follow im′ s room last x ps at
     unfolding follow
     follow-spared [] at i = same (superblockWalk s >> last at) (lasts at (read at i)) room
@@ -76,7 +74,7 @@ module _ (im : List ℕ) (lent : ℕ) (s : Superblock) (os : List Linked) (bs : 
             andThen (run im (s .endOfFile) room (componentWalk s q (isEmpty ps) at) []) (λ t cs. fromTarget t (λ a. follow im′ s room last x ps a) x)
         go (done (object a) cs) r later =
             let h = component-found im s room q (isEmpty ps) at a cs .0 r in
-            let closed : inLedger (h .0 .header) os ≡ true = link-closed im s room most os sound at q (h .0) cs i (h .1) (h .2) in
+            let closed : inLedger (h .0 .header) os ≡ true = link-closed im s room os sound at q (h .0) cs i (h .1) (h .2) in
             let there : h .0 .header ≡ a = h .3 in
             rw r (later a (rw there at closed))
         go (done symbolic cs) r later = rw r
@@ -87,7 +85,7 @@ module _ (im : List ℕ) (lent : ℕ) (s : Superblock) (os : List Linked) (bs : 
   path-spared last x lasts path words = go (parsePath path)
     where
       go : (q : Parsed) → followPath im q words last x ≡ followPath im′ q words last x
-      go (components ps) = rw (p, opened′) (follow-spared last x lasts (roomOf words) (room-most words) ps (s .root) (sound .found (s .root) atRoot))
+      go (components ps) = rw (p, opened′) (follow-spared last x lasts (roomOf words) ps (s .root) (sound .found (s .root) atRoot))
       go badPath = refl
 
   pub lookup-run-spared : (path : List ℕ) (words : ℕ) → lookupRun im path words ≡ lookupRun im′ path words

@@ -15,7 +15,7 @@ use Rattle.format.specs.Describe.{datasetOf, describeWalk}
 use Rattle.laws.proofs.Bind.{run-bind, bind-assoc}
 use Rattle.laws.proofs.Agreement.{Shown}
 use Rattle.group.specs.Entries.{remembered}
-use Rattle.links.specs.Reached.{contentEntries}
+use Rattle.links.specs.Reached.{hardLinksOf, contentReferences}
 use Rattle.links.proofs.Outcomes.{bind-done}
 use Rattle.found.specs.Leads.{indexOf, indexWalk}
 use Rattle.found.proofs.Index.{component-run}
@@ -27,8 +27,8 @@ module _ (N : ℕ → Type 0) (full : N 13) (im : List ℕ) (s : Superblock) (ss
   abbrev eof : ℕ
   eof = s .endOfFile
 
-  steps : Steps im s (r .room) at (r .entries) (r .left)
-  steps = read-steps im s (r .room) at (r .entries) (r .left) (r .ran)
+  steps : Steps im s (r .room) at (r .left)
+  steps = read-steps im s (r .room) at (r .references) (r .left) (r .ran)
 
   header-done : run im eof (r .room) (superblockWalk s >> headerWalk at) [] ≡ done (steps .object) (steps .second)
   header-done = run-bind im eof (r .room) (superblockWalk s) (λ _. headerWalk at) [] ∙ rw (steps .superblock) (steps .header)
@@ -60,9 +60,11 @@ module _ (N : ℕ → Type 0) (full : N 13) (im : List ℕ) (s : Superblock) (ss
 
   -- the index: of an object that isn't a group 17
   module _ (other : N 17) where
-    index-ends : (o : Object) → run im eof (r .room) (contentEntries s o) (steps .second) ≡ done (r .entries) (r .left) → Ends (indexOf s o)
-    unfolding contentEntries indexOf
-    index-ends (group tree heap) e = inl (r .entries, r .left, e)
+    index-ends : (o : Object) → run im eof (r .room) (contentReferences s o) (steps .second) ≡ done (steps .behind) (r .left) → Ends (indexOf s o)
+    unfolding contentReferences indexOf
+    index-ends (group tree heap) e =
+        let b = bind-done im eof (r .room) (indexOf s (group tree heap)) (λ es. ret (hardLinksOf es)) (steps .second) (steps .behind) (r .left) e in
+        inl (b .0, b .1, b .2)
     index-ends (dataset space type layout) e = inr (fault 17 0, other, refl)
     index-ends committed e = inr (fault 17 0, other, refl)
 
@@ -86,11 +88,11 @@ module _ (N : ℕ → Type 0) (full : N 13) (im : List ℕ) (s : Superblock) (ss
 
   -- a description: of an object that isn't a dataset 20
   module _ (other : N 20) where
-    dataset-ends : (o : Object) → run im eof (r .room) (contentEntries s o) (steps .second) ≡ done (r .entries) (r .left) → Ends (datasetOf o)
-    unfolding contentEntries datasetOf
+    dataset-ends : (o : Object) → run im eof (r .room) (contentReferences s o) (steps .second) ≡ done (steps .behind) (r .left) → Ends (datasetOf o)
+    unfolding contentReferences datasetOf
     dataset-ends (group tree heap) e = inr (fault 20 0, other, refl)
     dataset-ends (dataset space type layout) e =
-        let d = bind-done im eof (r .room) (datasetWalk space type layout) (λ _. ret []) (steps .second) (r .entries) (r .left) e in
+        let d = bind-done im eof (r .room) (datasetWalk space type layout) _ (steps .second) (steps .behind) (r .left) e in
         inl (d .0, d .1, d .2)
     dataset-ends committed e = inr (fault 20 0, other, refl)
 

@@ -1,4 +1,4 @@
--- An object read whole behind the superblock, for its entries.
+-- An object read whole behind the superblock, for its references.
 use Prim.Native.Nat.{ℕ}
 use mathlib.Core.List.{List, [], _++_, List·Memᴰ, List·Memᴰ·append-cases}
 use mathlib.Core.Logic.{⊎-elim}
@@ -6,9 +6,8 @@ use mathlib.Core.Path.{_≡_}
 use Rattle.format.specs.Blocks.{Block}
 use Rattle.format.specs.Walk.{_>>_, done, run}
 use Rattle.format.specs.Superblock.{Superblock, superblockWalk}
-use Rattle.format.specs.Entry.{Entry}
 use Rattle.laws.proofs.Agreement.{Shown}
-use Rattle.links.specs.Reached.{entriesAt}
+use Rattle.links.specs.Reached.{Reference, referencesAt}
 use Rattle.found.proofs.Whole.{whole}
 
 -- everything of the first is in the second
@@ -21,7 +20,7 @@ sub-append ss us ts f g x m = ⊎-elim (f x) (g x) (List·Memᴰ·append-cases s
 -- the object at this address, read whole behind the superblock, with what it is then shown among ss
 pub record ReadWhole (im : List ℕ) (s : Superblock) (ss : List Shown) (at : ℕ) : Type 0 where
   pub room : ℕ
-  pub entries : List Entry
+  pub references : List Reference
   pub left : List Block
-  pub ran : run im (s .endOfFile) room (superblockWalk s >> entriesAt s at) [] ≡ done entries left
-  pub among : Sub (whole im (s .endOfFile) (superblockWalk s >> entriesAt s at)) ss
+  pub ran : run im (s .endOfFile) room (superblockWalk s >> referencesAt s at) [] ≡ done references left
+  pub among : Sub (whole im (s .endOfFile) (superblockWalk s >> referencesAt s at)) ss

@@ -12,9 +12,8 @@ use Rattle.format.specs.Ledger.{Linked, inLedger}
 use Rattle.format.specs.Audit.{auditWalk, auditRun}
 use Rattle.format.specs.Lookup.{componentWalk}
 use Rattle.format.specs.Describe.{describeWalk}
-use Rattle.format.specs.Entry.{Entry}
 use Rattle.laws.proofs.Agreement.{shownBy}
-use Rattle.links.specs.Reached.{entriesAt}
+use Rattle.links.specs.Reached.{Reference, referencesAt}
 use Rattle.links.proofs.AuditSound.{audit-opened}
 use Rattle.found.specs.Covered.{AllCovered, auditShown}
 use Rattle.found.proofs.Whole.{whole}
@@ -60,15 +59,15 @@ module _ (im : List ℕ) (lent : ℕ) (s : Superblock) (os : List Linked) (bs : 
     description-replayed room = covered (superblockWalk s >> describeWalk at) (describe-among im s (whole im (s .endOfFile) (auditWalk s)) at read) room
 
     -- what reading this object by itself shows, which is the superblock and the blocks that the audit enters for it
-    abbrev own : Walk (List Entry)
-    own = superblockWalk s >> entriesAt s at
+    abbrev own : Walk (List Reference)
+    own = superblockWalk s >> referencesAt s at
 
     alone : ReadWhole im s (whole im (s .endOfFile) own) at
-    alone = record { room = read .room; entries = read .entries; left = read .left; ran = read .ran; among = λ x m. m }
+    alone = record { room = read .room; references = read .references; left = read .left; ran = read .ran; among = λ x m. m }
 
     own-covered : {A : Type 0} (w : Walk A) → Sub (whole im (s .endOfFile) w) (whole im (s .endOfFile) own) → (room : ℕ) → AllCovered im (shownBy im (s .endOfFile) room w []) (whole im (s .endOfFile) own)
     own-covered w i room x m =
-        begun-covered im (s .endOfFile) own (read .room) [] (read .entries) (read .left) (read .ran) x
+        begun-covered im (s .endOfFile) own (read .room) [] (read .references) (read .left) (read .ran) x
         (begun-more im (whole im (s .endOfFile) w) (whole im (s .endOfFile) own) i x (shown-begun im (s .endOfFile) w room [] x m))
 
     -- the blocks that the audit enters for an object are all that a header, a lookup in it and its description are shown

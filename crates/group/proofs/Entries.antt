@@ -17,7 +17,7 @@ use Rattle.laws.proofs.Results.{bind-value, bind-assoc, value-bind}
 use Rattle.order.proofs.OrderLaws.{below-irreflexive, below-transitive, same-refl, same-equal}
 use Rattle.visit.specs.Visit.{visitBoth}
 use Rattle.group.specs.Entries.{keepEntry, entriesWalk, countEntries, linkTo, remembered, AllAbove, AllBelow, Rising, NoneNamed}
-use Rattle.laws.proofs.Follows.{follows-ret, follows-value, follows-map, Ran, follows-run}
+use Rattle.laws.proofs.Follows.{Follows, follows-ret, follows-value, follows-map, Ran, follows-run}
 use Rattle.group.proofs.Visits.{group-follows}
 
 -- an entry at the end is counted last, and remembered last
@@ -47,16 +47,19 @@ unfolding AllBelow
 below-last [] e n h b = (b, tt)
 below-last (x ∷ es) e n h b = (below-transitive (x .name) (e .name) n (h .0) b, below-last es e n (h .1) b)
 
-module _ (im : List ℕ) (eof room leafK internalK tree heap : ℕ) (bs : List Block) where
-  -- the audit: its group's entries are these, and the ledger after it is the one before with exactly their hard links counted
-  pub audit-entries : (os : List Linked) →
-      Ran false (λ os′ es. (last : List ℕ) × (countEntries es os ≡ value os′)) (run im eof room (groupWalk leafK internalK tree heap discover os) bs) (run im eof room (entriesWalk leafK internalK tree heap) bs)
-  unfolding entriesWalk keepEntry countEntries
-  audit-entries os =
-      follows-run _ false im eof room _ _ bs
-      (group-follows false leafK internalK discover keepEntry (λ last x es. countEntries es os ≡ value x)
-      (λ e last x es at b r. follows-value _ at (discover e x) (es ++ (e ∷ [])) λ y d. count-last es e os ∙ ap (λ (w : Result (List Linked)). w >>= discover e) r ∙ value-bind x (discover e) ∙ d) tree heap os [] refl)
+-- the audit: its group's entries are these, and the ledger after it is the one before with exactly their hard links counted
+pub audit-entries : (leafK internalK tree heap : ℕ) (os : List Linked) →
+    Follows false (λ os′ es. (last : List ℕ) × (countEntries es os ≡ value os′)) (groupWalk leafK internalK tree heap discover os)
+    (entriesWalk leafK internalK tree heap)
+unfolding entriesWalk keepEntry countEntries
+audit-entries leafK internalK tree heap os =
+    group-follows false leafK internalK discover keepEntry (λ last x es. countEntries es os ≡ value x)
+    (λ e last x es at b r.
+    follows-value _ at (discover e x) (es ++ (e ∷ []))
+    λ y d. count-last es e os ∙ ap (λ (w : Result (List Linked)). w >>= discover e) r ∙ value-bind x (discover e) ∙ d)
+    tree heap os [] refl
 
+module _ (im : List ℕ) (eof room leafK internalK tree heap : ℕ) (bs : List Block) where
   -- a lookup, from the group's entries: it is sound with the same blocks, and remembers what they say of the name
   pub entries-lookup : (name : List ℕ) →
       Ran false (λ es l. (last : List ℕ) × (l ≡ remembered name es absent)) (run im eof room (entriesWalk leafK internalK tree heap) bs) (run im eof room (groupWalk leafK internalK tree heap (compareName name) absent) bs)

@@ -67,6 +67,7 @@ module _ (im : List ℕ) (eof room : ℕ) (ws : List ℕ) (count : ℕ) (l : Len
   tree-ended same w ws₂ addresses₂ counts₂ (Stopped n) same₂ t = tree-stopped im eof room ws count l leafK internalK tree heap (visitBoth auditing wanted) _ ws₁ (heapOf im h) m same w ws₂ n t
 
 -- a sound state has what the next group is read with
-pub sound-ready : (seg ws addresses counts : List ℕ) (g : entries.Group) (r : Step) → SoundIf seg ws addresses counts g r → ReadyIf ws addresses counts (g .room) r
-sound-ready seg ws addresses counts g (Done s) h = record { lent = h .lent; table = h .table; links = h .links }
+pub sound-ready : (seg ws addresses counts : List ℕ) (g : entries.Group) (r : Step) → SoundIf seg ws addresses counts g r →
+    ReadyIf ws addresses counts (g .«end_of_file») (g .room) r
+sound-ready seg ws addresses counts g (Done s) h = record { lent = h .lent; table = h .table; apart = h .apart; inside = h .inside; links = h .links }
 sound-ready seg ws addresses counts g (Stopped n) h = tt

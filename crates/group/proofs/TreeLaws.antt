@@ -21,10 +21,15 @@ use Rattle.walk.proofs.Parts.{part-byte, part-number, part-first-number, drop-p
 use mathlib.Core.Bool.{true, false}
 use Rattle.walk.proofs.Tests.{field-equal, field-unequal, field-least}
 use Rattle.laws.proofs.Simulation.{passed, failed, chosen-then, Simulation, start, same-walk, returned, callee-done, callee-stopped}
+use Rattle.laws.proofs.Growth.{Grown}
+use Rattle.laws.proofs.SumOfLengths.{grown-apart, grown-inside, grown-lengths}
 use Rattle.range.specs.Range.{Tight}
 use Rattle.range.specs.declared.Range.{Range}
 use Rattle.visit.specs.Visit.{Both}
+use Rattle.symbol.specs.declared.entry.Group.{Group}
+use Rattle.symbol.specs.declared.entry.State.{State}
 use Rattle.node.specs.Node.{branchWalk}
+use Rattle.symbol_node.specs.Tree.{Sound}
 
 -- a node below: its own walk, then its children
 subtree-split : (g : Rattle.format.specs.Entry.Group Both) (level at : ℕ) (bounds : List Bound) (s : GroupState Both) →
@@ -168,3 +173,16 @@ module _ (im : List ℕ) (g : Rattle.format.specs.Entry.Group Both) (at : ℕ) 
 pub no-bounds : (seg : List ℕ) (r : Range) → r .bounded ≡ false → Tight seg r []
 unfolding within
 no-bounds seg r e t = rw e
+
+-- a sound state stays so with more blocks
+pub sound-more : (seg ws addresses counts : List ℕ) (g : Group) (s : State) (ws₁ : List ℕ) (n : ℕ) → Sound seg ws addresses counts g s → Lent ws₁ n (g .room) →
+    Grown (g .«end_of_file») (g .room) (blocksOf (s .count) ws) (blocksOf n ws₁) →
+    Sound seg ws₁ addresses counts g (record { count = n; objects = s .objects; last = s .last; link = s .link })
+sound-more seg ws addresses counts g s ws₁ n h l m = record {
+  lent = l;
+  last = h .last;
+  table = h .table;
+  apart = grown-apart m (h .apart);
+  inside = grown-inside m (h .inside);
+  links = omega (arith, h .links, grown-lengths m);
+}

@@ -27,7 +27,7 @@ pub fn read(
     objects: usize,
 ) -> Step
     requires { ⌜ Settings (now image) «end_of_file» room «leaf_k» «internal_k» ⌝ }
-    requires { ⌜ Ready (now list) (now addresses) (now counts) room count objects ⌝ }
+    requires { ⌜ Ready (now list) (now addresses) (now counts) «end_of_file» room count objects ⌝ }
     ensures { λ r. ⌜ GroupIs (now (image .entry)) (now (wanted .entry)) (now (list .entry)) (now (addresses .entry)) (now (counts .entry)) «end_of_file» room «leaf_k» «internal_k» auditing tree heap count objects (now (list .exit)) (now (addresses .exit)) (now (counts .exit)) r ⌝ }
 {
     match segment::read(image, end_of_file, list, count, room, heap) {

@@ -1,12 +1,15 @@
 pub mod Checks
+pub mod ImageLength
 pub mod Results
 pub mod Bind
 pub mod Plan
 pub mod Disjoint
 pub mod Growth
+pub mod SumOfLengths
 pub mod Restart
 pub mod Agreement
 pub mod Blank
 pub mod CountFields
 pub mod Simulation
 pub mod Follows
+pub mod HeaderVisits

@@ -9,14 +9,14 @@ use lib.ListN.{length, getD, set, length-append, length-set}
 use lib.Seq.{getD-set-other}
 use borrow.Author.Tests.{lt-leb}
 use Rattle.format.specs.Bytes.{if_then_else_, part}
-use Rattle.format.specs.Blocks.{Block, block, entryAnswer}
+use Rattle.format.specs.Blocks.{Block, block, overlapsAny, entryAnswer}
 use Rattle.format.specs.declared.Refusal.{Refusal}
 use Rattle.format.specs.Walk.{Kind, kindNumber, notEntered, shown, Length, stored, lengthIn, knownLength, Walk, ret, refuse, enter, enterBlock, check, _>>=_, _>>_, Outcome, done, refused, ifEntered, run, andThen}
 use Rattle.walk.specs.Lent.{blocksOf, Lent, Ended, ended, stopped, left, Walked, entering, entered, entryEnd}
 use Rattle.walk.specs.declared.blocks.Entry.{Entry}
 use Rattle.walk.specs.declared.blocks.Entry.the-variants.{Entered, Refused}
 use Rattle.laws.proofs.Bind.{run-bind}
-use Rattle.laws.proofs.Growth.{run-grown}
+use Rattle.laws.proofs.Growth.{Grown, unchanged, grown-on, run-grown}
 use Rattle.walk.proofs.BlockList.{length-blocksOf, blocks-snoc, entered-zero, refused-suc, entryAnswer-zero, entryAnswer-outside}
 
 -- The walk w₀, begun with n₀ blocks in the list ws₀, has come to w, with n blocks in ws.
@@ -24,11 +24,19 @@ pub record Simulation (im : List ℕ) (eof room : ℕ) {A : Type 0} (w₀ : Walk
   pub lent : Lent ws n room
   pub sameLength : length ws ≡ length ws₀
   pub grown : n₀ ≤ n
+  pub blocks : Grown eof room (blocksOf n₀ ws₀) (blocksOf n ws)
   pub sameRun : run im eof room w₀ (blocksOf n₀ ws₀) ≡ run im eof room w (blocksOf n ws)
   pub rest : (k : ℕ) → n + n ≤ k → getD ws k 0 ≡ getD ws₀ k 0
 
 pub start : (im : List ℕ) (eof room : ℕ) {A : Type 0} (w : Walk A) (n : ℕ) (ws : List ℕ) → Lent ws n room → Simulation im eof room w n ws w n ws
-start im eof room w n ws l = record { lent = l; sameLength = refl; grown = omega arith; sameRun = refl; rest = λ k h. refl }
+start im eof room w n ws l = record {
+  lent = l;
+  sameLength = refl;
+  grown = omega arith;
+  blocks = unchanged eof room (blocksOf n ws) (rw length-blocksOf (l .counted));
+  sameRun = refl;
+  rest = λ k h. refl;
+}
 
 -- a function that returned a value and a count: the outcome is that value with the blocks that the list holds
 pub walked-done : {A : Type 0} (ws ws′ : List ℕ) (a : A) (c : ℕ) (o : Outcome A) → Walked ws ws′ (ended a c) o → o ≡ done a (blocksOf c ws′)
@@ -55,9 +63,38 @@ come-from s u = record {
   lent = u .lent;
   sameLength = u .sameLength ∙ s .sameLength;
   grown = omega (arith, s .grown, u .grown);
+  blocks = grown-on (s .blocks) (u .blocks);
   sameRun = s .sameRun ∙ u .sameRun;
   rest = λ k h. u .rest k h ∙ s .rest k (omega (arith, u .grown));
 }
+
+-- the function `enter`, where it entered a block of m bytes
+module _ (eof room : ℕ) (v : Kind) (a m n : ℕ) (ws ws₁ : List ℕ) (l : Lent ws n room)
+    (q : ws₁ ≡ entered (entryAnswer eof room (blocksOf n ws) a m) ws n a m) (c : ℕ)
+    (p : Entered c ≡ entering (entryAnswer eof room (blocksOf n ws) a m) (kindNumber v) a m (blocksOf n ws) n) where
+  zero-answer : (entryAnswer eof room (blocksOf n ws) a m ≡ 0) × (c ≡ n + 1)
+  zero-answer = entered-zero (kindNumber v) a m (blocksOf n ws) (entryAnswer eof room (blocksOf n ws) a m) n c p
+
+  allowed : (a + m ≤ eof) × (overlapsAny (blocksOf n ws) a m ≡ false) × (length (blocksOf n ws) < room)
+  allowed = entryAnswer-zero eof room (blocksOf n ws) a m (zero-answer .0)
+
+  -- the block stands behind the others
+  pub entered-blocks : blocksOf c ws₁ ≡ blocksOf n ws ++ (block a m ∷ [])
+  entered-blocks =
+      let y : n < room = rw length-blocksOf at (allowed .2) in
+      let w : ws₁ ≡ set (set ws (n + n) a) (n + n + 1) m = rw (zero-answer .0) at q in
+      rw (w, zero-answer .1, add-one, add-one) (blocks-snoc a m n (n + n) ws refl (omega (arith, l .lent)))
+
+  pub entered-grown : Grown eof room (blocksOf n ws) (blocksOf c ws₁)
+  entered-grown =
+      let y : n < room = rw length-blocksOf at (allowed .2) in
+      record {
+        new = block a m ∷ [];
+        all = entered-blocks;
+        fresh = (allowed .1, tt);
+        inside = (allowed .0, tt);
+        fits = rw length-blocksOf (omega (arith, zero-answer .1));
+      }
 
 module _ {im : List ℕ} {eof room : ℕ} {A : Type 0} {w₀ : Walk A} {n₀ : ℕ} {ws₀ : List ℕ} {n : ℕ} {ws : List ℕ} where
   -- what is left may be put another way
@@ -66,6 +103,7 @@ module _ {im : List ℕ} {eof room : ℕ} {A : Type 0} {w₀ : Walk A} {n₀ : �
     lent = s .lent;
     sameLength = s .sameLength;
     grown = s .grown;
+    blocks = s .blocks;
     sameRun = s .sameRun ∙ ap (λ (x : Walk A). run im eof room x (blocksOf n ws)) e;
     rest = s .rest;
   }
@@ -128,11 +166,12 @@ module _ {im : List ℕ} {eof room : ℕ} {A : Type 0} {w₀ : Walk A} {n₀ : �
         let z = entered-zero (kindNumber v) a m (blocksOf n ws) answer n c p in
         let y : n < room = rw length-blocksOf at (entryAnswer-zero eof room (blocksOf n ws) a m (z .0) .2) in
         let w : ws₁ ≡ set (set ws (n + n) a) (n + n + 1) m = rw (z .0) at q in
-        let b : blocksOf c ws₁ ≡ blocksOf n ws ++ (block a m ∷ []) = rw (w, z .1, add-one, add-one) (blocks-snoc a m n (n + n) ws refl (omega (arith, s .lent .lent))) in
+        let b = entered-blocks eof room v a m n ws ws₁ (s .lent) q c p in
         record {
           lent = record { counted = omega (arith, z .1); lent = rw w (simp length-set (s .lent .lent)) };
           sameLength = rw w (simp length-set (s .sameLength));
           grown = omega (arith, s .grown, z .1);
+          blocks = grown-on (s .blocks) (entered-grown eof room v a m n ws ws₁ (s .lent) q c p);
           sameRun = s .sameRun ∙ rw (← sized, z .0, b);
           rest = λ i h.
               rw w
@@ -176,6 +215,7 @@ module _ {im : List ℕ} {eof room : ℕ} {A : Type 0} {w₀ : Walk A} {n₀ : �
             lent = record { counted = omega (arith, d .fits, m); lent = omega (arith, s .lent .lent, e) };
             sameLength = e ∙ s .sameLength;
             grown = omega (arith, m, m2, s .grown);
+            blocks = grown-on (s .blocks) (rw o at d);
             sameRun = s .sameRun ∙ run-bind im eof room w f (blocksOf n ws) ∙ rw o;
             rest = λ i k. h .rest i (omega (arith, m)) ∙ s .rest i (omega (arith, m, m2));
           }

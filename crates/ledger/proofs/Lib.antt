@@ -1,3 +1,4 @@
 pub mod LedgerLaws
 pub mod TableLaws
+pub mod PlaceLaws
 pub mod ReportLaws

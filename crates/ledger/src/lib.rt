@@ -1,3 +1,3 @@
-// The table of objects: each address met, in order of discovery, with the number of hard links that give it.
+// The table of objects: each address met, in order of discovery, with the number of hard links and sharings that give it.
 pub mod report;
 pub mod table;

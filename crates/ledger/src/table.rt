@@ -1,11 +1,12 @@
-// The table as two lists of words that the caller lends: the address of each object, and the number of links to it.
+// The table as two lists of words that the caller lends: the address of each object, and the number of links to it and
+// of sharings of it.
 ghost use Prim.Native.Nat.{_+_, _^_, _≤_, _<_};
 ghost use lib.ListN.{length};
 ghost use Rattle.ledger.specs.Links.{linkSum};
 ghost use Rattle.ledger.specs.Table.{linkedOf, Table, Found, Discovered, Started};
 
 // The first of the places in use that holds the address, or `objects` if none does.
-fn find(addresses: &[u64], objects: usize, address: u64) -> usize
+pub fn find(addresses: &[u64], objects: usize, address: u64) -> usize
     requires { ⌜ objects ≤ length (now addresses) ⌝ }
     ensures { λ r. ⌜ Found (now (addresses .entry)) objects address r ⌝ }
 {
@@ -25,19 +26,21 @@ pub enum Discovery {
     Full,
 }
 
-// Counts a hard link to the address: one more for an object of the table, or a new object with one.
-pub fn discover(
+// Counts a hard link to the address, or a sharing of it, where a search for the address ended: one more for an object of
+// the table, or a new object with one.
+pub fn count_at(
     addresses: &mut [u64],
     counts: &mut [u32],
     objects: usize,
     address: u64,
+    place: usize,
 ) -> Discovery
     requires { ⌜ Table (now addresses) (now counts) objects ⌝ }
     requires { ⌜ linkSum (linkedOf objects (now addresses) (now counts)) + 1 < 2 ^ 32 ⌝ }
+    requires { ⌜ Found (now addresses) objects address place ⌝ }
     ensures { λ r. ⌜ Discovered (now (addresses .entry)) (now (counts .entry)) objects address (now (addresses .exit)) (now (counts .exit)) r ⌝ }
 {
     let limits = format::the_limits();
-    let place = find(addresses, objects, address);
     if place < objects {
         let links = counts[place];
         counts[place] = links + 1;
@@ -49,6 +52,21 @@ pub fn discover(
     addresses[objects] = address;
     counts[objects] = 1;
     Discovery::Counted(objects + 1)
+}
+
+// Counts a hard link to the address, or a sharing of it.
+pub fn discover(
+    addresses: &mut [u64],
+    counts: &mut [u32],
+    objects: usize,
+    address: u64,
+) -> Discovery
+    requires { ⌜ Table (now addresses) (now counts) objects ⌝ }
+    requires { ⌜ linkSum (linkedOf objects (now addresses) (now counts)) + 1 < 2 ^ 32 ⌝ }
+    ensures { λ r. ⌜ Discovered (now (addresses .entry)) (now (counts .entry)) objects address (now (addresses .exit)) (now (counts .exit)) r ⌝ }
+{
+    let place = find(addresses, objects, address);
+    count_at(addresses, counts, objects, address, place)
 }
 
 // The table of one object, the root, with one link: the superblock's root entry.

@@ -14,35 +14,41 @@ use Rattle.format.specs.Walk.{fault, answerOf, ret, Outcome, done, refused, run
 use Rattle.format.specs.Superblock.{Superblock, Opening, opened, notOpened, openImage, runOpened, signature, superblockRead, superblockSound, superblockFields, superblockWalk}
 use Rattle.format.specs.Header.{Object, group, dataset, committed}
 use Rattle.format.specs.Entry.{Entry}
-use Rattle.format.specs.Ledger.{Linked, countLink, discover}
+use Rattle.format.specs.Ledger.{Linked, discover}
+use Rattle.format.specs.Sharing.{Found, discoverSharing}
 use Rattle.format.specs.Object.{contentWalk, objectWalk}
 use Rattle.format.specs.Audit.{objectsWalk, auditWalk, auditRun}
 use Rattle.format.specs.Answers.{auditEnd, audit}
-use Rattle.links.proofs.Numbered.{AuditNumber, Answered, Numbered, answers, numbers, run-number}
-use Rattle.links.proofs.NumberedHeader.{header-numbered}
-use Rattle.links.proofs.NumberedDataset.{dataset-numbered}
+use Rattle.links.proofs.Numbered.{AuditNumber, Answered, Numbered, answers, numbered-bind, numbered-ret, numbers, run-number}
+use Rattle.links.proofs.NumberedHeader.{visits-numbered}
+use Rattle.links.proofs.NumberedSharing.{link-answered, sharing-answered, known-answered}
+use Rattle.links.proofs.NumberedDataset.{sharing-numbered}
 use Rattle.links.proofs.NumberedGroup.{group-numbered}
 
 discover-answered : (e : Entry) (os : List Linked) → Answered (discover e os)
-unfolding discover countLink
-discover-answered e os = search answers depth 8
+unfolding discover
+discover-answered e os = search (answers, link-answered) depth 8
 
-content-numbered : (s : Superblock) (o : Object) (os : List Linked) → Numbered (contentWalk s o os)
+content-numbered : (s : Superblock) (o : Object) (f : Found) → Numbered (contentWalk s o f)
 unfolding contentWalk
-content-numbered s (group tree heap) os = group-numbered (s .leafK) (s .internalK) tree heap discover os discover-answered
-content-numbered s (dataset space type layout) os = search (numbers, dataset-numbered)
-content-numbered s committed os = search numbers
+content-numbered s (group tree heap) f =
+    numbered-bind _ _ (group-numbered (s .leafK) (s .internalK) tree heap discover (f .objects) discover-answered) (λ os. numbered-ret _)
+content-numbered s (dataset space type layout) f = sharing-numbered space type layout f
+content-numbered s committed f = numbered-ret f
 
-object-numbered : (s : Superblock) (at : ℕ) (os : List Linked) → Numbered (objectWalk s at os)
+object-numbered : (s : Superblock) (i at : ℕ) (f : Found) → Numbered (objectWalk s i at f)
 unfolding objectWalk
-object-numbered s at os = search (numbers, header-numbered, content-numbered)
+object-numbered s i at f =
+    let header = visits-numbered discoverSharing sharing-answered at f in
+    search (numbers, known-answered, content-numbered)
 
-objects-numbered : (s : Superblock) (fuel i : ℕ) (os : List Linked) → Numbered (objectsWalk s fuel i os)
+objects-numbered : (s : Superblock) (fuel i : ℕ) (f : Found) → Numbered (objectsWalk s fuel i f)
 unfolding objectsWalk
-objects-numbered s zero i os = search numbers
-objects-numbered s (suc fuel) i os = go (drop i os) (objects-numbered s fuel (i + 1))
+objects-numbered s zero i f = search numbers
+objects-numbered s (suc fuel) i f = go (drop i (f .objects)) (objects-numbered s fuel (i + 1))
   where
-    go : (left : List Linked) → ((ps : List Linked) → Numbered (objectsWalk s fuel (i + 1) ps)) → Numbered (withFirst left (ret os) (λ o. objectWalk s (o .address) os >>= λ ps. objectsWalk s fuel (i + 1) ps))
+    go : (left : List Linked) → ((g : Found) → Numbered (objectsWalk s fuel (i + 1) g)) →
+        Numbered (withFirst left (ret f) (λ o. objectWalk s i (o .address) f >>= λ g. objectsWalk s fuel (i + 1) g))
     go [] rest = search numbers
     go (o ∷ later) rest = search (numbers, object-numbered)
 

@@ -28,7 +28,7 @@ walk-sound im room s os bs most e =
     let once = each-once (s .root) (flatten (c .0)) os (c .2) in
     record {
       trace = counted-trace im room s most os bs e;
-      entries = c .0;
+      references = c .0;
       read = c .1;
       counted = c .2;
       trueCount = true-count (s .root) (flatten (c .0)) os (c .2) once;
@@ -37,6 +37,7 @@ walk-sound im room s os bs most e =
       once = once;
       reached = objects-reached im room s most os bs e;
       found = reached-objects im room s most os bs e;
+      shared = c .3;
       headers = headers-inside im room s os bs e;
     }
 

@@ -1,54 +1,104 @@
--- A run of the audit is a trace: object after object, each read whole.
+-- A run of the audit is a trace: object after object, each walked once.
 use Prim.Native.Nat.{ℕ, zero, suc, _+_, _≤_}
-use mathlib.Core.List.{List, [], _∷_}
+use mathlib.Core.List.{List, [], _∷_, _++_, List·Memᴰ}
+use mathlib.Core.Logic.{_⊎_, inl, inr, ⊎-elim}
 use mathlib.Core.Path.{_≡_, refl}
 use native.Mathlib.Omega.{arith}
-use lib.ListN.{length, drop, drop-of-length-le}
+use lib.ListN.{length, drop, drop-of-length-le, length-replicate}
 use Rattle.format.specs.Limits.{objectsMost}
 use Rattle.format.specs.Bytes.{withFirst}
 use Rattle.format.specs.Blocks.{Block}
 use Rattle.format.specs.Walk.{ret, _>>=_, done, run}
 use Rattle.format.specs.Superblock.{Superblock, superblockWalk}
-use Rattle.format.specs.Entry.{Entry}
+use Rattle.format.specs.Header.{Object, committed, headerWalk}
 use Rattle.format.specs.Ledger.{Linked, linked}
+use Rattle.format.specs.Sharing.{Found, sharedMark, otherMark}
 use Rattle.format.specs.Object.{objectWalk}
-use Rattle.format.specs.Audit.{objectsWalk, auditWalk}
-use Rattle.ledger.proofs.LedgerLaws.{count-most}
-use Rattle.links.specs.Reached.{entriesAt}
+use Rattle.format.specs.Audit.{objectsWalk, rootFound, auditWalk}
+use Rattle.ledger.proofs.LedgerLaws.{distinct-first}
+use Rattle.links.specs.Reached.{Reference, sharing, referencesAt}
 use Rattle.links.specs.Trace.{Trace, ended, next}
 use Rattle.links.proofs.Outcomes.{bind-done, done-fits}
-use Rattle.links.proofs.ObjectEntries.{object-entries}
-use Rattle.links.proofs.Counting.{counting-keeps}
+use Rattle.links.proofs.LedgerIn.{member-in, taken-member, counted-in}
+use Rattle.links.proofs.Places.{taken-place}
+use Rattle.links.proofs.Marks.{Fits, markOf, Given, given-in, given-shared, given-other, given-none, given-on}
+use Rattle.links.proofs.ObjectReferences.{taken-follows, followed, object-kind}
 
-module _ (im : List ℕ) (room : ℕ) (s : Superblock) (P : ℕ → List Entry → Type 0)
-    -- what holds of every object that was read whole
-    (read : (at : ℕ) (es : List Entry) (bs ms : List Block) → length bs ≤ room → run im (s .endOfFile) room (entriesAt s at) bs ≡ done es ms → P at es) where
-  trace-end : (i : ℕ) (os os′ : List Linked) → os ≡ os′ → drop i os ≡ [] → Trace P i os os′
-  trace-end i os os′ same d = rw (← same) (ended d)
+-- The object at this address was walked, and has these references. What was found in the end says what is known of it: what it shares has the mark of
+-- a sharing, and if it is no committed datatype, it has the mark of another kind.
+pub record ObjectWalked (im : List ℕ) (room : ℕ) (s : Superblock) (last : Found) (at : ℕ) (rs : List Reference) : Type 0 where
+  pub before : List Block
+  pub after : List Block
+  pub fits : length before ≤ room
+  pub read : run im (s .endOfFile) room (referencesAt s at) before ≡ done rs after
+  pub shared : (x : ℕ) → List·Memᴰ (sharing x) rs → markOf x last ≡ sharedMark
+  pub object : Object
+  pub behind : List Block
+  pub header : run im (s .endOfFile) room (headerWalk at) before ≡ done object behind
+  pub kind : (object ≡ committed) ⊎ (markOf at last ≡ otherMark)
 
-  -- the walk from the i-th object on, with the fuel that is left
-  objects-trace : (fuel i : ℕ) (os : List Linked) (bs : List Block) (os′ : List Linked) (ms : List Block) → objectsMost ≤ i + fuel → length os ≤ objectsMost → length bs ≤ room →
-      run im (s .endOfFile) room (objectsWalk s fuel i os) bs ≡ done os′ ms → Trace P i os os′
+module _ (im : List ℕ) (room : ℕ) (s : Superblock) where
+  -- from what was found to the last, by the objects from the i-th on
+  abbrev Walks : ℕ → Found → Found → Type 0
+  Walks i f last = Trace (ObjectWalked im room s last) i (f .objects) (last .objects) × ((rs : List Reference) × Given f rs last)
+
+  walks-end : (i : ℕ) (f last : Found) → Fits f → f ≡ last → drop i (f .objects) ≡ [] → Walks i f last
+  walks-end i f last h same d = rw (← same) (ended d, ([], given-none f h))
+
+  walks-next : (i : ℕ) (f g last : Found) (bs cs : List Block) (o : Linked) (rest : List Linked) → Fits f → length bs ≤ room → drop i (f .objects) ≡ o ∷ rest →
+      run im (s .endOfFile) room (objectWalk s i (o .address) f) bs ≡ done g cs → (Fits g → Walks (i + 1) g last) → Walks i f last
+  walks-next i f g last bs cs o rest h l d e more =
+      let there = member-in (f .objects) o (taken-member i (f .objects) o rest d) in
+      let place = taken-place i (f .objects) o rest (h .once) d in
+      let r = followed im (s .endOfFile) room _ _ _ bs g cs (taken-follows s i f o rest h d) e in
+      let k = object-kind im room s i (o .address) f h there place bs g cs e in
+      let later = more (r .2 .fits) in
+      let on = later .1 .1 in
+      let walked : ObjectWalked im room s last (o .address) (r .0) = record {
+        before = bs;
+        after = cs;
+        fits = l;
+        read = r .1;
+        shared = λ x m. given-shared on x (counted-in (r .0) (f .objects) (g .objects) (sharing x) (r .2 .counted) m) (r .2 .shared x m);
+        object = k .0;
+        behind = k .1;
+        header = k .2;
+        kind = ⊎-elim inl (λ m. inr (given-other on (o .address) (given-in (r .2) (o .address) there) m)) (k .3);
+      } in
+      (next d walked (r .2 .counted) (later .0), (r .0 ++ later .1 .0, given-on (r .2) on))
+
+  -- with the fuel that is left
+  objects-walk : (fuel i : ℕ) (f : Found) (bs : List Block) (last : Found) (ms : List Block) → objectsMost ≤ i + fuel → Fits f → length bs ≤ room →
+      run im (s .endOfFile) room (objectsWalk s fuel i f) bs ≡ done last ms → Walks i f last
   unfolding objectsWalk run
-  objects-trace zero i os bs os′ ms f m l e = trace-end i os os′ (cc) (drop-of-length-le os {i = i} (omega arith))
-  objects-trace (suc fuel) i os bs os′ ms f m l e = go (drop i os) refl e (λ ps cs m′ l′ e′. objects-trace fuel (i + 1) ps cs os′ ms (omega arith) m′ l′ e′)
+  objects-walk zero i f bs last ms n h l e = walks-end i f last h (cc) (drop-of-length-le (f .objects) {i = i} (omega (arith, h .most)))
+  objects-walk (suc fuel) i f bs last ms n h l e =
+      go (drop i (f .objects)) refl e (λ g cs h′ l′ e′. objects-walk fuel (i + 1) g cs last ms (omega arith) h′ l′ e′)
     where
-      go : (left : List Linked) → drop i os ≡ left →
-          run im (s .endOfFile) room (withFirst left (ret os) (λ o. objectWalk s (o .address) os >>= λ ps. objectsWalk s fuel (i + 1) ps)) bs ≡ done os′ ms →
-          ((ps : List Linked) (cs : List Block) → length ps ≤ objectsMost → length cs ≤ room → run im (s .endOfFile) room (objectsWalk s fuel (i + 1) ps) cs ≡ done os′ ms → Trace P (i + 1) ps os′) →
-          Trace P i os os′
-      go [] d r more = trace-end i os os′ (cc) d
+      go : (left : List Linked) → drop i (f .objects) ≡ left →
+          run im (s .endOfFile) room (withFirst left (ret f) (λ o. objectWalk s i (o .address) f >>= λ g. objectsWalk s fuel (i + 1) g)) bs ≡ done last ms →
+          ((g : Found) (cs : List Block) → Fits g → length cs ≤ room → run im (s .endOfFile) room (objectsWalk s fuel (i + 1) g) cs ≡ done last ms →
+          Walks (i + 1) g last) →
+          Walks i f last
+      go [] d r more = walks-end i f last h (cc) d
       go (o ∷ rest) d r more =
-          let b = bind-done im (s .endOfFile) room (objectWalk s (o .address) os) (λ ps. objectsWalk s fuel (i + 1) ps) bs os′ ms r in
-          let c = object-entries im room s (o .address) os bs (b .0) (b .1) (b .2) in
-          let most = counting-keeps (λ (ps : List Linked). length ps ≤ objectsMost) count-most (c .0) os (b .0) (c .2) m in
-          let fits = done-fits im (s .endOfFile) room (objectWalk s (o .address) os) bs (b .0) (b .1) l (b .2) in
-          next d (read (o .address) (c .0) bs (b .1) l (c .1)) (c .2) (more (b .0) (b .1) most fits (b .3))
+          let b = bind-done im (s .endOfFile) room (objectWalk s i (o .address) f) (λ g. objectsWalk s fuel (i + 1) g) bs last ms r in
+          let fits = done-fits im (s .endOfFile) room (objectWalk s i (o .address) f) bs (b .0) (b .1) l (b .2) in
+          walks-next i f (b .0) last bs (b .1) o rest h l d (b .2) (λ h′. more (b .0) (b .1) h′ fits (b .3))
+
+  -- what the audit begins with
+  pub root-fits : Fits (rootFound s)
+  unfolding objectsMost
+  root-fits = record { most = omega arith; marked = rw length-replicate (omega arith); once = distinct-first (s .root) }
 
   -- the whole audit
-  pub audit-trace : (os : List Linked) (ms : List Block) → run im (s .endOfFile) room (auditWalk s) [] ≡ done os ms → Trace P 0 (linked (s .root) 1 ∷ []) os
-  unfolding auditWalk objectsMost
+  pub audit-trace : (os : List Linked) (ms : List Block) → run im (s .endOfFile) room (auditWalk s) [] ≡ done os ms →
+      (last : Found) × Trace (ObjectWalked im room s last) 0 (linked (s .root) 1 ∷ []) os
+  unfolding auditWalk run
   audit-trace os ms e =
-      let b = bind-done im (s .endOfFile) room (superblockWalk s) (λ _. objectsWalk s objectsMost 0 (linked (s .root) 1 ∷ [])) [] os ms e in
+      let b = bind-done im (s .endOfFile) room (superblockWalk s) _ [] os ms e in
+      let c = bind-done im (s .endOfFile) room (objectsWalk s objectsMost 0 (rootFound s)) _ (b .1) os ms (b .3) in
       let fits = done-fits im (s .endOfFile) room (superblockWalk s) [] (b .0) (b .1) (omega arith) (b .2) in
-      objects-trace objectsMost 0 (linked (s .root) 1 ∷ []) (b .1) os ms (omega arith) (omega arith) fits (b .3)
+      let w = objects-walk objectsMost 0 (rootFound s) (b .1) (c .0) (c .1) (omega arith) root-fits fits (c .2) in
+      let same : c .0 .objects ≡ os = cc (c .3) in
+      (c .0, rw same at (w .0))

@@ -1,4 +1,4 @@
--- What stands in a ledger after entries were counted.
+-- What stands in a ledger after references were counted.
 use Prim.Native.Nat.{ℕ, zero, suc}
 use mathlib.Core.Bool.{Bool, true, false}
 use mathlib.Core.List.{List, [], _∷_, List·Memᴰ, List·Memᴰ·head, List·Memᴰ·tail, List·Memᴰ·not-nil, List·Memᴰ·cases-cons}
@@ -10,11 +10,11 @@ use lib.ListN.{drop}
 use lib.Dec.{eqb}
 use Rattle.format.specs.Bytes.{if_then_else_}
 use Rattle.format.specs.Result.{value}
-use Rattle.format.specs.Entry.{Entry, isHard}
-use Rattle.format.specs.Ledger.{Linked, linked, inLedger, countLink, discover}
+use Rattle.format.specs.Ledger.{Linked, linked, inLedger, countLink}
 use Rattle.laws.proofs.Results.{both-values}
-use Rattle.ledger.proofs.LedgerLaws.{discover-hard, discover-other, count-in, in-here, in-later}
-use Rattle.group.specs.Entries.{countEntries}
+use Rattle.ledger.proofs.LedgerLaws.{count-in, in-here, in-later}
+use Rattle.links.specs.Reached.{Reference, target}
+use Rattle.links.specs.Trace.{countReferences}
 use Rattle.links.proofs.Counting.{counting-keeps}
 
 -- an object of the ledger has its address there
@@ -54,34 +54,32 @@ link-enters a os os′ c = count-in a os os′ c a ∙ rw (eq-eqb a a refl) (go 
     go true = refl
     go false = refl
 
--- A property of addresses that all in the ledger have, and all that hard links among the entries give, all in the ledger have after them.
-module _ (Q : ℕ → Type 0) where
-  discover-within : (e : Entry) (os os′ : List Linked) → discover e os ≡ value os′ → (isHard e ≡ true → Q (e .header)) → ((x : ℕ) → inLedger x os ≡ true → Q x) → (x : ℕ) → inLedger x os′ ≡ true → Q x
-  discover-within e os os′ d q h x i = go (isHard e) refl
-    where
-      go : (t : Bool) → isHard e ≡ t → Q x
-      go true k = ⊎-elim (h x) (λ same. rw same (q k)) (after-link (e .header) os os′ x (sym (discover-hard e os k) ∙ d) i)
-      go false k = let same : os′ ≡ os = cc (discover-other e os k) in h x (rw same at i)
+-- what stood there before references were counted stands there after them
+pub counting-in : (rs : List Reference) (os os′ : List Linked) → countReferences rs os ≡ value os′ → (x : ℕ) → inLedger x os ≡ true → inLedger x os′ ≡ true
+counting-in rs os os′ c x h = counting-keeps (λ (ps : List Linked). inLedger x ps ≡ true) (link-keeps x) rs os os′ c h
 
-  pub counting-within : (es : List Entry) (os os′ : List Linked) → countEntries es os ≡ value os′ → ((e : Entry) → List·Memᴰ e es → isHard e ≡ true → Q (e .header)) →
-      ((x : ℕ) → inLedger x os ≡ true → Q x) → (x : ℕ) → inLedger x os′ ≡ true → Q x
-  unfolding countEntries
-  counting-within [] os os′ c q h = let same : os ≡ os′ = cc in rw same at h
-  counting-within (e ∷ es) os os′ c q h =
-      let b = both-values (discover e os) (countEntries es) os′ c in
-      counting-within es (b .0) os′ (b .2) (λ f m k. q f (List·Memᴰ·tail m) k) (discover-within e os (b .0) (b .1) (λ k. q e (List·Memᴰ·head refl) k) h)
+-- A property of addresses that all in the ledger have, and all that the references give, all in the ledger have after them.
+pub counting-within : (Q : ℕ → Type 0) (rs : List Reference) (os os′ : List Linked) → countReferences rs os ≡ value os′ →
+    ((r : Reference) → List·Memᴰ r rs → Q (target r)) → ((x : ℕ) → inLedger x os ≡ true → Q x) → (x : ℕ) → inLedger x os′ ≡ true → Q x
+unfolding countReferences
+counting-within Q [] os os′ c q h = let same : os ≡ os′ = cc in rw same at h
+counting-within Q (r ∷ rs) os os′ c q h =
+    let b = both-values (countLink (target r) os) (countReferences rs) os′ c in
+    counting-within Q rs (b .0) os′ (b .2) (λ p m. q p (List·Memᴰ·tail m))
+    (λ x i. ⊎-elim (h x) (λ same. rw same (q r (List·Memᴰ·head refl))) (after-link (target r) os (b .0) x (b .1) i))
 
--- every hard link among entries that were counted gives an address of the ledger
-pub counted-in : (es : List Entry) (os os′ : List Linked) (e : Entry) → countEntries es os ≡ value os′ → List·Memᴰ e es → isHard e ≡ true → inLedger (e .header) os′ ≡ true
-unfolding countEntries
-counted-in [] os os′ e c m h = absurd (List·Memᴰ·not-nil m)
-counted-in (f ∷ es) os os′ e c m h =
-    let b = both-values (discover f os) (countEntries es) os′ c in
+-- every reference that was counted gives an address of the ledger
+pub counted-in : (rs : List Reference) (os os′ : List Linked) (r : Reference) → countReferences rs os ≡ value os′ → List·Memᴰ r rs →
+    inLedger (target r) os′ ≡ true
+unfolding countReferences
+counted-in [] os os′ r c m = absurd (List·Memᴰ·not-nil m)
+counted-in (p ∷ rs) os os′ r c m =
+    let b = both-values (countLink (target p) os) (countReferences rs) os′ c in
     ⊎-elim
     (λ same.
-    let d : countLink (e .header) os ≡ value (b .0) = sym (discover-hard e os h) ∙ ap (λ (g : Entry). discover g os) same ∙ b .1 in
-    counting-keeps (λ (ps : List Linked). inLedger (e .header) ps ≡ true) (link-keeps (e .header)) es (b .0) os′ (b .2) (link-enters (e .header) os (b .0) d))
-    (λ rest. counted-in es (b .0) os′ e (b .2) rest h) (List·Memᴰ·cases-cons m)
+    let d : countLink (target r) os ≡ value (b .0) = ap (λ (q : Reference). countLink (target q) os) same ∙ b .1 in
+    counting-in rs (b .0) os′ (b .2) (target r) (link-enters (target r) os (b .0) d))
+    (λ rest. counted-in rs (b .0) os′ r (b .2) rest) (List·Memᴰ·cases-cons m)
 
 -- the ledger that an audit begins with
 pub in-first : (x root : ℕ) → inLedger x (linked root 1 ∷ []) ≡ true → x ≡ root
@@ -92,5 +90,5 @@ in-first x root h = go (eqb x root) refl h
     go true e r = eqb-true x root e
     go false e r = let z : _≡_ {A = ℕ} 0 1 = cc in absurd (omega arith)
 
-pub root-in : (es : List Entry) (root : ℕ) (os : List Linked) → countEntries es (linked root 1 ∷ []) ≡ value os → inLedger root os ≡ true
-root-in es root os c = counting-keeps (λ (ps : List Linked). inLedger root ps ≡ true) (link-keeps root) es _ os c (in-here root (linked root 1) [] (eq-eqb root root refl))
+pub root-in : (rs : List Reference) (root : ℕ) (os : List Linked) → countReferences rs (linked root 1 ∷ []) ≡ value os → inLedger root os ≡ true
+root-in rs root os c = counting-in rs _ os c root (in-here root (linked root 1) [] (eq-eqb root root refl))

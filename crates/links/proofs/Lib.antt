@@ -1,9 +1,11 @@
 pub mod Outcomes
-pub mod ObjectEntries
 pub mod Counting
 pub mod LedgerIn
+pub mod Places
+pub mod Marks
+pub mod ObjectReferences
 pub mod AuditTrace
-pub mod TraceEntries
+pub mod TraceReferences
 pub mod HeadersInside
 pub mod AllCounted
 pub mod TrueCounts
@@ -14,6 +16,7 @@ pub mod AuditSound
 pub mod RefusedFault
 pub mod Numbered
 pub mod NumberedHeader
+pub mod NumberedSharing
 pub mod NumberedDataset
 pub mod NumberedGroup
 pub mod AuditAnswers

@@ -2,23 +2,30 @@
 use Prim.Native.Nat.{ℕ}
 use mathlib.Core.List.{List}
 use Rattle.format.specs.Message.{Message}
-use Rattle.format.specs.Dataspace.{readDataspace}
-use Rattle.format.specs.Datatype.{readDatatype, readShared}
+use Rattle.format.specs.Dataspace.{Dataspace, readDataspace}
+use Rattle.format.specs.Datatype.{Datatype, readDatatype, readShared}
 use Rattle.format.specs.Layout.{Layout, readCompact, readContiguous, readLayout}
-use Rattle.format.specs.Dataset.{dataWalk, datasetWalk}
-use Rattle.links.proofs.Numbered.{Answered, Numbered, answered-if, answers, numbers}
+use Rattle.format.specs.Dataset.{readType, dataWalk, storageWalk, datasetWalk}
+use Rattle.format.specs.Sharing.{Found}
+use Rattle.format.specs.Object.{sharingDataset}
+use Rattle.links.proofs.Numbered.{Answered, Numbered, answers, numbers}
+use Rattle.links.proofs.NumberedSharing.{shares-answered}
 
 space-answered : (b : List ℕ) → Answered (readDataspace b)
 unfolding readDataspace
 space-answered b = search answers depth 20
 
-type-answered : (b : List ℕ) → Answered (readDatatype b)
+own-answered : (b : List ℕ) → Answered (readDatatype b)
 unfolding readDatatype
-type-answered b = search answers depth 20
+own-answered b = search answers depth 20
 
 shared-answered : (b : List ℕ) → Answered (readShared b)
 unfolding readShared
 shared-answered b = search answers depth 8
+
+type-answered : (m : Message) → Answered (readType m)
+unfolding readType
+type-answered m = search (answers, own-answered, shared-answered)
 
 layout-answered : (place : ℕ) (b : List ℕ) → Answered (readLayout place b)
 unfolding readLayout readCompact readContiguous
@@ -28,6 +35,15 @@ data-numbered : (l : Layout) → Numbered (dataWalk l)
 unfolding dataWalk
 data-numbered l = search numbers
 
+storage-numbered : (d : Dataspace) (t : Datatype) (layout : Message) → Numbered (storageWalk d t layout)
+unfolding storageWalk
+storage-numbered d t layout = search (numbers, layout-answered, data-numbered) depth 12
+
 pub dataset-numbered : (space type layout : Message) → Numbered (datasetWalk space type layout)
 unfolding datasetWalk
-dataset-numbered space type layout = search (numbers, answered-if, space-answered, type-answered, shared-answered, layout-answered, data-numbered) depth 12
+dataset-numbered space type layout = search (numbers, space-answered, type-answered, storage-numbered) depth 12
+
+-- the same with its sharing
+pub sharing-numbered : (space type layout : Message) (f : Found) → Numbered (sharingDataset space type layout f)
+unfolding sharingDataset
+sharing-numbered space type layout f = search (numbers, space-answered, type-answered, shares-answered, storage-numbered) depth 12

@@ -15,7 +15,8 @@ pub then-done : {A B : Type 0} (o : Outcome A) (f : A → List Block → Outcome
 then-done (done a cs) f b ms e = (a, cs, refl, e)
 then-done (refused n cs) f b ms e = let z : _≡_ {A = ℕ} 0 1 = cc in absurd (omega arith)
 
-entered-done : {A : Type 0} (n : ℕ) (f : ℕ → Refusal) (o : Outcome A) (bs : List Block) (a : A) (ms : List Block) → ifEntered n o (λ m. refused (f m) bs) ≡ done a ms → (n ≡ 0) × (o ≡ done a ms)
+pub entered-done : {A : Type 0} (n : ℕ) (f : ℕ → Refusal) (o : Outcome A) (bs : List Block) (a : A) (ms : List Block) →
+    ifEntered n o (λ m. refused (f m) bs) ≡ done a ms → (n ≡ 0) × (o ≡ done a ms)
 entered-done zero f o bs a ms e = (refl, e)
 entered-done (suc n) f o bs a ms e = let z : _≡_ {A = ℕ} 0 1 = cc in absurd (omega arith)
 

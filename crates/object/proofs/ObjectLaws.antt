@@ -1,53 +1,144 @@
 -- The steps of the code that walks an object against the steps of its walk.
-use Prim.Native.Nat.{ℕ, _≤_}
-use mathlib.Core.Bool.{true}
+use Prim.Native.Nat.{ℕ, _+_, _≤_, _<_}
+use mathlib.Core.Bool.{true, false}
 use mathlib.Core.List.{List}
-use mathlib.Core.Path.{_≡_, refl, ap, _∙_}
+use mathlib.Core.Path.{_≡_, refl, ap, sym, _∙_}
 use native.Mathlib.Omega.{arith}
 use lib.ListN.{length}
 use Rattle.format.specs.Blocks.{roomOf}
 use Rattle.format.specs.declared.Refusal.{Refusal}
-use Rattle.format.specs.Walk.{Walk, ret, _>>_, Outcome, done, refused, run}
+use Rattle.format.specs.Result.{Result, value, answer}
+use Rattle.format.specs.Walk.{Walk, ret, refuse, fault, located, _>>=_, _>>_, Outcome, done, refused, run}
 use Rattle.format.specs.Message.{Message}
-use Rattle.format.specs.Header.{Object, group, dataset, committed, headerWalk}
-use Rattle.format.specs.Dataset.{datasetWalk}
-use Rattle.format.specs.Ledger.{Linked}
+use Rattle.format.specs.Header.{Object, group, dataset, committed, Headed, headerWith}
+use Rattle.format.specs.Datatype.{Datatype}
+use Rattle.format.specs.Dataset.{headAt, storageWalk}
+use Rattle.format.specs.Tree.{groupWalk}
+use Rattle.format.specs.Ledger.{Linked, discover}
 use Rattle.format.specs.Lookup as lookup
-use Rattle.format.specs.Object.{contentWalk, objectWalk}
-use Rattle.walk.specs.Lent.{blocksOf, Lent, ended, stopped, Walked}
+use Rattle.format.specs.Sharing.{Found, shareEach, sharedBy, known, notCommitted}
+use Rattle.format.specs.Object.{sharingDataset, contentWalk, objectWalk}
+use Rattle.walk.specs.Lent.{blocksOf, Lent, Ended, ended, stopped, Walked}
 use Rattle.walk.proofs.BlockList.{room-most, lent-none}
+use Rattle.laws.proofs.Growth.{Grown}
+use Rattle.laws.proofs.SumOfLengths.{grown-apart, grown-inside, grown-lengths}
 use Rattle.laws.proofs.Follows.{Ran}
-use Rattle.laws.proofs.Simulation.{Simulation, start, returned, callee-done, callee-stopped, callee-last}
+use Rattle.laws.proofs.Simulation.{Simulation, start, same-walk, returned, callee-value, callee-refusal, callee-done, callee-stopped, callee-last}
 use Rattle.ledger.specs.Table.{linkedOf}
 use Rattle.visit.specs.Visit.{Both, bothOf}
 use Rattle.symbol.specs.declared.entry.Step as steps
-use Rattle.dataset.specs.Dataset.{datasetEnd}
+use Rattle.sharing.specs.Sharing.{foundOf, visitMessage, Kept, KindKnown}
+use Rattle.continuations.specs.Counting.{Counting}
+use Rattle.dataset.specs.Dataset.{SpaceAndType, partsWalk, datasetEnd}
 use Rattle.dataset.specs.declared.dataset.DatasetRead as datasets
-use Rattle.group.specs.Group as groups
+use Rattle.dataset.proofs.DatasetLaws.{parts-split}
 use Rattle.group.specs.Group.{Ready, groupEnd, GroupIs}
 use Rattle.group.proofs.Entries.{audit-part}
 use Rattle.superblock.specs.Superblock.{superblockOf}
 use Rattle.superblock.specs.declared.Superblock as superblocks
-use Rattle.object.specs.Object.{Opened, Bounded, objectEnd, ReadyIf, LedgerWalked}
+use Rattle.object.specs.Object.{Opened, Bounded, Listed, objectEnd, ListedIf, FoundWalked, behindHeader}
 use Rattle.object.specs.declared.object.ObjectRead.{ObjectRead}
 use Rattle.object.specs.declared.object.ObjectRead.the-variants.{Done, Stopped}
 
 -- an image that was opened, with the room that a list of so many words gives
 pub opened : (im : List ℕ) (s : superblocks.Superblock) (room lent : ℕ) → room ≡ roomOf lent → Bounded im s → Opened im s room
-opened im s room lent is b = record { file = b .2; most = rw is (room-most lent); leaf = b .0; internal = b .1 }
+opened im s room lent is b = record { file = b .2; small = b .3; most = rw is (room-most lent); leaf = b .0; internal = b .1 }
 
 -- the whole list is lent, with no block entered
 pub room-lent : (ws : List ℕ) (room : ℕ) → room ≡ roomOf (length ws) → Lent ws 0 room
 room-lent ws room is = rw is (lent-none ws)
+
+-- What lists keep: with more blocks, with other marks, with a link more, with less to spare.
+module _ {ws addresses counts marks : List ℕ} {eof room count objects spare : ℕ} (h : Listed ws addresses counts marks eof room count objects spare) where
+  pub listed-more : {ws₁ : List ℕ} {n : ℕ} → Lent ws₁ n room → Grown eof room (blocksOf count ws) (blocksOf n ws₁) → Listed ws₁ addresses counts marks eof room n objects spare
+  listed-more l g = record {
+    lent = l;
+    counting = record {
+      small = h .counting .small;
+      apart = grown-apart g (h .counting .apart);
+      inside = grown-inside g (h .counting .inside);
+      table = h .counting .table;
+      marked = h .counting .marked;
+      links = omega (arith, h .counting .links, grown-lengths g);
+    };
+  }
+
+  pub listed-marked : {marks′ : List ℕ} → length marks′ ≡ length marks → Listed ws addresses counts marks′ eof room count objects spare
+  listed-marked e = record {
+    lent = h .lent;
+    counting = record {
+      small = h .counting .small;
+      apart = h .counting .apart;
+      inside = h .counting .inside;
+      table = h .counting .table;
+      marked = omega (arith, h .counting .marked);
+      links = h .counting .links;
+    };
+  }
+
+  pub listed-counted : {addresses′ counts′ marks′ : List ℕ} {objects′ : ℕ} → Kept addresses counts objects spare addresses′ counts′ marks′ objects′ →
+      Listed ws addresses′ counts′ marks′ eof room count objects′ 0
+  listed-counted k = record {
+    lent = h .lent;
+    counting = record {
+      small = h .counting .small;
+      apart = h .counting .apart;
+      inside = h .counting .inside;
+      table = k .table;
+      marked = k .marked;
+      links = omega (arith, h .counting .links, k .links);
+    };
+  }
+
+  pub listed-less : (less : ℕ) → less ≤ spare → Listed ws addresses counts marks eof room count objects less
+  listed-less less l = record {
+    lent = h .lent;
+    counting = record {
+      small = h .counting .small;
+      apart = h .counting .apart;
+      inside = h .counting .inside;
+      table = h .counting .table;
+      marked = h .counting .marked;
+      links = omega (arith, h .counting .links);
+    };
+  }
+
+  -- as the group reader has them
+  pub listed-ready : Ready ws addresses counts eof room count objects
+  listed-ready = record {
+    lent = h .lent;
+    table = h .counting .table;
+    apart = h .counting .apart;
+    inside = h .counting .inside;
+    links = omega (arith, h .counting .links);
+  }
+
+  pub ready-listed : {ws₁ addresses₁ counts₁ : List ℕ} {n objects₁ : ℕ} → Ready ws₁ addresses₁ counts₁ eof room n objects₁ → Listed ws₁ addresses₁ counts₁ marks eof room n objects₁ 0
+  ready-listed r = record {
+    lent = r .lent;
+    counting = record {
+      small = h .counting .small;
+      apart = r .apart;
+      inside = r .inside;
+      table = r .table;
+      marked = h .counting .marked;
+      links = omega (arith, r .links);
+    };
+  }
 
 -- what the group reader returns, as the object's
 abbrev pub objectRead : steps.Step → ObjectRead
 objectRead (steps.the-variants.Done s) = Done (s .count) (s .objects)
 objectRead (steps.the-variants.Stopped n) = Stopped n
 
+-- the ledger, with the number of blocks then entered, or the refusal
+abbrev ledgerEnd : List ℕ → List ℕ → ObjectRead → Ended (List Linked)
+ledgerEnd addresses counts (Done count objects) = ended (linkedOf objects addresses counts) count
+ledgerEnd addresses counts (Stopped r) = stopped r
+
 -- the code's visit ended, and with it the audit's own walk of the group
 audit-ended : (ws ws′ addresses counts : List ℕ) (l : lookup.Link) (r : steps.Step) (o : Outcome (List Linked)) (o′ : Outcome Both) →
-    Ran true (λ x b. (last : List ℕ) × (b ≡ record { ledger = x; link = l })) o o′ → Walked ws ws′ (groupEnd addresses counts r) o′ → Walked ws ws′ (objectEnd addresses counts (objectRead r)) o
+    Ran true (λ x b. (last : List ℕ) × (b ≡ record { ledger = x; link = l })) o o′ → Walked ws ws′ (groupEnd addresses counts r) o′ → Walked ws ws′ (ledgerEnd addresses counts (objectRead r)) o
 unfolding Ran
 audit-ended ws ws′ addresses counts l (steps.the-variants.Done s) (done x bs) o′ n w =
     let u : Walked ws ws′ (groupEnd addresses counts (steps.the-variants.Done s)) (done (n .0) bs) = rw (n .1) at w in
@@ -68,72 +159,131 @@ audit-ended ws ws′ addresses counts l (steps.the-variants.Stopped k) (refused 
     let e : k ≡ m = cc (u .answer) in
     record { answer = ap stopped e; held = u .held; rest = u .rest }
 
--- lists that are ready stay so with more blocks
-ready-more : (ws addresses counts : List ℕ) (room count objects : ℕ) (ws₁ : List ℕ) (n : ℕ) → Ready ws addresses counts room count objects → Lent ws₁ n room → count ≤ n → Ready ws₁ addresses counts room n objects
-ready-more ws addresses counts room count objects ws₁ n h l g = record { lent = l; table = h .table; links = omega (arith, h .links, g) }
-
-group-ready : (ws addresses counts : List ℕ) (room : ℕ) (r : steps.Step) → groups.ReadyIf ws addresses counts room r → ReadyIf ws addresses counts room (objectRead r)
-group-ready ws addresses counts room (steps.the-variants.Done s) h = h
-group-ready ws addresses counts room (steps.the-variants.Stopped n) h = tt
-
--- what the dataset reader returns, as the object's
-abbrev pub datasetRead : ℕ → datasets.DatasetRead → ObjectRead
-datasetRead objects (datasets.the-variants.Read d n) = Done n objects
-datasetRead objects (datasets.the-variants.Stopped n) = Stopped n
-
-module _ (im : List ℕ) (s : superblocks.Superblock) (room : ℕ) (ws : List ℕ) (count objects : ℕ) (ws₁ : List ℕ) where
+module _ (im : List ℕ) (s : superblocks.Superblock) (room : ℕ) (ws addresses counts marks : List ℕ) (count objects : ℕ) where
   abbrev eof : ℕ
   eof = s .«end_of_file»
 
-  -- a group was read
-  pub group-is : (wanted addresses counts : List ℕ) (tree heap : ℕ) (addresses₁ counts₁ : List ℕ) (r : steps.Step) →
-      GroupIs im wanted ws addresses counts eof room (s .«leaf_k») (s .«internal_k») true tree heap count objects ws₁ addresses₁ counts₁ r →
-      LedgerWalked im ws addresses counts s room (contentWalk (superblockOf s) (group tree heap)) count objects ws₁ addresses₁ counts₁ (objectRead r)
-  unfolding contentWalk
-  group-is wanted addresses counts tree heap addresses₁ counts₁ r h =
-      let a = audit-part im eof room (s .«leaf_k») (s .«internal_k») tree heap (blocksOf count ws) wanted lookup.absent (linkedOf objects addresses counts) in
-      record { walked = audit-ended ws ws₁ addresses₁ counts₁ lookup.absent r _ _ a (h .walked); ready = group-ready ws₁ addresses₁ counts₁ room r (h .ready) }
+  abbrev f : Found
+  f = foundOf addresses counts marks objects
 
-  module _ (addresses counts : List ℕ) (y : Ready ws addresses counts room count objects) where
-    abbrev os : List Linked
-    os = linkedOf objects addresses counts
+  -- what w makes of what was found
+  abbrev Walks : (Found → Walk Found) → List ℕ → List ℕ → List ℕ → List ℕ → ObjectRead → Type 0
+  Walks w ws₁ addresses₁ counts₁ marks₁ r = FoundWalked im ws addresses counts marks s room w count objects ws₁ addresses₁ counts₁ marks₁ r
 
-    -- nothing more of the walk is left
-    nothing-left : (w : List Linked → Walk (List Linked)) (n : ℕ) → Simulation im eof room (w os) count ws (ret os) n ws₁ → LedgerWalked im ws addresses counts s room w count objects ws₁ addresses counts (Done n objects)
-    nothing-left w n m = record { walked = returned m; ready = ready-more ws addresses counts room count objects ws₁ n y (m .lent) (m .grown) }
+  module _ {spare : ℕ} (y : Listed ws addresses counts marks eof room count objects spare) where
+    begun : (w : Found → Walk Found) → Simulation im eof room (w f) count ws (w f) count ws
+    begun w = start im eof room (w f) count ws (y .lent)
+
+    -- a group was read
+    pub group-is : (wanted : List ℕ) (tree heap : ℕ) (ws₁ addresses₁ counts₁ : List ℕ) (r : steps.Step) → length ws₁ ≡ length ws →
+        GroupIs im wanted ws addresses counts eof room (s .«leaf_k») (s .«internal_k») true tree heap count objects ws₁ addresses₁ counts₁ r →
+        Walks (contentWalk (superblockOf s) (group tree heap)) ws₁ addresses₁ counts₁ marks (objectRead r)
+    unfolding contentWalk
+    group-is wanted tree heap ws₁ addresses₁ counts₁ (steps.the-variants.Done st) same h =
+        let part = audit-part im eof room (s .«leaf_k») (s .«internal_k») tree heap (blocksOf count ws) wanted lookup.absent (linkedOf objects addresses counts) in
+        let e = audit-ended ws ws₁ addresses₁ counts₁ lookup.absent (steps.the-variants.Done st) _ _ part (h .walked) in
+        record {
+          walked = returned (callee-done ws₁ (groupWalk (s .«leaf_k») (s .«internal_k») tree heap discover (f .objects)) _ (begun (contentWalk (superblockOf s) (group tree heap))) same e);
+          listed = ready-listed y (h .ready);
+        }
+    group-is wanted tree heap ws₁ addresses₁ counts₁ (steps.the-variants.Stopped x) same h =
+        let part = audit-part im eof room (s .«leaf_k») (s .«internal_k») tree heap (blocksOf count ws) wanted lookup.absent (linkedOf objects addresses counts) in
+        let e = audit-ended ws ws₁ addresses₁ counts₁ lookup.absent (steps.the-variants.Stopped x) _ _ part (h .walked) in
+        record {
+          walked = callee-stopped ws₁ (groupWalk (s .«leaf_k») (s .«internal_k») tree heap discover (f .objects)) _ (begun (contentWalk (superblockOf s) (group tree heap))) e;
+          listed = tt;
+        }
 
     -- a dataset was read
-    pub dataset-is : (b : List ℕ) (space type layout : Message) (r : datasets.DatasetRead) → length ws₁ ≡ length ws →
-        Walked ws ws₁ (datasetEnd b r) (run im eof room (datasetWalk space type layout) (blocksOf count ws)) →
-        LedgerWalked im ws addresses counts s room (contentWalk (superblockOf s) (dataset space type layout)) count objects ws₁ addresses counts (datasetRead objects r)
-    unfolding contentWalk
-    dataset-is b space type layout (datasets.the-variants.Read d n) same h =
-        nothing-left (contentWalk (superblockOf s) (dataset space type layout)) n (callee-done ws₁ (datasetWalk space type layout) _ (start im eof room (datasetWalk space type layout >> ret os) count ws (y .lent)) same h)
-    dataset-is b space type layout (datasets.the-variants.Stopped n) same h = record { walked = callee-stopped ws₁ (datasetWalk space type layout) _ (start im eof room (datasetWalk space type layout >> ret os) count ws (y .lent)) h; ready = tt }
+    module _ (space type layout : Message) where
+      abbrev w : Found → Walk Found
+      w = contentWalk (superblockOf s) (dataset space type layout)
 
-    -- the header of an object was read
-    module _ (at : ℕ) where
-      abbrev w : List Linked → Walk (List Linked)
-      w = objectWalk (superblockOf s) at
+      at-parts : Simulation im eof room (w f) count ws
+          (partsWalk space type >>= λ p. located (headAt type) (shareEach (sharedBy (p .type)) f) >>= λ f′. storageWalk (p .space) (p .type) layout >> ret f′) count ws
+      unfolding contentWalk sharingDataset
+      at-parts =
+          same-walk _ (parts-split space type (λ d t. located (headAt type) (shareEach (sharedBy t) f) >>= λ f′. storageWalk d t layout >> ret f′)) (begun w)
 
-      pub header-stopped : (x : Refusal) → Walked ws ws₁ (stopped x) (run im eof room (headerWalk at) (blocksOf count ws)) → LedgerWalked im ws addresses counts s room w count objects ws₁ addresses counts (Stopped x)
-      unfolding objectWalk
-      header-stopped x h = record { walked = callee-stopped ws₁ (headerWalk at) _ (start im eof room (w os) count ws (y .lent)) h; ready = tt }
+      pub parts-refused : (x : Refusal) → refuse x ≡ partsWalk space type → Walks w ws addresses counts marks (Stopped x)
+      parts-refused x e = record { walked = callee-refusal _ _ x (sym e) at-parts; listed = tt }
 
-      module _ (o : Object) (n : ℕ) (same : length ws₁ ≡ length ws) (h : Walked ws ws₁ (ended o n) (run im eof room (headerWalk at) (blocksOf count ws))) where
-        at-content : Simulation im eof room (w os) count ws (contentWalk (superblockOf s) o os) n ws₁
-        unfolding objectWalk
-        at-content = callee-done ws₁ (headerWalk at) _ (start im eof room (w os) count ws (y .lent)) same h
+      module _ (p : SpaceAndType) (e : ret p ≡ partsWalk space type) (addresses₁ counts₁ marks₁ : List ℕ) where
+        at-sharing : Simulation im eof room (w f) count ws
+            (located (headAt type) (shareEach (sharedBy (p .type)) f) >>= λ f′. storageWalk (p .space) (p .type) layout >> ret f′) count ws
+        at-sharing = callee-value _ _ p (sym e) at-parts
 
-        pub content-ready : Ready ws₁ addresses counts room n objects
-        content-ready = ready-more ws addresses counts room count objects ws₁ n y (at-content .lent) (at-content .grown)
+        pub sharing-refused : (n : ℕ) → answer n ≡ shareEach (sharedBy (p .type)) f → Walks w ws addresses₁ counts₁ marks₁ (Stopped (fault n (headAt type)))
+        sharing-refused n g = record { walked = callee-refusal _ _ (fault n (headAt type)) (ap (located (headAt type)) (sym g)) at-sharing; listed = tt }
 
-        pub content-read : (ws₂ addresses₂ counts₂ : List ℕ) (r : ObjectRead) → LedgerWalked im ws₁ addresses counts s room (contentWalk (superblockOf s) o) n objects ws₂ addresses₂ counts₂ r →
-            LedgerWalked im ws addresses counts s room w count objects ws₂ addresses₂ counts₂ r
-        content-read ws₂ addresses₂ counts₂ r c = record { walked = callee-last ws₂ at-content (c .walked); ready = c .ready }
+        module _ (objects₁ : ℕ) (g : value (foundOf addresses₁ counts₁ marks₁ objects₁) ≡ shareEach (sharedBy (p .type)) f) (ws₁ : List ℕ) where
+          abbrev f₁ : Found
+          f₁ = foundOf addresses₁ counts₁ marks₁ objects₁
+
+          at-storage : Simulation im eof room (w f) count ws (storageWalk (p .space) (p .type) layout >> ret f₁) count ws
+          at-storage = callee-value _ _ f₁ (ap (located (headAt type)) (sym g)) at-sharing
+
+          pub storage-stopped : (x : Refusal) → Walked ws ws₁ (stopped x) (run im eof room (storageWalk (p .space) (p .type) layout) (blocksOf count ws)) →
+              Walks w ws₁ addresses₁ counts₁ marks₁ (Stopped x)
+          storage-stopped x h = record { walked = callee-stopped ws₁ _ _ at-storage h; listed = tt }
+
+          pub storage-read : (d : Rattle.format.specs.Dataset.Dataset) (n : ℕ) → length ws₁ ≡ length ws →
+              Walked ws ws₁ (ended d n) (run im eof room (storageWalk (p .space) (p .type) layout) (blocksOf count ws)) →
+              Kept addresses counts objects spare addresses₁ counts₁ marks₁ objects₁ → Walks w ws₁ addresses₁ counts₁ marks₁ (Done n objects₁)
+          storage-read d n same h k =
+              let m = callee-done ws₁ _ _ at-storage same h in
+              record { walked = returned m; listed = listed-more (listed-counted y k) (m .lent) (m .blocks) }
+
+    -- the kind is known: of an object that is no committed datatype
+    module _ (i at : ℕ) (o : Object) (e : known i o f ≡ notCommitted i f) (marks₁ : List ℕ) where
+      pub shared-before : KindKnown marks i marks₁ false → Walks (behindHeader s i at o) ws addresses counts marks₁ (Stopped (fault 10 at))
+      shared-before k = record {
+        walked = callee-refusal _ _ (fault 10 at) (ap (located at) (e ∙ sym (k .walk (f .objects)))) (begun (behindHeader s i at o));
+        listed = tt;
+      }
+
+      pub not-shared : KindKnown marks i marks₁ true → (ws₂ addresses₂ counts₂ marks₂ : List ℕ) (r : ObjectRead) →
+          FoundWalked im ws addresses counts marks₁ s room (contentWalk (superblockOf s) o) count objects ws₂ addresses₂ counts₂ marks₂ r →
+          Walks (behindHeader s i at o) ws₂ addresses₂ counts₂ marks₂ r
+      not-shared k ws₂ addresses₂ counts₂ marks₂ r c =
+          let m = callee-value _ _ (foundOf addresses counts marks₁ objects) (ap (located at) (e ∙ sym (k .walk (f .objects)))) (begun (behindHeader s i at o)) in
+          record { walked = callee-last ws₂ m (c .walked); listed = c .listed }
+
+    -- the header was read
+    module _ (i at : ℕ) (ws₁ : List ℕ) where
+      abbrev whole : Found → Walk Found
+      whole = objectWalk (superblockOf s) i at
+
+      abbrev header : Walk (Headed Found)
+      header = headerWith (visitMessage true) at f
+
+      at-header : Simulation im eof room (whole f) count ws (header >>= λ h. behindHeader s i at (h .object) (h .found)) count ws
+      unfolding objectWalk visitMessage
+      at-header = begun whole
+
+      pub header-stopped : (addresses₁ counts₁ marks₁ : List ℕ) (x : Refusal) → Walked ws ws₁ (stopped x) (run im eof room header (blocksOf count ws)) →
+          Walks whole ws₁ addresses₁ counts₁ marks₁ (Stopped x)
+      header-stopped addresses₁ counts₁ marks₁ x h = record { walked = callee-stopped ws₁ _ _ at-header h; listed = tt }
+
+      module _ (o : Object) (n : ℕ) (addresses₁ counts₁ marks₁ : List ℕ) (objects₁ : ℕ) (same : length ws₁ ≡ length ws)
+          (h : Walked ws ws₁ (ended (record { object = o; found = foundOf addresses₁ counts₁ marks₁ objects₁ }) n) (run im eof room header (blocksOf count ws))) where
+        at-kind : Simulation im eof room (whole f) count ws (behindHeader s i at o (foundOf addresses₁ counts₁ marks₁ objects₁)) n ws₁
+        at-kind = callee-done ws₁ _ _ at-header same h
+
+        pub kind-listed : (left : ℕ) → Counting ws₁ addresses₁ counts₁ marks₁ eof n objects₁ left → Listed ws₁ addresses₁ counts₁ marks₁ eof room n objects₁ left
+        kind-listed left c = record { lent = at-kind .lent; counting = c }
+
+        pub kind-read : (ws₂ addresses₂ counts₂ marks₂ : List ℕ) (r : ObjectRead) →
+            FoundWalked im ws₁ addresses₁ counts₁ marks₁ s room (behindHeader s i at o) n objects₁ ws₂ addresses₂ counts₂ marks₂ r →
+            Walks whole ws₂ addresses₂ counts₂ marks₂ r
+        kind-read ws₂ addresses₂ counts₂ marks₂ r c = record { walked = callee-last ws₂ at-kind (c .walked); listed = c .listed }
 
       -- a committed datatype has nothing behind its header
-      pub committed-read : (n : ℕ) → length ws₁ ≡ length ws → Walked ws ws₁ (ended committed n) (run im eof room (headerWalk at) (blocksOf count ws)) →
-          LedgerWalked im ws addresses counts s room w count objects ws₁ addresses counts (Done n objects)
-      unfolding contentWalk
-      committed-read n same h = nothing-left w n (at-content committed n same h)
+      pub committed-read : (n : ℕ) (addresses₁ counts₁ marks₁ : List ℕ) (objects₁ : ℕ) → length ws₁ ≡ length ws →
+          Walked ws ws₁ (ended (record { object = committed; found = foundOf addresses₁ counts₁ marks₁ objects₁ }) n) (run im eof room header (blocksOf count ws)) →
+          (left : ℕ) → Counting ws₁ addresses₁ counts₁ marks₁ eof n objects₁ left → Walks whole ws₁ addresses₁ counts₁ marks₁ (Done n objects₁)
+      unfolding contentWalk _>>=_
+      committed-read n addresses₁ counts₁ marks₁ objects₁ same h left c = record {
+        walked = returned (at-kind committed n addresses₁ counts₁ marks₁ objects₁ same h);
+        listed = listed-less (kind-listed committed n addresses₁ counts₁ marks₁ objects₁ same h left c) 0 (omega arith);
+      }

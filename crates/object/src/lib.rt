@@ -1,3 +1,2 @@
 // The objects of an audit, each walked once.
 pub mod object;
-pub mod objects;

@@ -3,6 +3,7 @@ use Prim.Native.Nat.{ℕ, _+_, _≤_, _<_, _^_}
 use mathlib.Core.Bool.{Bool, true, false, not}
 use mathlib.Core.List.{List, [], _∷_}
 use mathlib.Core.Path.{_≡_, refl, sym}
+use native.Mathlib.Omega.{arith}
 use borrow.Author.Tests.{leb-true}
 use lib.Dec.{eqb, leb, lit≤, lit<}
 use lib.ListN.{length}
@@ -11,6 +12,7 @@ use Rattle.format.specs.Bytes.{if_then_else_, allHold, inRange, littleEndian, p
 use Rattle.format.specs.Superblock.{Superblock, versionShift, Opening, opened, notOpened, signature, superblockRead, superblockSound, superblockFields, openImage}
 use Rattle.walk.specs.Numbers.{Number}
 use Rattle.walk.proofs.Tests.{all-held}
+use Rattle.laws.proofs.ImageLength.{image-small}
 use Rattle.superblock.specs.Superblock.{Shifted}
 
 -- a field behind byte 23 has the value that was read with the shift
@@ -63,3 +65,11 @@ end-inside im s e h =
     let d = all-held (leb (u32 im (72 + versionShift im)) 1) _ (c .1) in
     let f = all-held (leb (u64 im (40 + versionShift im)) (length im)) [] (d .1) in
     rw e (leb-true _ _ (f .0))
+
+pub size-least : (im : List ℕ) (s : Superblock) → s ≡ superblockFields im → 1 ≤ s .size
+unfolding superblockFields
+size-least im s e = rw e (omega arith)
+
+-- the end of file of an image that isn't too long fits 32 bits
+pub end-small : (im : List ℕ) (eof : ℕ) → eof ≤ length im → inRange imageLeast imageMost (length im) ≡ true → eof < 2 ^ 32
+end-small im eof h e = omega (arith, image-small (length im) e)

@@ -1,5 +1,5 @@
 -- What the reader's answers mean: document 01's numbers and values for each case.
-use Prim.Native.Nat.{ℕ, _≤_, _<_}
+use Prim.Native.Nat.{ℕ, _^_, _≤_, _<_}
 use mathlib.Core.Path.{_≡_}
 use mathlib.Core.List.{List}
 use lib.ListN.{length}
@@ -21,7 +21,8 @@ abbrev pub openingOf : Opening → Rattle.format.specs.Superblock.Opening
 openingOf (Opened s) = opened (superblockOf s)
 openingOf (NotOpened n) = notOpened n
 
--- the Ks of an opened image have two bytes, and its end of file lies no further than the image's
+-- the Ks of an opened image have two bytes, its end of file lies no further than the image's and fits 32 bits, and its superblock has bytes
 abbrev pub FieldsBounded : List ℕ → Opening → Type 0
-FieldsBounded im (Opened s) = (s .«leaf_k» < 65536) × (s .«internal_k» < 65536) × (s .«end_of_file» ≤ length im)
+FieldsBounded im (Opened s) =
+    (s .«leaf_k» < 65536) × (s .«internal_k» < 65536) × (s .«end_of_file» ≤ length im) × (s .«end_of_file» < 2 ^ 32) × (1 ≤ s .size)
 FieldsBounded im (NotOpened n) = Unit {0}

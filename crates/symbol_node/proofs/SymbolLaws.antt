@@ -1,24 +1,25 @@
 -- The steps of the code that reads a symbol table node against the steps of its walk.
-use Prim.Native.Nat.{ℕ, _+_, _-_, _*_, _≤_, _<_}
-use mathlib.Core.List.{List}
+use Prim.Native.Nat.{ℕ, _+_, _-_, _*_, _^_, _≤_, _<_}
+use mathlib.Core.List.{List, [], _∷_}
 use mathlib.Core.Path.{_≡_, refl, ap, sym, _∙_}
 use native.Mathlib.Omega.{arith}
-use lib.Dec.{eqb, lit<}
+use lib.Dec.{eqb}
 use lib.ListN.{getD, drop}
-use Rattle.format.specs.Limits.{blocksMost}
 use Rattle.format.specs.Bytes.{inRange, part, u8, u16, u32}
-use Rattle.format.specs.Blocks.{entryAnswer}
+use Rattle.format.specs.Blocks.{Block, block, entryAnswer}
 use Rattle.format.specs.declared.Refusal.{Refusal}
-use Rattle.format.specs.Walk.{fault, Walk, ret, refuse, shown, check, _>>=_, _>>_, run}
+use Rattle.format.specs.Walk.{fault, symbolBlock, Walk, ret, refuse, shown, check, _>>=_, _>>_, run}
 use Rattle.format.specs.Names.{Bound}
 use Rattle.format.specs.Entry.{GroupState}
 use Rattle.format.specs.Symbols.{SNOD, entries, symbolWalk}
-use Rattle.walk.specs.Lent.{blocksOf, Lent, Walked, stopped, entering, entered}
+use Rattle.walk.specs.Lent.{blocksOf, lengthSum, Lent, Walked, stopped, entering, entered}
 use Rattle.walk.specs.Numbers.{Number}
 use Rattle.walk.specs.declared.blocks.Entry.the-variants.{Entered, Refused}
-use Rattle.walk.proofs.BlockList.{entered-zero}
 use Rattle.walk.proofs.Parts.{part-byte, part-number, part-first-number, drop-part}
-use Rattle.laws.proofs.Simulation.{Simulation, start, same-walk, returned, refusal, passed, failed, block-entered, block-refused, entered-inside}
+use Rattle.laws.proofs.Disjoint.{Fresh}
+use Rattle.laws.proofs.Growth.{Inside, Grown}
+use Rattle.laws.proofs.SumOfLengths.{lengths-append, lengths-inside}
+use Rattle.laws.proofs.Simulation.{Simulation, start, same-walk, returned, refusal, passed, failed, entered-blocks, entered-grown, block-entered, block-refused, entered-inside}
 use Rattle.walk.proofs.Tests.{field-equal, field-unequal, range-below, range-above, range-inside}
 use Rattle.ledger.specs.Links.{linkSum}
 use Rattle.ledger.specs.Table.{linkedOf}
@@ -30,11 +31,6 @@ use Rattle.symbol.specs.declared.entry.State.{State}
 use Rattle.symbol.specs.declared.entry.Step.{Step}
 use Rattle.symbol.specs.declared.entry.Step.the-variants.{Done, Stopped}
 
--- blocks are few enough for 32 bits of links
-pub blocks-few : blocksMost < 65536
-unfolding blocksMost
-blocks-few = lit< tt
-
 module _ (im : List ℕ) (eof room : ℕ) (ws : List ℕ) (count at : ℕ) (l : Lent ws count room) (k : ℕ) where
   abbrev size : ℕ
   size = 8 + 80 * k
@@ -44,8 +40,13 @@ module _ (im : List ℕ) (eof room : ℕ) (ws : List ℕ) (count at : ℕ) (l : 
 
   module _ (ws₁ : List ℕ) (q : ws₁ ≡ entered (entryAnswer eof room (blocksOf count ws) at size) ws count at size) where
     module _ (m : ℕ) (e : Entered m ≡ entering (entryAnswer eof room (blocksOf count ws) at size) 7 at size (blocksOf count ws) count) where
-      pub symbols-counted : m ≡ count + 1
-      symbols-counted = entered-zero 7 at size (blocksOf count ws) (entryAnswer eof room (blocksOf count ws) at size) count m e .1
+      pub symbols-grown : Grown eof room (blocksOf count ws) (blocksOf m ws₁)
+      symbols-grown = entered-grown eof room symbolBlock at size count ws ws₁ l q m e
+
+      pub symbols-lengths : lengthSum (blocksOf m ws₁) ≡ lengthSum (blocksOf count ws) + size
+      unfolding lengthSum
+      symbols-lengths =
+          rw (entered-blocks eof room symbolBlock at size count ws ws₁ l q m e) (lengths-append (blocksOf count ws) (block at size ∷ []) ∙ omega arith)
 
     -- for any group with this K, any keys and any state
     module _ (g : Rattle.format.specs.Entry.Group Both) (kk : g .leafK ≡ k) (bounds : List Bound) (s : GroupState Both) where
@@ -118,12 +119,24 @@ module _ (im : List ℕ) (eof room : ℕ) (ws : List ℕ) (count at : ℕ) (l : 
                 symbols-end seg addresses counts (Done t) c v = rw (c t refl) (returned (same-walk (ret (stateOf seg addresses counts t)) (sym v) at-entries))
                 symbols-end seg addresses counts (Stopped y) c v = refusal (same-walk (refuse y) (sym v) at-entries)
 
--- what is kept of a state is sound again, with one block more
-pub sound-after : (seg ws addresses counts : List ℕ) (g : Group) (s : State) (n : ℕ) (addresses′ counts′ : List ℕ) (x : Step) → Lent ws (s .count) (g .room) →
-    linkSum (linkedOf (s .objects) addresses counts) + n ≤ 65536 * s .count → KeptIf seg addresses counts s n addresses′ counts′ x → SoundIf seg ws addresses′ counts′ g x
-sound-after seg ws addresses counts g s n addresses′ counts′ (Done t) l h k =
-    record { lent = rw (k .blocks) l; last = k .last; table = k .table; links = rw (k .blocks) (omega (arith, k .links)) }
-sound-after seg ws addresses counts g s n addresses′ counts′ (Stopped y) l h k = tt
+-- links that are no more than the bytes of the blocks entered fit 32 bits
+pub links-small : (eof : ℕ) (bs : List Block) (x : ℕ) → Fresh [] bs → Inside eof bs → eof < 2 ^ 32 → x ≤ lengthSum bs → x < 2 ^ 32
+links-small eof bs x f i h k = omega (arith, lengths-inside eof bs f i)
+
+-- what is kept of a state is sound again, with the links of one block more
+module _ (seg ws addresses counts : List ℕ) (g : Group) (s : State) (n : ℕ) (addresses′ counts′ : List ℕ) where
+  pub sound-after : (x : Step) → Lent ws (s .count) (g .room) → Fresh [] (blocksOf (s .count) ws) → Inside (g .«end_of_file») (blocksOf (s .count) ws) →
+      linkSum (linkedOf (s .objects) addresses counts) + n ≤ lengthSum (blocksOf (s .count) ws) →
+      KeptIf seg addresses counts s n addresses′ counts′ x → SoundIf seg ws addresses′ counts′ g x
+  sound-after (Done t) l f i h k = record {
+    lent = rw (k .blocks) l;
+    last = k .last;
+    table = k .table;
+    apart = rw (k .blocks) f;
+    inside = rw (k .blocks) i;
+    links = rw (k .blocks) (omega (arith, k .links));
+  }
+  sound-after (Stopped y) l f i h k = tt
 
 pub kept-count : (seg addresses counts : List ℕ) (s : State) (n : ℕ) (addresses′ counts′ : List ℕ) (x : Step) → KeptIf seg addresses counts s n addresses′ counts′ x → (t : State) → x ≡ Done t → t .count ≡ s .count
 kept-count seg addresses counts s n addresses′ counts′ (Done u) k t e = let f : u ≡ t = cc in sym (ap (λ (y : State). y .count) f) ∙ k .blocks

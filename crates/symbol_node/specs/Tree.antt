@@ -1,16 +1,17 @@
 -- What the descent over a group's tree returns.
-use Prim.Native.Nat.{ℕ, suc, _+_, _*_, _≤_, _<_}
-use mathlib.Core.List.{List, _∷_}
+use Prim.Native.Nat.{ℕ, suc, _+_, _^_, _≤_, _<_}
+use mathlib.Core.List.{List, [], _∷_}
 use mathlib.Core.Path.{_≡_}
 use lib.ListN.{length}
-use Rattle.format.specs.Limits.{blocksMost}
 use Rattle.format.specs.Bytes.{u8, u16, u64}
 use Rattle.format.specs.Walk.{run}
 use Rattle.format.specs.Names.{Bound, stringAt}
 use Rattle.format.specs.Entry.{GroupState}
 use Rattle.format.specs.Symbols.{symbolWalk}
 use Rattle.format.specs.Tree.{subtree, treeWalk}
-use Rattle.walk.specs.Lent.{blocksOf, Lent, Ended, ended, stopped, Walked}
+use Rattle.walk.specs.Lent.{blocksOf, lengthSum, Lent, Ended, ended, stopped, Walked}
+use Rattle.laws.proofs.Disjoint.{Fresh}
+use Rattle.laws.proofs.Growth.{Inside}
 use Rattle.free_list.specs.FreeBlocks.{Chained}
 use Rattle.ledger.specs.Links.{linkSum}
 use Rattle.ledger.specs.Table.{linkedOf, Table}
@@ -23,17 +24,20 @@ use Rattle.symbol.specs.declared.entry.State.{State}
 use Rattle.symbol.specs.declared.entry.Step.{Step}
 use Rattle.symbol.specs.declared.entry.Step.the-variants.{Done, Stopped}
 
--- What holds of a state on the way down. A block has 65,535 entries at most, so that the number of links is bounded by the blocks entered.
+-- What holds of a state on the way down. An entry has 40 bytes of a block, so that the links found are at most the bytes of the blocks
+-- entered; these lie inside the end of file, each once.
 pub record Sound (seg ws addresses counts : List ℕ) (g : Group) (s : State) : Type 0 where
   pub lent : Lent ws (s .count) (g .room)
   pub last : NameInside seg (s .last)
   pub table : Table addresses counts (s .objects)
-  pub links : linkSum (linkedOf (s .objects) addresses counts) ≤ 65536 * s .count
+  pub apart : Fresh [] (blocksOf (s .count) ws)
+  pub inside : Inside (g .«end_of_file») (blocksOf (s .count) ws)
+  pub links : linkSum (linkedOf (s .objects) addresses counts) ≤ lengthSum (blocksOf (s .count) ws)
 
 -- what holds all the way down
 pub record Fixed (im seg : List ℕ) (g : Group) : Type 0 where
-  pub room : g .room ≤ blocksMost
   pub file : g .«end_of_file» ≤ length im
+  pub small : g .«end_of_file» < 2 ^ 32
   pub leaf : g .«leaf_k» < 65536
   pub internal : g .«internal_k» < 65536
   pub chained : Chained (g .free) seg (g .head)

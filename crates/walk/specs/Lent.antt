@@ -14,6 +14,11 @@ unfoldable pub blocksOf : ℕ → List ℕ → List Block
 blocksOf zero ws = []
 blocksOf (suc c) ws = block (getD ws 0 0) (getD ws 1 0) ∷ blocksOf c (drop 2 ws)
 
+-- the lengths of blocks, summed
+unfoldable pub lengthSum : List Block → ℕ
+lengthSum [] = 0
+lengthSum (b ∷ bs) = b .size + lengthSum bs
+
 -- a list of words with room for so many blocks, of which count are entered
 pub record Lent (ws : List ℕ) (count room : ℕ) : Type 0 where
   pub counted : count ≤ room

@@ -1,11 +1,14 @@
 -- The superblock is the first block; then the table holds the root, and the objects are walked.
+use denote.Ref.{now}
+use mathlib.Core.Path.{refl}
+use lib.ListN.{length}
+use Rattle.format.specs.Limits.{objectsMost}
+use Rattle.object.proofs.ObjectLaws.{opened, room-lent}
+use Rattle.audit.proofs.WalkLaws.{superblock-stopped, root-listed, objects-read}
+use native.Mathlib.Omega.{arith}
 use borrow.Author.Needs.{needs}
 use Rattle.audit.proofs.walk_image.Statement.{statement}
 use Rattle.audit.proofs.walk_image.Tie as tie
-use denote.Ref.{now}
-use lib.ListN.{length}
-use Rattle.object.proofs.ObjectLaws.{opened, room-lent}
-use Rattle.audit.proofs.WalkLaws.{superblock-stopped, root-ready, objects-read}
 
 room-requires : tie.Need-room-requires
 room-requires c κs = search needs
@@ -22,14 +25,30 @@ enum-known-n c = search needs
 start-requires : tie.Need-start-requires
 start-requires c κs = search needs
 
+slice-aggregate-read : tie.Need-slice-aggregate-read
+slice-aggregate-read c = search needs
+
 read-requires : tie.Need-read-requires
-read-requires c κs = (opened (now (c .before .before .before .before .before .before .before .before .before .before .before .before .before .before .before .before .before .before .before .before .before .before .args .image)) (c .before .before .before .before .before .before .before .before .before .before .before .before .before .before .before .before .before .before .before .before .before .before .args .superblock) _ (length (now (c .before .before .before .before .before .before .before .before .before .before .before .before .before .before .before .before .before .before .before .before .before .before .args .list))) (c .before .before .before .before .before .before .before .before .before .before .before .before .before .before .before .before .before .room .ensures) (c .before .before .before .before .before .before .before .before .before .before .before .before .before .before .before .before .before .before .before .before .before .before .pre .0), root-ready (now (c .before .before .before .before .before .before .before .before .before .before .before .before .before .before .before .before .before .before .before .before .before .before .args .image)) (now (c .before .before .before .before .before .before .before .before .before .before .before .before .before .before .before .before .before .before .before .before .before .before .args .list)) (c .before .before .before .before .before .before .before .before .before .before .before .before .before .before .before .before .before .before .before .before .before .before .args .superblock) _ (c .before .before .before .before .before .before .before .before .before .before .before .before .before .before .before .before .before .room .ensures) (c .before .before .before .before .before .before .before .before .before .before .before .before .before .before .before .enter-superblock .last .1 .0) (c .before .before .before .before .before .before .before .before .before .before .before .n .given .0 .0) (c .before .before .before .before .before .before .before .before .before .before .before .before .before .before .before .enter-superblock .kept .1 .0) ((rw (c .before .before .before .before .before .before .before .before .before .before .before .n .given .1) at (c .before .before .before .before .before .before .before .before .before .before .before .before .before .before .before .enter-superblock .ensures)) (now (c .before .before .before .before .before .before .before .before .before .before .before .before .before .before .before .before .before .before .before .before .before .before .args .image))) (now (c .before .before .before .before .before .before .before .before .before .before .before .before .before .before .before .before .before .before .before .before .before .before .args .addresses)) (now (c .before .before .before .before .before .before .before .before .before .before .before .before .before .before .before .before .before .before .before .before .before .before .args .true-counts)) (c .before .before .before .before .before .before .before .start .last .0) (c .before .before .before .before .before .before .before .start .last .1 .0) (c .before .before .before .before .before .before .before .start .ensures))
+unfolding objectsMost
+read-requires c κs =
+    let n = c .before .before .before .before .before .before .before .before .before .before .before .before in
+    let s = n .before .before .before .before .before .before .before .before .before .before .before in
+    let room = n .before .before .before .before .before .before .room .ensures in
+    let enter = n .before .before .before .before in
+    let one = rw (n .n .given .1) at (enter .enter-superblock .ensures) in (
+      opened (now (s .args .image)) (s .args .superblock) _ (length (now (s .args .list))) room (s .pre .0),
+      root-listed (now (s .args .image)) (now (s .args .list)) (s .args .superblock) _ room (enter .enter-superblock .last .1 .0) _ (enter .enter-superblock .kept .1 .0) (one (now (s .args .image))) _ _ _ _ _ (c .before .before .before .before .before .before .before .before .start .ensures) refl (s .pre .0 .4) (s .pre .0 .3),
+    )
 
 same-length : tie.Need-same-length
 same-length c = search needs
 
 returns : tie.Need-returns
-returns c = superblock-stopped (now (c .before .before .before .before .before .before .before .before .before .before .before .before .args .image)) (now (c .before .before .before .before .before .before .before .before .before .before .before .before .args .list)) (c .before .before .before .before .before .before .before .before .before .before .before .before .args .superblock) _ (c .before .before .before .before .before .before .before .room .ensures) (c .before .before .before .before .before .enter-superblock .last .1 .0) _ _ _ ((rw (c .before .x .given .1) at (c .before .before .before .before .before .enter-superblock .ensures)) (now (c .before .before .before .before .before .before .before .before .before .before .before .before .args .image)))
+returns c =
+    let s = c .before .before .before .before .before .before .before .before .before .before .before .before in
+    let enter = c .before .before .before .before .before in
+    superblock-stopped (now (s .args .image)) (now (s .args .list)) (s .args .superblock) _ (c .before .before .before .before .before .before .before .room .ensures) (enter .enter-superblock .last .1 .0) _ _ _
+    ((rw (c .before .x .given .1) at (enter .enter-superblock .ensures)) (now (s .args .image)))
 
 same-length-2 : tie.Need-same-length-2
 same-length-2 c = search needs
@@ -41,7 +60,15 @@ same-length-4 : tie.Need-same-length-4
 same-length-4 c = search needs
 
 returns-2 : tie.Need-returns-2
-returns-2 c = objects-read (now (c .before .before .before .before .before .before .before .before .before .before .before .before .before .before .before .before .before .before .before .before .before .before .before .before .before .before .before .before .before .args .image)) (now (c .before .before .before .before .before .before .before .before .before .before .before .before .before .before .before .before .before .before .before .before .before .before .before .before .before .before .before .before .before .args .list)) (c .before .before .before .before .before .before .before .before .before .before .before .before .before .before .before .before .before .before .before .before .before .before .before .before .before .before .before .before .before .args .superblock) _ (c .before .before .before .before .before .before .before .before .before .before .before .before .before .before .before .before .before .before .before .before .before .before .before .before .room .ensures) (c .before .before .before .before .before .before .before .before .before .before .before .before .before .before .before .before .before .before .before .before .before .before .enter-superblock .last .1 .0) (c .before .before .before .before .before .before .before .before .before .before .before .before .before .before .before .before .before .before .n .given .0 .0) (c .before .before .before .before .before .before .before .before .before .before .before .before .before .before .before .before .before .before .before .before .before .before .enter-superblock .kept .1 .0) ((rw (c .before .before .before .before .before .before .before .before .before .before .before .before .before .before .before .before .before .before .n .given .1) at (c .before .before .before .before .before .before .before .before .before .before .before .before .before .before .before .before .before .before .before .before .before .before .enter-superblock .ensures)) (now (c .before .before .before .before .before .before .before .before .before .before .before .before .before .before .before .before .before .before .before .before .before .before .before .before .before .before .before .before .before .args .image))) (now (c .before .before .before .before .before .before .before .before .before .before .before .before .before .before .before .before .before .before .before .before .before .before .before .before .before .before .before .before .before .args .addresses)) (now (c .before .before .before .before .before .before .before .before .before .before .before .before .before .before .before .before .before .before .before .before .before .before .before .before .before .before .before .before .before .args .true-counts)) (c .before .before .before .before .before .before .before .before .before .before .before .before .before .before .start .last .0) (c .before .before .before .before .before .before .before .before .before .before .before .before .before .before .start .last .1 .0) (c .before .before .before .before .before .before .before .before .before .before .before .before .before .before .start .ensures) _ _ _ _ (c .before .before .before .before .before .before .read .ensures)
+unfolding objectsMost
+returns-2 c =
+    let n = c .before .before .before .before .before .before .before .before .before .before .before .before .before .before .before .before .before .before .before .before in
+    let s = n .before .before .before .before .before .before .before .before .before .before .before in
+    let room = n .before .before .before .before .before .before .room .ensures in
+    let enter = n .before .before .before .before in
+    let one = rw (n .n .given .1) at (enter .enter-superblock .ensures) in
+    objects-read (now (s .args .image)) (now (s .args .list)) (s .args .superblock) _ room (enter .enter-superblock .last .1 .0) _ (enter .enter-superblock .kept .1 .0) (one (now (s .args .image))) _ _ _ _ _ (c .before .before .before .before .before .before .before .before .before .before .before .before .before .before .before .before .start .ensures) refl _ _ _ _ (c .before .before .before .before .before .before .before .read .result)
+    (c .before .before .before .before .before .before .before .read .kept .1 .0) (c .before .before .before .before .before .before .before .read .ensures)
 
 pub walk-image-spec : {M : Type 1} → statement M
 walk-image-spec =
@@ -52,6 +79,7 @@ walk-image-spec =
     enum-known-x
     enum-known-n
     start-requires
+    slice-aggregate-read
     read-requires
     same-length
     returns

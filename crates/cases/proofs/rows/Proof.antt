@@ -7,7 +7,7 @@ use Rattle.format.specs.Blocks.{overlaps, overlapsAny, entryAnswer, roomOf, blo
 use Rattle.format.specs.Result as results
 use Rattle.format.specs.Walk.{blankCount, shown, _>>=_, run}
 use Rattle.format.specs.Superblock.{signature, versionShift, versionsRead, sizesRead, addressesRead, superblockRead, superblockSound, superblockFields, openImage, superblockWalk}
-use Rattle.format.specs.Header.{messages, continuations, headerContents, headerMessages, hasCounts, objectOf, headerWalk}
+use Rattle.format.specs.Header.{messages, continuations, headerContents, headerMessages, hasCounts, objectOf, headerWith, headerWalk}
 use Rattle.format.specs.Message.{treatment, readMessage, ofType, theMessage}
 use Rattle.format.specs.FreeList.{freeBlocks, freeList}
 use Rattle.format.specs.Heap.{HEAP, heapWalk}
@@ -16,11 +16,13 @@ use Rattle.format.specs.Entry.{readValue, readEntry}
 use Rattle.format.specs.Symbols.{SNOD, entries, symbolWalk}
 use Rattle.format.specs.Tree.{TREE, keysWalk, children, nodeWalk, branches, subtree, treeWalk, groupWalk}
 use Rattle.format.specs.Dataspace.{product, readDataspace}
-use Rattle.format.specs.Datatype.{readDatatype}
+use Rattle.format.specs.Datatype.{readDatatype, readShared}
 use Rattle.format.specs.Layout.{readContiguous, readLayout}
-use Rattle.format.specs.Dataset.{dataWalk, datasetWalk}
+use Rattle.format.specs.Dataset.{dataWalk, readType, storageWalk, datasetWalk}
+use Rattle.format.specs.Attribute.{readSharedPart, readAttribute}
 use Rattle.format.specs.Ledger.{inLedger, addLink, countLink, discover}
-use Rattle.format.specs.Object.{contentWalk, objectWalk}
+use Rattle.format.specs.Sharing.{placeOf, share, shareEach, discoverSharing, notCommitted}
+use Rattle.format.specs.Object.{sharingDataset, contentWalk, objectWalk}
 use Rattle.format.specs.Audit.{objectsWalk, auditWalk, auditRun, countedIn}
 use Rattle.format.specs.Path.{pathParts, isComponent, allComponents, parsePath}
 use Rattle.format.specs.Lookup.{compareName, findWalk, targetWalk, componentWalk, follow, locateWalk, lookupRun}
@@ -40,9 +42,10 @@ all-agree : T (agree table)
 unfolding imageLeast imageMost inputMost levelMost rankMost objectsMost blocksMost nameMost pathMost allHold littleEndian toBytes toWords
     overwrite undefinedAddress sameBytes contains overlaps overlapsAny entryAnswer roomOf blockWords blankCount shown results._>>=_ _>>=_ run
     signature versionShift versionsRead sizesRead addressesRead superblockRead superblockSound superblockFields openImage superblockWalk treatment readMessage messages ofType
-    theMessage continuations headerContents headerMessages hasCounts objectOf headerWalk HEAP freeBlocks freeList heapWalk beforeNul stringAt
+    theMessage continuations headerContents headerMessages hasCounts objectOf headerWith headerWalk HEAP freeBlocks freeList heapWalk beforeNul stringAt
     keyText isName nameText below within SNOD readValue readEntry entries symbolWalk TREE keysWalk children nodeWalk branches
-    subtree treeWalk groupWalk product readDataspace readDatatype readContiguous readLayout dataWalk datasetWalk inLedger addLink
+    subtree treeWalk groupWalk product readDataspace readDatatype readShared readContiguous readLayout dataWalk readType storageWalk datasetWalk
+    readSharedPart readAttribute placeOf share shareEach discoverSharing notCommitted sharingDataset inLedger addLink
     countLink discover contentWalk objectWalk objectsWalk auditWalk auditRun countedIn pathParts isComponent allComponents
     parsePath compareName findWalk targetWalk componentWalk follow locateWalk lookupRun datasetOf describeWalk describeRun
     logWords changes written restored corrections fits allFit undoNumber undone audit lookup describe mend undo objectWords digit

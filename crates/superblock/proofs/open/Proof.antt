@@ -10,7 +10,7 @@ use Rattle.format.specs.Limits.{imageLeast, imageMost}
 use Rattle.format.specs.Bytes.{inRange, littleEndian, u64}
 use Rattle.format.specs.Superblock.{opened, signature, superblockSound}
 use Rattle.walk.proofs.Tests.{range-below, range-above, range-inside, field-equal, field-unequal}
-use Rattle.superblock.proofs.SuperblockLaws.{superblock-fits, opening-1, opening-2, opening-3, opening-4, opening-done, end-inside}
+use Rattle.superblock.proofs.SuperblockLaws.{superblock-fits, opening-1, opening-2, opening-3, opening-4, opening-done, end-inside, end-small, size-least}
 use native.Mathlib.Omega.{arith}
 use borrow.Author.Needs.{needs}
 use Rattle.superblock.proofs.open.Statement.{statement}
@@ -81,9 +81,13 @@ returns-6 c =
     let fifth = c .before in
     let fourth = fifth .before .before in
     let third = fourth .before .before .before in
-    let sound : superblockSound (now (third .before .before .before .before .before .before .before .before .args .image)) ≡ true = sym (fifth .before .superblock-sound .ensures) ∙ not-false _ (fifth .if5 .left) in
+    let image = now (third .before .before .before .before .before .before .before .before .args .image) in
+    let sound : superblockSound image ≡ true = sym (fifth .before .superblock-sound .ensures) ∙ not-false _ (fifth .if5 .left) in
     let f = c .superblock-fields .ensures in
-    (ap opened (f .0) ∙ opening-done _ (in-range (third .before .before)) (signed third) (sym (fourth .before .superblock-read .ensures) ∙ not-false _ (fourth .if4 .left)) sound, (f .1 .0, f .1 .1, end-inside _ _ (f .0) sound))
+    let inside = end-inside image _ (f .0) sound in (
+      ap opened (f .0) ∙ opening-done _ (in-range (third .before .before)) (signed third) (sym (fourth .before .superblock-read .ensures) ∙ not-false _ (fourth .if4 .left)) sound,
+      (f .1 .0, f .1 .1, inside, end-small image _ inside (in-range (third .before .before)), size-least image _ (f .0)),
+    )
 
 pub open-spec : {M : Type 1} → statement M
 open-spec =

@@ -1,17 +1,21 @@
 -- Each test against its place in the walk of a symbol table node, then its entries.
 use denote.Ref.{now}
-use mathlib.Core.List.{[]}
+use mathlib.Core.List.{List, []}
 use mathlib.Core.Path.{_≡_, refl, sym, _∙_}
-use Prim.Native.Nat.{_+_, _*_, _≤_}
+use Prim.Native.Nat.{ℕ, _+_, _*_, _≤_}
 use lib.ListN.{length}
 use Rattle.format.specs.Bytes.{littleEndian}
 use Rattle.format.specs.Symbols.{SNOD}
-use Rattle.walk.specs.Lent.{Lent}
+use Rattle.format.specs.Blocks.{Block}
+use Rattle.walk.specs.Lent.{blocksOf, lengthSum, Lent}
+use Rattle.laws.proofs.Disjoint.{Fresh}
+use Rattle.laws.proofs.Growth.{Inside, Grown}
+use Rattle.laws.proofs.SumOfLengths.{grown-apart, grown-inside}
 use Rattle.ledger.specs.Links.{linkSum}
 use Rattle.ledger.specs.Table.{linkedOf}
 use Rattle.symbol.specs.Entry.{groupOf, stateOf}
 use Rattle.symbol.specs.declared.entry.State.{State}
-use Rattle.symbol_node.proofs.SymbolLaws.{blocks-few, symbols-refused, symbols-inside, symbols-lent, symbols-counted, signature-wrong, version-wrong, count-low, count-high, symbols-end, sound-after, kept-count}
+use Rattle.symbol_node.proofs.SymbolLaws.{symbols-refused, symbols-inside, symbols-lent, symbols-grown, symbols-lengths, signature-wrong, version-wrong, count-low, count-high, symbols-end, links-small, sound-after, kept-count}
 use native.Mathlib.Omega.{arith}
 use borrow.Author.Needs.{needs}
 use Rattle.symbol_node.proofs.symbol_node.Statement.{statement}
@@ -30,13 +34,44 @@ signed c = c .if1 .left
 lent : (c : tie.After-c) → Lent (c .before .before .before .before .enter .last .1 .0) (c .c .given .0 .0) (c .before .before .before .before .before .before .before .before .before .before .before .before .args .group .room)
 lent c = symbols-lent (now (c .before .before .before .before .before .before .before .before .before .before .before .before .args .image)) _ _ _ _ _ (c .before .before .before .before .before .before .before .before .before .before .before .before .pre .sound .lent) _ _ (c .before .before .before .before .enter .ensures .1) (groupOf (now (c .before .before .before .before .before .before .before .before .before .before .before .before .args .segment)) (now (c .before .before .before .before .before .before .before .before .before .before .before .before .args .wanted)) (c .before .before .before .before .before .before .before .before .before .before .before .before .args .group)) refl [] (stateOf (now (c .before .before .before .before .before .before .before .before .before .before .before .before .args .segment)) (now (c .before .before .before .before .before .before .before .before .before .before .before .before .args .addresses)) (now (c .before .before .before .before .before .before .before .before .before .before .before .before .args .counts)) (c .before .before .before .before .before .before .before .before .before .before .before .before .args .state)) _ (sym (c .c .given .1) ∙ c .before .before .before .before .enter .ensures .0)
 
-one-more : (c : tie.After-c) → c .c .given .0 .0 ≡ c .before .before .before .before .before .before .before .before .before .before .before .before .args .state .count + 1
-one-more c = symbols-counted (now (c .before .before .before .before .before .before .before .before .before .before .before .before .args .image)) _ _ _ _ _ (c .before .before .before .before .before .before .before .before .before .before .before .before .pre .sound .lent) _ _ (c .before .before .before .before .enter .ensures .1) _ (sym (c .c .given .1) ∙ c .before .before .before .before .enter .ensures .0)
+abbrev first : tie.After-c → tie.Start
+first c = c .before .before .before .before .before .before .before .before .before .before .before .before
 
--- the links fit their 32 bits
+-- the blocks entered, with the node as the last
+abbrev blocks : tie.After-c → List Block
+blocks c = blocksOf (c .c .given .0 .0) (c .before .before .before .before .enter .last .1 .0)
+
+-- the links found before
+abbrev links : tie.Start → ℕ
+links s = linkSum (linkedOf (s .args .state .objects) (now (s .args .addresses)) (now (s .args .counts)))
+
+grown : (c : tie.After-c) →
+    let s = first c in
+    Grown (s .args .group .«end_of_file») (s .args .group .room) (blocksOf (s .args .state .count) (now (s .args .list))) (blocks c)
+grown c =
+    let s = first c in
+    let e = c .before .before .before .before .enter .ensures in
+    symbols-grown (now (s .args .image)) _ _ _ _ _ (s .pre .sound .lent) _ _ (e .1) _ (sym (c .c .given .1) ∙ e .0)
+
+apart : (c : tie.After-c) → Fresh [] (blocks c)
+apart c = grown-apart (grown c) (first c .pre .sound .apart)
+
+inside : (c : tie.After-c) → Inside (first c .args .group .«end_of_file») (blocks c)
+inside c = grown-inside (grown c) (first c .pre .sound .inside)
+
+-- the links found before, and one for every byte of the node
+lengths : (c : tie.After-c) → links (first c) + (8 + 80 * first c .args .group .«leaf_k») ≤ lengthSum (blocks c)
+lengths c =
+    let s = first c in
+    let e = c .before .before .before .before .enter .ensures in
+    let sum = symbols-lengths (now (s .args .image)) _ _ _ _ _ (s .pre .sound .lent) _ _ (e .1) _ (sym (c .c .given .1) ∙ e .0) in
+    omega (arith, s .pre .sound .links, sum)
+
+-- the node has no more entries than bytes
 links-fit : (c : tie.Else4) →
-    linkSum (linkedOf (c .before .before .before .before .before .before .before .before .before .before .before .before .before .before .before .before .before .before .before .before .args .state .objects) (now (c .before .before .before .before .before .before .before .before .before .before .before .before .before .before .before .before .before .before .before .before .args .addresses)) (now (c .before .before .before .before .before .before .before .before .before .before .before .before .before .before .before .before .before .before .before .before .args .counts))) + c .before .before .u16-at .result ≤ 65536 * c .before .before .before .before .before .before .before .before .c .given .0 .0
-links-fit c = omega (arith, c .before .before .before .before .before .before .before .before .before .before .before .before .before .before .before .before .before .before .before .before .pre .sound .links, one-more (c .before .before .before .before .before .before .before .before), c .before .before .u16-at .ensures .bound)
+    let e = c .before .before .before .before .before .before .before .before in
+    links (first e) + c .before .before .u16-at .result ≤ lengthSum (blocks e)
+links-fit c = omega (arith, lengths (c .before .before .before .before .before .before .before .before), c .if4 .left)
 
 mul-enter : tie.Need-mul-enter
 mul-enter c = omega (arith, c .before .before .before .before .before .before .before .pre .fixed .leaf)
@@ -101,12 +136,11 @@ add-entries c = let i = whole (c .before .before .before .before .before .before
 
 entries-requires : tie.Need-entries-requires
 entries-requires c κs =
-    let i = whole (c .before .before .before .before .before .before .before .before .before .before .before) in
-    let f = links-fit (c .before .before .before) in
-    let p = c .before .before .before .before .before .before .before .before .before .before .before .before .before .before .before .before .before .before .before .before .before .before .before .pre in
-    let l = lent (c .before .before .before .before .before .before .before .before .before .before .before) in (
-      omega (arith, i, c .before .before .before .if4 .left),
-      (record { chained = p .fixed .chained; range = p .range; last = p .sound .last; table = p .sound .table }, omega (arith, f, l .counted, p .fixed .room, blocks-few)),
+    let e = c .before .before .before .before .before .before .before .before .before .before .before in
+    let p = first e .pre in
+    let links = links-small _ (blocks e) _ (apart e) (inside e) (p .fixed .small) (links-fit (c .before .before .before)) in (
+      omega (arith, whole e, c .before .before .before .if4 .left),
+      (record { chained = p .fixed .chained; range = p .range; last = p .sound .last; table = p .sound .table }, links),
     )
 
 same-length-5 : tie.Need-same-length-5
@@ -127,6 +161,7 @@ same-length-8 c = search needs
 returns-6 : tie.Need-returns-6
 returns-6 c =
     let p = c .before .before .before .before .before .before .before .before .before .before .before .before .before .before .before .before .before .before .before .before .before .before .before .before .before .before .before .before in
+    let node = c .before .before .before .before .before .before .before .before .before .before .before .before .before .before .before .before in
     let S = p .args .state in
     let e = c .before .before .before .before .entries in
     let after : State = record { count = c .before .before .before .before .before .before .before .before .before .before .before .before .before .before .before .before .c .given .0 .0; objects = S .objects; last = S .last; link = S .link } in
@@ -137,7 +172,7 @@ returns-6 c =
           (kept-count (now (p .args .segment)) (now (p .args .addresses)) (now (p .args .counts)) after (c .before .before .before .before .before .before .before .before .before .before .u16-at .result) (e .last .1 .1 .1 .0) (e .last .1 .1 .1 .1 .0) (e .result) (e .ensures .kept))
           (e .ensures .walk bounds (80 * p .args .group .«leaf_k») t (omega (arith, c .before .before .before .before .before .before .before .before .if4 .left)) (let i = whole (c .before .before .before .before .before .before .before .before .before .before .before .before .before .before .before .before) in omega arith));
       sound = sound-after (now (p .args .segment)) (c .before .before .before .before .before .before .before .before .before .before .before .before .before .before .before .before .before .before .before .before .enter .last .1 .0) (now (p .args .addresses)) (now (p .args .counts)) (p .args .group) after (c .before .before .before .before .before .before .before .before .before .before .u16-at .result) (e .last .1 .1 .1 .0) (e .last .1 .1 .1 .1 .0) (e .result)
-          (lent (c .before .before .before .before .before .before .before .before .before .before .before .before .before .before .before .before)) (links-fit (c .before .before .before .before .before .before .before .before)) (e .ensures .kept);
+          (lent node) (apart node) (inside node) (links-fit (c .before .before .before .before .before .before .before .before)) (e .ensures .kept);
     }
 
 pub symbol-node-spec : {M : Type 1} → statement M

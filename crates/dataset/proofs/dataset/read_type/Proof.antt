@@ -3,6 +3,7 @@ use denote.Ref.{now}
 use mathlib.Core.Path.{ap, _∙_}
 use borrow.Author.Tests.{eq-eqb, ne-eqb}
 use Rattle.format.specs.Datatype.{readDatatype, readShared}
+use Rattle.format.specs.Dataset.{readType}
 use Rattle.walk.proofs.Tests.{takes-then, takes-else}
 use Rattle.dataset.proofs.DatasetLaws.{body-part}
 use borrow.Author.Needs.{needs}
@@ -25,6 +26,7 @@ read-shared-requires : tie.Need-read-shared-requires
 read-shared-requires c κs = search needs
 
 returns : tie.Need-returns
+unfolding readType
 returns c =
     let a = c .before .before .before .before .before .before .args in
     takes-then _ _ (eq-eqb _ _ (c .before .before .if1 .taken)) (c .read-shared .ensures ∙ ap readShared (body-part (now (a .image)) (a .body .place) (a .body .size)))
@@ -42,6 +44,7 @@ read-requires : tie.Need-read-requires
 read-requires c κs = search needs
 
 returns-2 : tie.Need-returns-2
+unfolding readType
 returns-2 c =
     let a = c .before .before .before .before .before .before .args in
     takes-else _ _ (ne-eqb _ _ (c .before .before .if1 .left)) (c .read .ensures ∙ ap readDatatype (body-part (now (a .image)) (a .body .place) (a .body .size)))

@@ -6,6 +6,7 @@ use Rattle.format.specs.Bytes.{part}
 use Rattle.format.specs.Walk.{run}
 use Rattle.format.specs.Heap.{heapWalk}
 use Rattle.walk.specs.Lent.{blocksOf, Walked}
+use Rattle.laws.proofs.SumOfLengths.{grown-apart, grown-inside, grown-lengths}
 use Rattle.heap.specs.Segment.{heapEnd, segmentOf, SoundHeap, SoundRead}
 use Rattle.heap.specs.declared.segment.HeapRead
 use Rattle.heap.specs.declared.segment.HeapRead.{HeapRead}
@@ -54,7 +55,17 @@ tree-requires c κs =
     let st = c .before .before .before .before .before .before .before .before .before .before .before .before .before .before .before .before .before .pre .0 in
     let rd = c .before .before .before .before .before .before .before .before .before .before .before .before .before .before .before .before .before .pre .1 in
     let a = at-tree (now (c .before .before .before .before .before .before .before .before .before .before .before .before .before .before .before .before .before .args .image)) (c .before .before .before .before .before .before .before .before .before .before .before .before .before .before .before .before .before .args .end-of-file) (c .before .before .before .before .before .before .before .before .before .before .before .before .before .before .before .before .before .args .room) (now (c .before .before .before .before .before .before .before .before .before .before .before .before .before .before .before .before .before .args .list)) (c .before .before .before .before .before .before .before .before .before .before .before .before .before .before .before .before .before .args .count) (rd .lent) (c .before .before .before .before .before .before .before .before .before .before .before .before .before .before .before .before .before .args .leaf-k) (c .before .before .before .before .before .before .before .before .before .before .before .before .before .before .before .before .before .args .internal-k) (c .before .before .before .before .before .before .before .before .before .before .before .before .before .before .before .before .before .args .tree) (c .before .before .before .before .before .before .before .before .before .before .before .before .before .before .before .before .before .args .heap) (visitBoth (c .before .before .before .before .before .before .before .before .before .before .before .before .before .before .before .before .before .args .auditing) (now (c .before .before .before .before .before .before .before .before .before .before .before .before .before .before .before .before .before .args .wanted))) (bothOf (now (c .before .before .before .before .before .before .before .before .before .before .before .before .before .before .before .before .before .args .addresses)) (now (c .before .before .before .before .before .before .before .before .before .before .before .before .before .before .before .before .before .args .counts)) (c .before .before .before .before .before .before .before .before .before .before .before .before .before .before .before .before .before .args .objects) Absent) (c .before .before .before .before .before .before .before .before .before .before .read .last .1 .1 .0) _ _ (c .before .before .before .before .before .before .before .before .before .before .read .kept .1 .1 .0) (s .0) in
-    (record { room = st .most; file = st .file; leaf = st .leaf; internal = st .internal; chained = rw q (s .1 .chained) }, record { lent = a .lent; last = omega arith; table = rd .table; links = omega (arith, rd .links, a .grown) })
+    let g = a .blocks in (
+      record { file = st .file; small = st .small; leaf = st .leaf; internal = st .internal; chained = rw q (s .1 .chained) },
+      record {
+        lent = a .lent;
+        last = omega arith;
+        table = rd .table;
+        apart = grown-apart g (rd .apart);
+        inside = grown-inside g (rd .inside);
+        links = omega (arith, rd .links, grown-lengths g);
+      },
+    )
 
 same-length : tie.Need-same-length
 same-length c = search needs

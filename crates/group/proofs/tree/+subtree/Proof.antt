@@ -19,7 +19,7 @@ use Rattle.symbol_node.specs.Tree.{Sound}
 use Rattle.node.specs.declared.BranchRead
 use Rattle.node.specs.declared.BranchRead.{BranchRead}
 use Rattle.symbol.specs.declared.entry.Step
-use Rattle.group.proofs.TreeLaws.{childrenFrom, children-end, children-turn, node-stopped, node-done, leaf-walked}
+use Rattle.group.proofs.TreeLaws.{childrenFrom, children-end, children-turn, node-stopped, node-done, leaf-walked, sound-more}
 use borrow.Fn.Kinds.{In}
 use borrow.Fn.PlainCycle.{Measures, is, falls, and}
 use Rattle.group.proofs.tree.subtree.Reads as subtree
@@ -245,10 +245,10 @@ subtree-loop-holds : (t : ℕ) → subtree-lts.Need-loop-holds (
   subtree.Post,
 ) (subtree-at t) subtree.Post subtree-Inv-loop subtree-μ-loop
 subtree-loop-holds t c =
-    let p = c .before .before .before .before .before .before .before .before .before .before .before .before .before .before .before .pre .1 in
-    let f = branch-is t (c .before .before) .fields in
-    let l = at-children t (c .before .before) [] .lent in
-    (omega arith, record { lent = l; last = p .sound .last; table = p .sound .table; links = omega (arith, p .sound .links, f .3) }, refl, refl, refl, λ bounds h. start _ _ _ _ _ _ l)
+    let p = c .before .before .before .before .before .before .before .before .before .before .before .before .before .before .before in
+    let m = at-children t (c .before .before) [] in
+    let sound = sound-more _ _ _ _ (p .args .group) (p .args .state) _ _ (p .pre .1 .sound) (m .lent) (m .blocks) in
+    (omega arith, sound, refl, refl, refl, λ bounds h. start _ _ _ _ _ _ (m .lent))
 
 subtree-mul-here : (t : ℕ) → subtree-lts.Need-mul-here (
   symbol-node-reads.Asked,

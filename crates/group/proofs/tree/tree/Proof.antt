@@ -9,7 +9,7 @@ use Rattle.symbol.specs.Entry.{groupOf, stateOf}
 use Rattle.node.specs.Node.{NodeIs}
 use Rattle.node.specs.declared.NodeRead
 use Rattle.node.specs.declared.NodeRead.{NodeRead}
-use Rattle.group.proofs.TreeLaws.{no-bounds, root-used, root-stopped, root-empty, empty-level-wrong, empty-read}
+use Rattle.group.proofs.TreeLaws.{no-bounds, root-used, root-stopped, root-empty, empty-level-wrong, empty-read, sound-more}
 use native.Mathlib.Omega.{arith}
 use borrow.Author.Needs.{needs}
 use Rattle.group.proofs.tree.tree.Statement.{statement}
@@ -82,10 +82,17 @@ same-length-6 c = search needs
 returns-4 : tie.Need-returns-4
 returns-4 c =
     let f = node-is (c .before .before .before) .fields in
-    let p = c .before .before .before .before .before .before .before .before .before .before .before .before .before .before .before .before .before .pre .1 in
+    let p = c .before .before .before .before .before .before .before .before .before .before .before .before .before .before .before .before .before in
+    let level = c .before .before .before in
+    let read = c .before .before .before .before .before .before .before .read-node in
+    let group = groupOf (now (p .args .segment)) (now (p .args .wanted)) (p .args .group) in
+    let state = stateOf (now (p .args .segment)) (now (p .args .addresses)) (now (p .args .counts)) (p .args .state) in
+    let m =
+    root-empty (now (p .args .image)) group (p .args .at) state _ _ (now (p .args .list)) _ (p .pre .1 .lent) _ refl (read .last .1 .0) _
+    (read .kept .1 .0) (no-entries level) (node-is level .walked) in
     record {
       walked = empty-read (now (c .before .before .before .before .before .before .before .before .before .before .before .before .before .before .before .before .before .args .image)) (groupOf (now (c .before .before .before .before .before .before .before .before .before .before .before .before .before .before .before .before .before .args .segment)) (now (c .before .before .before .before .before .before .before .before .before .before .before .before .before .before .before .before .before .args .wanted)) (c .before .before .before .before .before .before .before .before .before .before .before .before .before .before .before .before .before .args .group)) (c .before .before .before .before .before .before .before .before .before .before .before .before .before .before .before .before .before .args .at) (stateOf (now (c .before .before .before .before .before .before .before .before .before .before .before .before .before .before .before .before .before .args .segment)) (now (c .before .before .before .before .before .before .before .before .before .before .before .before .before .before .before .before .before .args .addresses)) (now (c .before .before .before .before .before .before .before .before .before .before .before .before .before .before .before .before .before .args .counts)) (c .before .before .before .before .before .before .before .before .before .before .before .before .before .before .before .before .before .args .state)) _ _ (now (c .before .before .before .before .before .before .before .before .before .before .before .before .before .before .before .before .before .args .list)) _ (c .before .before .before .before .before .before .before .before .before .before .before .before .before .before .before .before .before .pre .1 .lent) _ refl (c .before .before .before .before .before .before .before .read-node .last .1 .0) _ (c .before .before .before .before .before .before .before .read-node .kept .1 .0) (no-entries (c .before .before .before)) (node-is (c .before .before .before) .walked) _ (f .1) (c .before .if2 .left);
-      sound = record { lent = root-empty (now (c .before .before .before .before .before .before .before .before .before .before .before .before .before .before .before .before .before .args .image)) (groupOf (now (c .before .before .before .before .before .before .before .before .before .before .before .before .before .before .before .before .before .args .segment)) (now (c .before .before .before .before .before .before .before .before .before .before .before .before .before .before .before .before .before .args .wanted)) (c .before .before .before .before .before .before .before .before .before .before .before .before .before .before .before .before .before .args .group)) (c .before .before .before .before .before .before .before .before .before .before .before .before .before .before .before .before .before .args .at) (stateOf (now (c .before .before .before .before .before .before .before .before .before .before .before .before .before .before .before .before .before .args .segment)) (now (c .before .before .before .before .before .before .before .before .before .before .before .before .before .before .before .before .before .args .addresses)) (now (c .before .before .before .before .before .before .before .before .before .before .before .before .before .before .before .before .before .args .counts)) (c .before .before .before .before .before .before .before .before .before .before .before .before .before .before .before .before .before .args .state)) _ _ (now (c .before .before .before .before .before .before .before .before .before .before .before .before .before .before .before .before .before .args .list)) _ (c .before .before .before .before .before .before .before .before .before .before .before .before .before .before .before .before .before .pre .1 .lent) _ refl (c .before .before .before .before .before .before .before .read-node .last .1 .0) _ (c .before .before .before .before .before .before .before .read-node .kept .1 .0) (no-entries (c .before .before .before)) (node-is (c .before .before .before) .walked) .lent; last = p .last; table = p .table; links = omega (arith, p .links, f .4) };
+      sound = sound-more _ _ _ _ (p .args .group) (p .args .state) _ _ (p .pre .1) (m .lent) (m .blocks);
     }
 
 pub tree-spec : {M : Type 1} → statement M

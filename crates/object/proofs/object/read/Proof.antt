@@ -1,66 +1,65 @@
 -- The header, then what stands behind it by its kind.
+use denote.Ref.{now}
+use mathlib.Core.Path.{refl}
+use Rattle.object.proofs.ObjectLaws.{listed-less, header-stopped, committed-read, kind-listed, kind-read}
+use native.Mathlib.Omega.{arith}
 use borrow.Author.Needs.{needs}
 use Rattle.object.proofs.object.read.Statement.{statement}
 use Rattle.object.proofs.object.read.Tie as tie
-use denote.Ref.{now}
-use Rattle.image.specs.Header.{HeaderIs}
-use Rattle.image.specs.declared.header.HeaderRead.the-variants.{Group, Dataset}
-use Rattle.object.proofs.ObjectLaws.{header-stopped, committed-read, content-ready, content-read}
 
--- the header was that of a dataset, or of a group
-dataset-header : (c : tie.After-space) → HeaderIs (now (c .before .before .before .before .before .before .before .before .before .before .args .image)) (c .before .before .before .before .before .before .before .before .before .before .args .superblock .«end_of_file») (c .before .before .before .before .before .before .before .before .before .before .args .room) (now (c .before .before .before .before .before .before .before .before .before .before .args .list)) (c .before .before .before .before .before .before .before .before .before .before .args .count) (c .before .before .before .before .before .before .before .before .before .before .args .at) (c .before .before .before .before .read .last .1 .1 .0) (Dataset (c .space .given .0 .0) (c .space .given .0 .1 .0) (c .space .given .0 .1 .1 .0) (c .space .given .0 .1 .1 .1 .0))
-dataset-header c = rw (c .space .given .1) at (c .before .before .before .before .read .ensures)
+read-with-requires : tie.Need-read-with-requires
+read-with-requires c κs = search needs
 
-group-header : (c : tie.After-tree) → HeaderIs (now (c .before .before .before .before .before .before .before .before .before .before .args .image)) (c .before .before .before .before .before .before .before .before .before .before .args .superblock .«end_of_file») (c .before .before .before .before .before .before .before .before .before .before .args .room) (now (c .before .before .before .before .before .before .before .before .before .before .args .list)) (c .before .before .before .before .before .before .before .before .before .before .args .count) (c .before .before .before .before .before .before .before .before .before .before .args .at) (c .before .before .before .before .read .last .1 .1 .0) (Group (c .tree .given .0 .0) (c .tree .given .0 .1 .0) (c .tree .given .0 .1 .1 .0))
-group-header c = rw (c .tree .given .1) at (c .before .before .before .before .read .ensures)
+enum-known-header : tie.Need-enum-known-header
+enum-known-header c = search needs
 
-read-requires : tie.Need-read-requires
-read-requires c κs = search needs
+enum-known-header-2 : tie.Need-enum-known-header-2
+enum-known-header-2 c = search needs
 
-enum-known-x : tie.Need-enum-known-x
-enum-known-x c = search needs
+enum-known-header-3 : tie.Need-enum-known-header-3
+enum-known-header-3 c = search needs
 
-enum-known-n : tie.Need-enum-known-n
-enum-known-n c = search needs
+known-dataset-requires : tie.Need-known-dataset-requires
+known-dataset-requires c κs =
+    let read = c .before .before .before .before .before .before .before .before .before .before .before .before .before .before .before in
+    let s = read .before .before .before .before .before .before .before .before .before .before in
+    let known = rw (c .before .before .before .before .before .header3 .given .1) at (read .read-with .ensures .walked) in
+    let same = read .read-with .kept .1 .0 in
+    let counting = rw (c .before .before .before .before .before .header3 .given .1) at (read .read-with .ensures .counting) in
+    let bodies = rw (c .before .before .before .before .before .header3 .given .1) at (read .read-with .ensures .bodies) in
+    ((listed-less (kind-listed _ (s .args .superblock) _ _ _ _ _ _ _ (s .pre .1 .0) (s .args .i) _ _ _ _ _ _ _ _ same known 16 (counting refl)) 1 (omega arith)), (record { spaceInside = bodies .0; typeInside = bodies .1; layoutInside = bodies .2 }, s .pre .1 .1))
 
-enum-known-space : tie.Need-enum-known-space
-enum-known-space c = search needs
+enum-known-header-4 : tie.Need-enum-known-header-4
+enum-known-header-4 c = search needs
 
-read-dataset-requires : tie.Need-read-dataset-requires
-read-dataset-requires c κs =
-    let h = dataset-header (c .before .before) in
-    (content-ready (now (c .before .before .before .before .before .before .before .before .before .before .before .before .args .image)) (c .before .before .before .before .before .before .before .before .before .before .before .before .args .superblock) _ (now (c .before .before .before .before .before .before .before .before .before .before .before .before .args .list)) _ _ (c .before .before .before .before .before .before .read .last .1 .1 .0) (now (c .before .before .before .before .before .before .before .before .before .before .before .before .args .addresses)) (now (c .before .before .before .before .before .before .before .before .before .before .before .before .args .counts)) (c .before .before .before .before .before .before .before .before .before .before .before .before .pre .1) _ _ _ (c .before .before .before .before .before .before .read .kept .1 .1 .0) (h .walked) .lent, record { spaceInside = h .bodies .0; typeInside = h .bodies .1; layoutInside = h .bodies .2 })
-
-enum-known-tree : tie.Need-enum-known-tree
-enum-known-tree c = search needs
-
-read-group-requires : tie.Need-read-group-requires
-read-group-requires c κs =
-    (c .before .before .before .before .before .before .before .before .before .before .before .before .before .before .pre .0, content-ready (now (c .before .before .before .before .before .before .before .before .before .before .before .before .before .before .args .image)) (c .before .before .before .before .before .before .before .before .before .before .before .before .before .before .args .superblock) _ (now (c .before .before .before .before .before .before .before .before .before .before .before .before .before .before .args .list)) _ _ (c .before .before .before .before .before .before .before .before .read .last .1 .1 .0) (now (c .before .before .before .before .before .before .before .before .before .before .before .before .before .before .args .addresses)) (now (c .before .before .before .before .before .before .before .before .before .before .before .before .before .before .args .counts)) (c .before .before .before .before .before .before .before .before .before .before .before .before .before .before .pre .1) _ _ _ (c .before .before .before .before .before .before .before .before .read .kept .1 .1 .0) (group-header (c .before .before .before .before) .walked))
+known-group-requires : tie.Need-known-group-requires
+known-group-requires c κs =
+    let read = c .before .before .before .before .before .before .before .before .before .before .before .before .before .before .before in
+    let s = read .before .before .before .before .before .before .before .before .before .before in
+    let known = rw (c .before .before .before .before .before .header4 .given .1) at (read .read-with .ensures .walked) in
+    let same = read .read-with .kept .1 .0 in
+    let counting = rw (c .before .before .before .before .before .header4 .given .1) at (read .read-with .ensures .counting) in
+    (s .pre .0, ((listed-less (kind-listed _ (s .args .superblock) _ _ _ _ _ _ _ (s .pre .1 .0) (s .args .i) _ _ _ _ _ _ _ _ same known 16 (counting refl)) 0 (omega arith)), s .pre .1 .1))
 
 same-length : tie.Need-same-length
 same-length c = search needs
 
-returns : tie.Need-returns
-returns c = header-stopped (now (c .before .before .before .before .before .before .before .before .before .before .before .args .image)) (c .before .before .before .before .before .before .before .before .before .before .before .args .superblock) _ (now (c .before .before .before .before .before .before .before .before .before .before .before .args .list)) _ _ (c .before .before .before .before .before .read .last .1 .1 .0) (now (c .before .before .before .before .before .before .before .before .before .before .before .args .addresses)) (now (c .before .before .before .before .before .before .before .before .before .before .before .args .counts)) (c .before .before .before .before .before .before .before .before .before .before .before .pre .1) _ _ ((rw (c .before .x .given .1) at (c .before .before .before .before .before .read .ensures)) .walked)
-
 same-length-2 : tie.Need-same-length-2
 same-length-2 c = search needs
-
-returns-2 : tie.Need-returns-2
-returns-2 c = committed-read (now (c .before .before .before .before .before .before .before .before .before .before .before .args .image)) (c .before .before .before .before .before .before .before .before .before .before .before .args .superblock) _ (now (c .before .before .before .before .before .before .before .before .before .before .before .args .list)) _ _ (c .before .before .before .before .before .read .last .1 .1 .0) (now (c .before .before .before .before .before .before .before .before .before .before .before .args .addresses)) (now (c .before .before .before .before .before .before .before .before .before .before .before .args .counts)) (c .before .before .before .before .before .before .before .before .before .before .before .pre .1) _ _ (c .before .before .before .before .before .read .kept .1 .1 .0) ((rw (c .before .n .given .1) at (c .before .before .before .before .before .read .ensures)) .walked)
 
 same-length-3 : tie.Need-same-length-3
 same-length-3 c = search needs
 
-returns-3 : tie.Need-returns-3
-returns-3 c =
-    let h = dataset-header (c .before .before .before .before .before) in
-    let y = content-ready (now (c .before .before .before .before .before .before .before .before .before .before .before .before .before .before .before .args .image)) (c .before .before .before .before .before .before .before .before .before .before .before .before .before .before .before .args .superblock) _ (now (c .before .before .before .before .before .before .before .before .before .before .before .before .before .before .before .args .list)) _ _ (c .before .before .before .before .before .before .before .before .before .read .last .1 .1 .0) (now (c .before .before .before .before .before .before .before .before .before .before .before .before .before .before .before .args .addresses)) (now (c .before .before .before .before .before .before .before .before .before .before .before .before .before .before .before .args .counts)) (c .before .before .before .before .before .before .before .before .before .before .before .before .before .before .before .pre .1) _ _ _ (c .before .before .before .before .before .before .before .before .before .read .kept .1 .1 .0) (h .walked) in
-    content-read (now (c .before .before .before .before .before .before .before .before .before .before .before .before .before .before .before .args .image)) (c .before .before .before .before .before .before .before .before .before .before .before .before .before .before .before .args .superblock) _ (now (c .before .before .before .before .before .before .before .before .before .before .before .before .before .before .before .args .list)) _ _ (c .before .before .before .before .before .before .before .before .before .read .last .1 .1 .0) (now (c .before .before .before .before .before .before .before .before .before .before .before .before .before .before .before .args .addresses)) (now (c .before .before .before .before .before .before .before .before .before .before .before .before .before .before .before .args .counts)) (c .before .before .before .before .before .before .before .before .before .before .before .before .before .before .before .pre .1) _ _ _ (c .before .before .before .before .before .before .before .before .before .read .kept .1 .1 .0) (h .walked) _ _ _ _ (c .before .before .read-dataset .ensures (now (c .before .before .before .before .before .before .before .before .before .before .before .before .before .before .before .args .addresses)) (now (c .before .before .before .before .before .before .before .before .before .before .before .before .before .before .before .args .counts)) y)
-
 same-length-4 : tie.Need-same-length-4
 same-length-4 c = search needs
+
+returns : tie.Need-returns
+returns c =
+    let read = c .before .before .before .before .before .before .before .before .before .before .before in
+    let s = read .before .before .before .before .before .before .before .before .before .before in
+    let known = rw (c .before .header .given .1) at (read .read-with .ensures .walked) in
+    let same = read .read-with .kept .1 .0 in
+    header-stopped _ _ _ _ _ _ _ _ _ (s .pre .1 .0) _ _ _ _ _ _ _ known
 
 same-length-5 : tie.Need-same-length-5
 same-length-5 c = search needs
@@ -68,27 +67,89 @@ same-length-5 c = search needs
 same-length-6 : tie.Need-same-length-6
 same-length-6 c = search needs
 
+same-length-7 : tie.Need-same-length-7
+same-length-7 c = search needs
+
+same-length-8 : tie.Need-same-length-8
+same-length-8 c = search needs
+
+returns-2 : tie.Need-returns-2
+returns-2 c =
+    let read = c .before .before .before .before .before .before .before .before .before .before .before in
+    let s = read .before .before .before .before .before .before .before .before .before .before in
+    let known = rw (c .before .header2 .given .1) at (read .read-with .ensures .walked) in
+    let same = read .read-with .kept .1 .0 in
+    let counting = rw (c .before .header2 .given .1) at (read .read-with .ensures .counting) in
+    committed-read _ _ _ _ _ _ _ _ _ (s .pre .1 .0) _ _ _ _ _ _ _ _ same known 16 (counting refl)
+
+same-length-9 : tie.Need-same-length-9
+same-length-9 c = omega (arith, c .before .before .before .before .before .before .before .before .known-dataset .kept .1 .0, c .before .before .before .before .before .before .before .before .before .before .before .before .before .before .before .before .before .before .before .before .before .before .before .before .read-with .kept .1 .0)
+
+same-length-10 : tie.Need-same-length-10
+same-length-10 c = search needs
+
+same-length-11 : tie.Need-same-length-11
+same-length-11 c = search needs
+
+same-length-12 : tie.Need-same-length-12
+same-length-12 c = search needs
+
+returns-3 : tie.Need-returns-3
+returns-3 c =
+    let read = c .before .before .before .before .before .before .before .before .before .before .before .before .before .before .before .before .before .before .before .before .before .before .before .before in
+    let s = read .before .before .before .before .before .before .before .before .before .before in
+    let known = rw (c .before .before .before .before .before .before .before .before .before .before .before .before .before .before .header3 .given .1) at (read .read-with .ensures .walked) in
+    let same = read .read-with .kept .1 .0 in
+    kind-read _ _ _ _ _ _ _ _ _ (s .pre .1 .0) _ _ _ _ _ _ _ _ _ same known _ _ _ _ _ (c .before .before .before .before .before .before .before .before .known-dataset .ensures)
+
+same-length-13 : tie.Need-same-length-13
+same-length-13 c = search needs
+
+same-length-14 : tie.Need-same-length-14
+same-length-14 c = search needs
+
+same-length-15 : tie.Need-same-length-15
+same-length-15 c = search needs
+
+same-length-16 : tie.Need-same-length-16
+same-length-16 c = search needs
+
 returns-4 : tie.Need-returns-4
-returns-4 c = content-read (now (c .before .before .before .before .before .before .before .before .before .before .before .before .before .before .before .before .before .before .before .before .before .args .image)) (c .before .before .before .before .before .before .before .before .before .before .before .before .before .before .before .before .before .before .before .before .before .args .superblock) _ (now (c .before .before .before .before .before .before .before .before .before .before .before .before .before .before .before .before .before .before .before .before .before .args .list)) _ _ (c .before .before .before .before .before .before .before .before .before .before .before .before .before .before .before .read .last .1 .1 .0) (now (c .before .before .before .before .before .before .before .before .before .before .before .before .before .before .before .before .before .before .before .before .before .args .addresses)) (now (c .before .before .before .before .before .before .before .before .before .before .before .before .before .before .before .before .before .before .before .before .before .args .counts)) (c .before .before .before .before .before .before .before .before .before .before .before .before .before .before .before .before .before .before .before .before .before .pre .1) _ _ _ (c .before .before .before .before .before .before .before .before .before .before .before .before .before .before .before .read .kept .1 .1 .0) (group-header (c .before .before .before .before .before .before .before .before .before .before .before) .walked) _ _ _ _ (c .before .before .before .before .before .before .read-group .ensures)
+returns-4 c =
+    let read = c .before .before .before .before .before .before .before .before .before .before .before .before .before .before .before .before .before .before .before .before .before .before .before .before in
+    let s = read .before .before .before .before .before .before .before .before .before .before in
+    let known = rw (c .before .before .before .before .before .before .before .before .before .before .before .before .before .before .header4 .given .1) at (read .read-with .ensures .walked) in
+    let same = read .read-with .kept .1 .0 in
+    kind-read _ _ _ _ _ _ _ _ _ (s .pre .1 .0) _ _ _ _ _ _ _ _ _ same known _ _ _ _ _ (c .before .before .before .before .before .before .before .before .known-group .ensures)
 
 pub read-spec : {M : Type 1} → statement M
 read-spec =
     tie.close
     (tie.spec
-    read-requires
-    enum-known-x
-    enum-known-n
-    enum-known-space
-    read-dataset-requires
-    enum-known-tree
-    read-group-requires
+    read-with-requires
+    enum-known-header
+    enum-known-header-2
+    enum-known-header-3
+    known-dataset-requires
+    enum-known-header-4
+    known-group-requires
     same-length
-    returns
     same-length-2
-    returns-2
     same-length-3
-    returns-3
     same-length-4
+    returns
     same-length-5
     same-length-6
+    same-length-7
+    same-length-8
+    returns-2
+    same-length-9
+    same-length-10
+    same-length-11
+    same-length-12
+    returns-3
+    same-length-13
+    same-length-14
+    same-length-15
+    same-length-16
     returns-4)

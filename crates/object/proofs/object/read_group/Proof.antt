@@ -1,12 +1,16 @@
 -- The code's visit ends as the audit's own.
+use denote.Ref.{now}
+use Rattle.symbol.specs.declared.entry.Step as steps
+use Rattle.object.proofs.ObjectLaws.{listed-ready, group-is}
+use native.Mathlib.Omega.{arith}
 use borrow.Author.Needs.{needs}
 use Rattle.object.proofs.object.read_group.Statement.{statement}
 use Rattle.object.proofs.object.read_group.Tie as tie
-use denote.Ref.{now}
-use Rattle.object.proofs.ObjectLaws.{group-is}
 
 read-requires : tie.Need-read-requires
-read-requires c κs = search needs
+read-requires c κs =
+    let s = c .before .before .before .before .before .before .before in
+    (s .pre .0, listed-ready (s .pre .1 .1))
 
 enum-known-x : tie.Need-enum-known-x
 enum-known-x c = search needs
@@ -24,7 +28,9 @@ same-length-3 : tie.Need-same-length-3
 same-length-3 c = search needs
 
 returns : tie.Need-returns
-returns c = group-is (now (c .before .before .before .before .before .before .before .before .before .before .before .before .before .before .before .before .before .args .image)) (c .before .before .before .before .before .before .before .before .before .before .before .before .before .before .before .before .before .args .superblock) _ (now (c .before .before .before .before .before .before .before .before .before .before .before .before .before .before .before .before .before .args .list)) _ _ _ (now (c .before .before .before .before .before .before .before .before .before .before .before .before .before .before .before .before .before .args .image)) (now (c .before .before .before .before .before .before .before .before .before .before .before .before .before .before .before .before .before .args .addresses)) (now (c .before .before .before .before .before .before .before .before .before .before .before .before .before .before .before .before .before .args .counts)) _ _ _ _ _ (rw (c .before .x .given .1) at (c .before .before .before .before .before .before .before .before .before .read .ensures))
+returns c marks y =
+    let read = c .before .before .before .before .before .before .before .before .before in
+    group-is _ _ _ _ _ _ _ _ _ y _ _ _ _ _ _ (steps.the-variants.Stopped _) (read .read .kept .1 .1 .0) (rw (c .before .x .given .1) at (read .read .ensures))
 
 same-length-4 : tie.Need-same-length-4
 same-length-4 c = search needs
@@ -36,7 +42,9 @@ same-length-6 : tie.Need-same-length-6
 same-length-6 c = search needs
 
 returns-2 : tie.Need-returns-2
-returns-2 c = group-is (now (c .before .before .before .before .before .before .before .before .before .before .before .before .before .before .before .before .before .args .image)) (c .before .before .before .before .before .before .before .before .before .before .before .before .before .before .before .before .before .args .superblock) _ (now (c .before .before .before .before .before .before .before .before .before .before .before .before .before .before .before .before .before .args .list)) _ _ _ (now (c .before .before .before .before .before .before .before .before .before .before .before .before .before .before .before .before .before .args .image)) (now (c .before .before .before .before .before .before .before .before .before .before .before .before .before .before .before .before .before .args .addresses)) (now (c .before .before .before .before .before .before .before .before .before .before .before .before .before .before .before .before .before .args .counts)) _ _ _ _ _ (rw (c .before .s .given .1) at (c .before .before .before .before .before .before .before .before .before .read .ensures))
+returns-2 c marks y =
+    let read = c .before .before .before .before .before .before .before .before .before in
+    group-is _ _ _ _ _ _ _ _ _ y _ _ _ _ _ _ (steps.the-variants.Done _) (read .read .kept .1 .1 .0) (rw (c .before .s .given .1) at (read .read .ensures))
 
 pub read-group-spec : {M : Type 1} → statement M
 read-group-spec =

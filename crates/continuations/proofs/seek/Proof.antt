@@ -1,0 +1,115 @@
+-- Block by block, what waits from here on is what waited at the start.
+use denote.Ref.{now}
+use mathlib.Core.List.{List}
+use mathlib.Core.Path.{_≡_}
+use Prim.Native.Nat.{ℕ, _-_, _+_, _<_}
+use lib.ListN.{getD}
+use Rattle.format.specs.Message.{Message}
+use Rattle.continuations.specs.Continuations.{Waiting}
+use Rattle.continuations.proofs.ContinuationLaws.{cursor, Searched, searched, next-block, last-block, found-here}
+use borrow.Author.Needs.{needs}
+use native.Mathlib.Omega.{arith}
+use Rattle.continuations.proofs.seek.Statement.{statement}
+use Rattle.continuations.proofs.seek.Tie as tie
+
+abbrev Inv-loop : tie.InvT-loop
+Inv-loop image list count block₀ end₀ first at₀ block end at =
+    (block < count) × ((waiting : List Message) → Waiting image list count (cursor block₀ first end₀) waiting → Searched image list count (cursor block at end) waiting)
+
+abbrev μ-loop : tie.MeasureT-loop
+μ-loop image list count block₀ end₀ first at₀ block end at = count - block
+
+-- the next block, with what waits from there on
+turn : (c : tie.Else1 Inv-loop μ-loop) (waiting : List Message) →
+    Waiting (now (c .before .before .before .before .before .before .args .image)) (now (c .before .before .before .before .before .before .args .list)) (c .before .before .before .before .before .before .args .count)
+    (c .before .before .before .before .before .before .args .cursor) waiting →
+    Waiting (now (c .before .before .before .before .before .before .args .image)) (now (c .before .before .before .before .before .before .args .list)) (c .before .before .before .before .before .before .args .count)
+    (cursor (c .before .before .loop .block + 1) (getD (now (c .before .before .before .before .before .before .args .list)) (c .before .before .loop .block + 1 + (c .before .before .loop .block + 1)) 0)
+    (getD (now (c .before .before .before .before .before .before .args .list)) (c .before .before .loop .block + 1 + (c .before .before .loop .block + 1)) 0
+    + getD (now (c .before .before .before .before .before .before .args .list)) (c .before .before .loop .block + 1 + (c .before .before .loop .block + 1) + 1) 0))
+    waiting
+turn c waiting w = next-block _ _ _ _ _ _ waiting (c .before .loop-test .taken) (c .if1 .left) (c .before .before .loop .inv .1 waiting w)
+
+next-continuation-requires : tie.Need-next-continuation-requires Inv-loop μ-loop
+next-continuation-requires c κs = (c .before .before .pre .1 .1 .here, c .before .before .pre .1 .1 .holds)
+
+loop-holds : tie.Need-loop-holds Inv-loop μ-loop
+loop-holds c = (c .before .before .before .pre .1 .1 .block, λ waiting w. searched _ _ _ _ waiting _ w (c .next-continuation .ensures))
+
+add-loop : tie.Need-add-loop Inv-loop μ-loop
+add-loop c = omega (arith, c .loop .inv .0, c .before .before .before .before .pre .0)
+
+returns : tie.Need-returns Inv-loop μ-loop
+returns c = λ waiting w. found-here _ _ _ _ _ _ waiting (c .if1 .taken) (c .before .before .loop .inv .1 waiting w)
+
+add-block : tie.Need-add-block Inv-loop μ-loop
+add-block c = omega (arith, c .before .before .loop .inv .0, c .before .before .before .before .before .before .pre .0)
+
+add-from : tie.Need-add-from Inv-loop μ-loop
+add-from c = omega (arith, c .before .loop-test .taken, c .before .before .before .before .before .before .pre .0)
+
+mul-from : tie.Need-mul-from Inv-loop μ-loop
+mul-from c = omega (arith, c .before .loop-test .taken, c .before .before .before .before .before .before .pre .0)
+
+shared-slice-read-from : tie.Need-shared-slice-read-from Inv-loop μ-loop
+shared-slice-read-from c = omega (arith, c .before .before .loop-test .taken, c .before .before .before .before .before .before .before .pre .0)
+
+add-end : tie.Need-add-end Inv-loop μ-loop
+add-end c = omega (arith, c .before .before .loop-test .taken, c .before .before .before .before .before .before .before .pre .0)
+
+add-end-2 : tie.Need-add-end-2 Inv-loop μ-loop
+add-end-2 c = omega (arith, c .before .before .loop-test .taken, c .before .before .before .before .before .before .before .pre .0)
+
+mul-end : tie.Need-mul-end Inv-loop μ-loop
+mul-end c = omega (arith, c .before .before .loop-test .taken, c .before .before .before .before .before .before .before .pre .0)
+
+shared-slice-read-end : tie.Need-shared-slice-read-end Inv-loop μ-loop
+shared-slice-read-end c = omega (arith, c .before .before .before .loop-test .taken, c .before .before .before .before .before .before .before .before .pre .0)
+
+add-end-3 : tie.Need-add-end-3 Inv-loop μ-loop
+add-end-3 c =
+    let first = c .before .before in
+    let s = first .before .before .before .before .before .before in
+    omega (arith, turn first (s .pre .1 .0) (s .pre .1 .1) .holds .inside)
+
+next-continuation-requires-2 : tie.Need-next-continuation-requires-2 Inv-loop μ-loop
+next-continuation-requires-2 c κs =
+    let first = c .before .before in
+    let s = first .before .before .before .before .before .before in
+    let w = turn first (s .pre .1 .0) (s .pre .1 .1) in
+    (w .here, w .holds)
+
+loop-less : tie.Need-loop-less Inv-loop μ-loop
+loop-less c = omega (arith, c .before .before .before .before .loop-test .taken)
+
+loop-again : tie.Need-loop-again Inv-loop μ-loop
+loop-again c =
+    let first = c .before .before .before in
+    (first .before .loop-test .taken, λ waiting w. searched _ _ _ _ waiting _ (turn first waiting w) (c .next-continuation2 .ensures))
+
+returns-2 : tie.Need-returns-2 Inv-loop μ-loop
+returns-2 c = λ waiting w. last-block _ _ _ _ _ _ waiting (c .loop-test .left) (c .before .loop .inv .1 waiting w)
+
+pub seek-spec : {M : Type 1} → statement M
+seek-spec =
+    tie.close
+    (tie.spec
+    Inv-loop
+    μ-loop
+    next-continuation-requires
+    loop-holds
+    add-loop
+    returns
+    add-block
+    add-from
+    mul-from
+    shared-slice-read-from
+    add-end
+    add-end-2
+    mul-end
+    shared-slice-read-end
+    add-end-3
+    next-continuation-requires-2
+    loop-less
+    loop-again
+    returns-2)
