@@ -198,11 +198,11 @@ static void commit(hid_t at, const char *name, hid_t type)
     OK(H5Tclose(copy));
 }
 
-static void attribute_of(hid_t at, const char *object, const char *name, hid_t type, hsize_t n)
+static void attribute_with(hid_t at, const char *object, const char *name, hid_t type, hsize_t n, hid_t acpl)
 {
     hid_t space = OK(H5Screate_simple(1, &n, NULL));
     hid_t holder = OK(H5Oopen(at, object, H5P_DEFAULT));
-    hid_t attr = OK(H5Acreate2(holder, name, type, space, H5P_DEFAULT, H5P_DEFAULT));
+    hid_t attr = OK(H5Acreate2(holder, name, type, space, acpl, H5P_DEFAULT));
     size_t bytes = (size_t)n * H5Tget_size(type);
     unsigned char *data = malloc(bytes + 1);
     fill(data, bytes, 3);
@@ -211,6 +211,11 @@ static void attribute_of(hid_t at, const char *object, const char *name, hid_t t
     OK(H5Aclose(attr));
     OK(H5Oclose(holder));
     OK(H5Sclose(space));
+}
+
+static void attribute_of(hid_t at, const char *object, const char *name, hid_t type, hsize_t n)
+{
+    attribute_with(at, object, name, type, n, H5P_DEFAULT);
 }
 
 static void attribute(hid_t at, const char *object, const char *name, hsize_t n)
@@ -687,7 +692,7 @@ static void attribute_large(const char *path)
     done(f);
 }
 
-/* attributes are stepped over, whatever their types */
+/* attributes of their own types, whatever these are */
 static void attribute_types(const char *path)
 {
     const hsize_t three = 3;
@@ -1038,6 +1043,82 @@ static void committed_record(const char *path)
     done(f);
 }
 
+static void committed_itself(const char *path)
+{
+    hid_t f = create(path);
+    commit(f, "t", H5T_STD_I32LE);
+    hid_t t = OK(H5Topen2(f, "t", H5P_DEFAULT));
+    attribute_of(f, "t", "a", t, 1);
+    OK(H5Tclose(t));
+    done(f);
+}
+
+/* attributes on every kind of object, of a committed datatype and of their own */
+static void on_every_kind(hid_t f, hid_t acpl)
+{
+    const char *holders[] = {"/", "g", "d", "t"};
+    hid_t t = OK(H5Topen2(f, "t", H5P_DEFAULT));
+    for (int i = 0; i < 4; i++) {
+        attribute_with(f, holders[i], "\xc3\xa4", t, (hsize_t)i + 1, acpl);
+        attribute_with(f, holders[i], "\xc3\xb6", H5T_STD_U8LE, (hsize_t)i + 1, acpl);
+    }
+    OK(H5Tclose(t));
+}
+
+static hid_t group_dataset_type(const char *path)
+{
+    hid_t f = create(path);
+    group(f, "g");
+    row(f, "d", H5T_STD_U8LE, 1);
+    commit(f, "t", H5T_STD_I32LE);
+    return f;
+}
+
+static void attribute_utf8(const char *path)
+{
+    hid_t f = group_dataset_type(path);
+    hid_t acpl = OK(H5Pcreate(H5P_ATTRIBUTE_CREATE));
+    OK(H5Pset_char_encoding(acpl, H5T_CSET_UTF8));
+    on_every_kind(f, acpl);
+    OK(H5Pclose(acpl));
+    done(f);
+}
+
+/* attributes of a newer version in headers of the old one */
+static void reopened_v18_attributes(const char *path)
+{
+    done(group_dataset_type(path));
+    hid_t f = reopen_with(path, access_list(H5F_LIBVER_V18, H5F_LIBVER_LATEST));
+    on_every_kind(f, H5P_DEFAULT);
+    done(f);
+}
+
+/* a type that never had a name */
+static void committed_anonymous(const char *path)
+{
+    hid_t f = create(path);
+    hid_t t = OK(H5Tcopy(H5T_STD_I32LE));
+    hid_t tcpl = untimed(H5P_DATATYPE_CREATE);
+    OK(H5Tcommit_anon(f, t, tcpl, H5P_DEFAULT));
+    attribute_of(f, "/", "a", t, 1);
+    OK(H5Pclose(tcpl));
+    OK(H5Tclose(t));
+    done(f);
+}
+
+/* the copy gets a copy of the committed datatype, without a name */
+static void committed_copied(const char *path)
+{
+    hid_t f = create(path);
+    commit(f, "t", H5T_STD_I32LE);
+    hid_t t = OK(H5Topen2(f, "t", H5P_DEFAULT));
+    row(f, "d", t, 3);
+    attribute_of(f, "d", "a", t, 1);
+    OK(H5Tclose(t));
+    OK(H5Ocopy(f, "d", f, "e", H5P_DEFAULT, H5P_DEFAULT));
+    done(f);
+}
+
 static void comments(const char *path)
 {
     hid_t f = create(path);
@@ -1282,7 +1363,7 @@ static void null_space(const char *path)
     done(f);
 }
 
-/* such an attribute isn't read, so the file is within the scope */
+/* an attribute's dataspace isn't read, so the file is within the scope */
 static void null_attribute(const char *path)
 {
     hid_t f = create(path);
@@ -1607,8 +1688,10 @@ static const recipe recipes[] = {
     IN(attributes_openings, "attributes added over seven openings: many continuations"),
     IN(attributes_deleted, "attributes added and deleted over eight openings: null messages"),
     IN(attribute_large, "attributes of 4,000 and 8,000 bytes"),
-    IN(attribute_types, "attributes of other classes: variable length, reference, array; attributes are stepped over"),
-    IN(null_attribute, "an attribute without elements; attributes are stepped over"),
+    IN(attribute_types, "attributes of other classes: variable length, reference, array; an attribute's own datatype isn't read"),
+    IN(null_attribute, "an attribute without elements; an attribute's dataspace isn't read"),
+    IN(attribute_utf8, "attributes of version 3, since their names are UTF-8: on a group, a dataset, a committed datatype and the root one that shares it and one that doesn't"),
+    IN(reopened_v18_attributes, "the same with bounds 1.8 to latest, in object headers that stay version 1"),
     IN(fixed_types, "class 0 in both byte orders, 1 to 11 bytes, partial precision, bit offset"),
     IN(fixed_unusual, "class 0 with precision 1 in 4 bytes, which newer releases write and read only when told to"),
     IN(float_types, "class 1 in both byte orders, 2 to 16 bytes, bit offset"),
@@ -1625,10 +1708,13 @@ static const recipe recipes[] = {
     IN(fill_values, "fill values set, unset and undefined, and the times of filling"),
     IN(committed_unused, "committed datatypes of several classes, not shared; their bodies aren't read"),
     IN(committed_twice, "a committed datatype under two names"),
-    IN(committed_shared, "a committed datatype of two names that three datasets share: stored 5, true 2"),
-    IN(committed_attributes, "a committed datatype that three attributes share: stored 4, true 1"),
-    IN(committed_unlinked, "two datasets share a committed datatype that has no name any more: not an object of the audit"),
-    IN(committed_record, "a committed compound type shared by two datasets: stored 3, true 1"),
+    IN(committed_shared, "a committed datatype of two names that three datasets share: count 5"),
+    IN(committed_attributes, "a committed datatype that three attributes share: count 4; the root's comes before the links"),
+    IN(committed_unlinked, "two datasets share a committed datatype that has no name any more: count 2"),
+    IN(committed_record, "a committed compound type shared by two datasets: count 3"),
+    IN(committed_itself, "a committed datatype with an attribute of its own type: count 2"),
+    IN(committed_anonymous, "a committed datatype that never had a name, shared by an attribute: count 1"),
+    IN(committed_copied, "a dataset with an attribute of one committed datatype, and its copy: the datatype is copied too, without a name"),
     IN(comments, "object comments"),
     IN(times, "modification times"),
     IN(raised_count, "counts raised and lowered by a program's own calls: stored 3 and true 1, 2 and 1, 1 and 2"),

@@ -105,22 +105,19 @@ def compare(where, image, report, found):
         totals["objects"] += 1
         if o["count"] != stored:
             differs(f"object {address}: the library's count {o['count']}, stored {stored}")
-        if len(o["paths"]) != true:
-            differs(f"object {address}: {len(o['paths'])} paths, true count {true}")
+        shared = sharings.get(address, 0)
+        if len(o["paths"]) + shared != true:
+            differs(f"object {address}: {len(o['paths'])} paths and {shared} sharings, true count {true}")
         walker = reader.Walker(image, LENT)
         walker.superblock()
         walker.header(address)
         header = (image[address], int.from_bytes(image[address + 2 : address + 4], "little"), len(walker.bs))
         if header != (o["version"], o["messages"], o["blocks"]):
             differs(f"object {address}: header version, messages, blocks {header}")
-        shared = sharings.get(address, 0)
-        if stored != true:
-            cause = "shared" if stored == true + shared else "raised or lowered by a program"
-            notes.append(f"{where}: object {address} stored {stored} true {true}, {shared} sharings: {cause}")
-            if stored != true + shared and not where.endswith("/raised_count.h5"):
-                differs(f"object {address}: stored {stored}, true {true}, sharings {shared}")
-        elif shared:
-            differs(f"object {address}: shared, but stored and true agree")
+        if stored != true and where.endswith("/raised_count.h5"):
+            notes.append(f"{where}: object {address} stored {stored} true {true}: raised or lowered by a program")
+        elif stored != true:
+            differs(f"object {address}: stored {stored}, true {true}")
         for path in o["paths"]:
             totals["paths"] += 1
             got = reader.lookup(image, unescaped(path), LENT)[:3]

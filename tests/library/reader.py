@@ -1,8 +1,24 @@
-# A separate reader, written from document 01 and the readings in docs/DECISIONS.md alone.
+# A separate reader, written from document 01, Item 2 of document 02 and the readings in docs/DECISIONS.md alone.
 UNDEF=2**64-1
 class Ref(Exception):
     def __init__(s,n): s.n=n
 def le(b,a,n): return int.from_bytes(b[a:a+n],'little')
+def shared_by(b):
+    """The address that an attribute's body shares, or None."""
+    if len(b)<8: raise Ref(10)
+    v=b[0]
+    if v not in (1,2,3): raise Ref(3)
+    fl=b[1] if v>1 else 0
+    if fl&~1: raise Ref(3)
+    up=7 if v==1 else 0
+    n,t,d=[(le(b,i,2)+up)&~up for i in (2,4,6)]
+    at=9 if v==3 else 8
+    if at+n+t+d>len(b): raise Ref(10)
+    if not fl: return None
+    if t<10: raise Ref(10)
+    p=b[at+n:at+n+t]
+    if not (p[0]==2 or (p[0]==3 and p[1]==2)): raise Ref(3)
+    return le(p,2,8)
 class Walker:
     def __init__(s,im,lent):
         s.im=im; s.room=min(1024,lent//2); s.bs=[]
@@ -33,7 +49,7 @@ class Walker:
         if len(s.bs)>=s.room: raise Ref(13)
         s.bs.append((a,n))
         return s.im[a:a+n]
-    def msgs(s,b,place,out):
+    def msgs(s,b,place,out,attribute):
         i=0
         while i<len(b):
             if len(b)-i<8: raise Ref(10)
@@ -45,29 +61,32 @@ class Walker:
             body=b[i+8:i+8+z]
             if t in (0x10,0x11) and z<16: raise Ref(10)
             if t==0x10 and le(body,8,8)<8: raise Ref(10)
+            if t==0xc: attribute(body)
             out.append((t,f,body,place+i+8))
             i+=8+z
-    def header(s,a):
+    def header(s,a,attribute=lambda body:None):
         if a+16>s.eof: raise Ref(5)
         n=16+le(s.im,a+8,4)
         b=s.enter(a,n)
         if b[0]!=1: raise Ref(3)
         out=[]
-        s.msgs(b[16:],a+16,out)
+        s.msgs(b[16:],a+16,out,attribute)
         k=0
         while True:
             cs=[m for m in out if m[0]==0x10]
             if k>=len(cs): break
             ca,cl=le(cs[k][2],0,8),le(cs[k][2],8,8)
             cb=s.enter(ca,cl)
-            s.msgs(cb,ca,out)
+            s.msgs(cb,ca,out,attribute)
             k+=1
         if len(out)!=le(b,2,2): raise Ref(10)
         c={t:[m for m in out if m[0]==t] for t in (1,3,8,0x11)}
         q=tuple(len(c[t]) for t in (1,3,8,0x11))
         if q==(0,0,0,1): return ('g',le(c[0x11][0][2],0,8),le(c[0x11][0][2],8,8))
         if q==(1,1,1,0): return ('d',c[1][0],c[3][0],c[8][0])
-        if q==(0,1,0,0): return ('t',)
+        if q==(0,1,0,0):
+            if c[3][0][1]&2: raise Ref(10)
+            return ('t',)
         raise Ref(10)
     def group(s,tree,heap,visit):
         h=s.enter(heap,32)
@@ -132,7 +151,7 @@ class Walker:
                 if lv==0: snod(ch,bd)
                 else: node(ch,lv-1,bd)
         node(tree,None,[])
-    def dataset(s,sp,dt,ly):
+    def dataset(s,sp,dt,ly,share=lambda a:None):
         b=sp[2]
         if len(b)<8: raise Ref(11)
         if b[0]!=1: raise Ref(3)
@@ -154,6 +173,7 @@ class Walker:
             if not (b[0]==2 or (b[0]==3 and b[1]==2)): raise Ref(3)
             if len(b)<10: raise Ref(11)
             sha=le(b,2,8)
+            share(sha)
         else:
             cls=b[0]&15; ver=b[0]>>4
             if not 1<=ver<=3: raise Ref(3)
@@ -189,20 +209,29 @@ def words(bs,lent):
 def audit(im,lent):
     try:
         w=Walker(im,lent); w.superblock(); w.fresh()
-        obs=[w.root]; links={w.root:1}
-        def visit(t,ty,a):
-            if ty==2: return
-            if a in links: links[a]+=1
+        obs=[w.root]; counts={w.root:1}; kinds={}; shared=set()
+        def discover(a):
+            if a in counts: counts[a]+=1
             else:
                 if len(obs)>=256: raise Ref(12)
-                obs.append(a); links[a]=1
+                obs.append(a); counts[a]=1
+        def judge(a):
+            if a in shared and kinds.get(a,'t')!='t': raise Ref(10)
+        def share(a):
+            discover(a); shared.add(a); judge(a)
+        def attribute(b):
+            a=shared_by(b)
+            if a is not None: share(a)
+        def visit(t,ty,a):
+            if ty!=2: discover(a)
         i=0
         while i<len(obs):
-            o=w.header(obs[i])
+            o=w.header(obs[i],attribute)
+            kinds[obs[i]]=o[0]; judge(obs[i])
             if o[0]=='g': w.group(o[1],o[2],visit)
-            elif o[0]=='d': w.dataset(*o[1:])
+            elif o[0]=='d': w.dataset(*o[1:],share)
             i+=1
-        return 0,len(w.bs),[(a,le(im,a+4,4),links[a]) for a in obs],words(w.bs,lent)
+        return 0,len(w.bs),[(a,le(im,a+4,4),counts[a]) for a in obs],words(w.bs,lent)
     except Ref as e: return e.n,0,[],[0]*lent
 def follow(im,path,lent,last,soft):
     ok=1<=len(path)<=1024 and path[0]==0x2f

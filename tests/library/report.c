@@ -2,9 +2,11 @@
  *
  *   report FILE
  *
- * Objects are those that hard links reach, in the order in which they are met: the root first, each object's links by name. A
- * group's path is the one on which it was met first; every hard link gives its object one path, so an object has as many
- * paths as hard links, the root one more ("/"). Compile with -DH5_USE_110_API. */
+ * Objects are those that hard links and sharings reach, in the order in which they are met: the root first; of each object the
+ * committed datatypes that its attributes share, as they stand in its header, then the one that a dataset shares, or a
+ * group's links by name. A group's path is the one on which it was met first; every hard link gives its object one path, so an
+ * object has as many paths as hard links, the root one more ("/"), and a committed datatype may have none. Compile with
+ * -DH5_USE_110_API. */
 #include <stdint.h>
 #include <stdio.h>
 #include <stdlib.h>
@@ -51,7 +53,7 @@ static void escaped(const char *text)
 
 typedef struct {
     haddr_t address;
-    char *path; /* the first one */
+    char *path; /* the first one, if it has any */
     char **paths;
     size_t count;
 } object;
@@ -65,17 +67,21 @@ static size_t soft_count;
 static char **others;
 static size_t other_count;
 
+static object *met(haddr_t address)
+{
+    for (size_t i = 0; i < object_count; i++)
+        if (objects[i].address == address)
+            return objects + i;
+    objects = room(objects, (object_count + 1) * sizeof *objects);
+    objects[object_count] = (object){address, NULL, NULL, 0};
+    return objects + object_count++;
+}
+
 static void link_to(haddr_t address, char *path)
 {
-    object *o = objects;
-    while (o < objects + object_count && o->address != address)
-        o++;
-    if (o == objects + object_count) {
-        size_t at = object_count++;
-        objects = room(objects, object_count * sizeof *objects);
-        o = objects + at;
-        *o = (object){address, path, NULL, 0};
-    }
+    object *o = met(address);
+    if (!o->path)
+        o->path = path;
     o->paths = room(o->paths, (o->count + 1) * sizeof *o->paths);
     o->paths[o->count++] = path;
 }
@@ -149,6 +155,41 @@ static haddr_t committed(hid_t type)
     return info.addr;
 }
 
+/* the address of the committed datatype that an attribute shares, else 0; by name, or as they stand in the header */
+static haddr_t shared_by(hid_t id, hsize_t number, H5_iter_order_t order)
+{
+    hid_t attr = H5Aopen_by_idx(id, ".", H5_INDEX_NAME, order, number, H5P_DEFAULT, H5P_DEFAULT);
+    must(attr, "H5Aopen_by_idx");
+    hid_t type = H5Aget_type(attr);
+    must(type, "H5Aget_type");
+    haddr_t shared = committed(type);
+    must(H5Tclose(type), "H5Tclose");
+    must(H5Aclose(attr), "H5Aclose");
+    return shared;
+}
+
+/* meets all that an object shares or links to */
+static void meet_from(hid_t id, char *path)
+{
+    H5O_info_t info;
+    must(H5Oget_info(id, &info), "H5Oget_info");
+    for (hsize_t i = 0; i < info.num_attrs; i++) {
+        haddr_t shared = shared_by(id, i, H5_ITER_NATIVE);
+        if (shared)
+            met(shared);
+    }
+    if (H5Iget_type(id) == H5I_DATASET) {
+        hid_t type = H5Dget_type(id);
+        must(type, "H5Dget_type");
+        haddr_t shared = committed(type);
+        if (shared)
+            met(shared);
+        must(H5Tclose(type), "H5Tclose");
+    }
+    if (H5Iget_type(id) == H5I_GROUP)
+        must(H5Literate(id, H5_INDEX_NAME, H5_ITER_INC, NULL, each, path), "H5Literate");
+}
+
 static void dataset(hid_t set)
 {
     hsize_t sizes[H5S_MAX_RANK], maxima[H5S_MAX_RANK];
@@ -204,7 +245,8 @@ static void whole_object(hid_t file, object *o)
     int kind = info.type == H5O_TYPE_GROUP ? 1 : info.type == H5O_TYPE_DATASET ? 2 : info.type == H5O_TYPE_NAMED_DATATYPE ? 3 : 0;
     printf("object %llu %d %u %u %u %u %llu\n", (unsigned long long)info.addr, kind, info.rc, info.hdr.version, info.hdr.nmesgs,
            info.hdr.nchunks, (unsigned long long)info.num_attrs);
-    qsort(o->paths, o->count, sizeof *o->paths, by_bytes);
+    if (o->count)
+        qsort(o->paths, o->count, sizeof *o->paths, by_bytes);
     for (size_t i = 0; i < o->count; i++) {
         printf("path ");
         escaped(o->paths[i]);
@@ -213,15 +255,9 @@ static void whole_object(hid_t file, object *o)
     if (kind == 2)
         dataset(id);
     for (hsize_t i = 0; i < info.num_attrs; i++) {
-        hid_t attr = H5Aopen_by_idx(id, ".", H5_INDEX_NAME, H5_ITER_INC, i, H5P_DEFAULT, H5P_DEFAULT);
-        must(attr, "H5Aopen_by_idx");
-        hid_t type = H5Aget_type(attr);
-        must(type, "H5Aget_type");
-        haddr_t shared = committed(type);
+        haddr_t shared = shared_by(id, i, H5_ITER_INC);
         if (shared)
             printf("sharing %llu\n", (unsigned long long)shared);
-        must(H5Tclose(type), "H5Tclose");
-        must(H5Aclose(attr), "H5Aclose");
     }
     must(H5Oclose(id), "H5Oclose");
 }
@@ -255,8 +291,7 @@ static int opened(const char *path)
     for (size_t i = 0; i < object_count; i++) {
         hid_t id = H5Oopen_by_addr(file, objects[i].address);
         must(id, "H5Oopen_by_addr");
-        if (H5Iget_type(id) == H5I_GROUP)
-            must(H5Literate(id, H5_INDEX_NAME, H5_ITER_INC, NULL, each, objects[i].path), "H5Literate");
+        meet_from(id, objects[i].path);
         must(H5Oclose(id), "H5Oclose");
     }
     for (size_t i = 0; i < object_count; i++)

@@ -2,7 +2,7 @@
 
 use compare::agree::{lent_bytes, Pair};
 use compare::generate::corpus::{cases, each};
-use compare::generate::{limits, small, special};
+use compare::generate::{limits, sharing, small, special};
 use compare::reader::front::REPLY_WORDS;
 use std::collections::hash_map::DefaultHasher;
 use std::collections::{BTreeMap, HashSet};
@@ -87,6 +87,26 @@ fn audits_agree_at_the_limits() {
             );
             assert!(pairs < 1024 || number == special.number, "{}", special.name);
         }
+    }
+}
+
+/// Faults in attributes and shared parts, alone and in pairs.
+#[test]
+fn sharings_agree() {
+    let mut pair = Pair::default();
+    let mut reached = [0; 14];
+    for (turn, file) in sharing::all().iter().enumerate() {
+        let image = &file.sheet.bytes;
+        for blocks in lent_bytes(turn) {
+            let number = pair.agree(&file.name, image, blocks, 8 * REPLY_WORDS);
+            reached[number as usize] += 1;
+            let full = blocks >= 16 * 1024;
+            assert!(!full || number == file.number, "{}: {number}", file.name);
+        }
+    }
+    println!("answers: {reached:?}");
+    for number in [0, 3, 5, 6, 7, 8, 9, 10, 12, 13] {
+        assert!(reached[number] > 0, "answer {number} was never reached");
     }
 }
 

@@ -2,7 +2,7 @@
 //! `tests/library/manifest.txt`: what an audit is to answer, and what the HDF5 library itself reports about each
 //! object. `tests/library/README.md` describes the lines.
 
-use compare::reader::{audit, describe, lookup, AuditReply, Description};
+use compare::reader::{audit, describe, lookup, mend, AuditReply, Description, Object};
 use std::collections::{BTreeSet, HashMap};
 use std::fs;
 use std::path::{Path, PathBuf};
@@ -198,8 +198,11 @@ fn objects_and_links_are_the_library_s() {
     assert!(paths > 1000, "{paths} paths");
 }
 
-/// An audit of every file that it passes against the lines `object` and `path`: the same objects in the same order,
-/// each with its stored count and as many names as its true count. Returns the number of names.
+/// The one recipe whose counts a program changed by its own calls.
+const RAISED: &str = "raised_count";
+
+/// An audit of every file that it passes against the lines of the library: the same objects in the same order, each with
+/// its stored count, and a true count of as many names and sharings as the library reports. Returns the number of names.
 fn objects_are_reported(mut audited: impl FnMut(&str, &[u8]) -> AuditReply) -> usize {
     let mut paths = 0;
     for file in manifest() {
@@ -217,29 +220,78 @@ fn objects_are_reported(mut audited: impl FnMut(&str, &[u8]) -> AuditReply) -> u
             .map(|object| (object.address, u64::from(object.stored)))
             .collect();
         assert_eq!(found, reported, "{}", file.name);
-        let counts: Vec<u32> = reply
+        let sharings = sharings_of(&file);
+        let counts: Vec<(u64, u32)> = names_of_objects(&file)
+            .into_iter()
+            .map(|(address, names)| {
+                paths += names as usize;
+                let shared = sharings.iter().filter(|shared| **shared == address);
+                (address, names + shared.count() as u32)
+            })
+            .collect();
+        let found: Vec<(u64, u32)> = reply
             .objects
             .iter()
-            .map(|object| object.true_count)
+            .map(|object| (object.address, object.true_count))
             .collect();
-        let names = names_of_objects(&file);
-        assert_eq!(names, counts, "{}", file.name);
-        paths += names.iter().sum::<u32>() as usize;
+        assert_eq!(found, counts, "{}", file.name);
+        let right = |object: &Object| object.stored == object.true_count;
+        let all_right = reply.objects.iter().all(right);
+        assert_eq!(all_right, file.one("recipe")[0] != RAISED, "{}", file.name);
     }
     paths
 }
 
-/// How many names each object has.
-fn names_of_objects(file: &Recorded) -> Vec<u32> {
+/// Each object's address and how many names it has.
+fn names_of_objects(file: &Recorded) -> Vec<(u64, u32)> {
     let mut names = Vec::new();
-    for (word, _) in &file.lines {
+    for (word, fields) in &file.lines {
         match word.as_str() {
-            "object" => names.push(0),
-            "path" => *names.last_mut().expect("an object first") += 1,
+            "object" => names.push((number(&fields[0]), 0)),
+            "path" => names.last_mut().expect("an object first").1 += 1,
             _ => {}
         }
     }
     names
+}
+
+/// The addresses that datasets and attributes share, once for each.
+fn sharings_of(file: &Recorded) -> Vec<u64> {
+    let datasets = file.all("type").map(|line| number(&line[2]));
+    let attributes = file.all("sharing").map(|line| number(&line[0]));
+    datasets
+        .filter(|address| *address != 0)
+        .chain(attributes)
+        .collect()
+}
+
+#[test]
+fn mending_restores_the_library_s_counts() {
+    every_count_is_restored(|_, image| {
+        let mut mended = image.to_vec();
+        assert_eq!(mend(&mut mended, WORDS, 512, u64::MAX).number, 0);
+        mended
+    });
+}
+
+/// Every count of a file that an audit passes is raised by one and then mended: the file is again what the library wrote.
+fn every_count_is_restored(mut mended: impl FnMut(&str, &[u8]) -> Vec<u8>) {
+    let mut restored = 0;
+    for file in manifest() {
+        let image = file.image();
+        let mut raised = image.clone();
+        for line in file.all("count").map(|line| numbers_of(line)) {
+            let at = line[0] as usize + 4;
+            let count = line[1] as u32 + 1;
+            raised[at..at + 4].copy_from_slice(&count.to_le_bytes());
+        }
+        let passed = numbers_of(file.one("answer"))[0] == 0;
+        if passed && file.one("recipe")[0] != RAISED {
+            assert!(mended(&file.name, &raised) == image, "{}", file.name);
+            restored += 1;
+        }
+    }
+    assert!(restored > 50, "{restored} files");
 }
 
 /// A lookup's number, kind and address.
@@ -442,8 +494,7 @@ fn description_is_recorded(title: &str, file: &Recorded, address: u64, found: &D
 mod proved {
     use super::*;
     use compare::agree::{lent_bytes, Lent, Pair};
-    use compare::reader::front::{DESCRIBE_WORDS, LOOKUP_WORDS, REPLY_WORDS};
-    use compare::reader::Object;
+    use compare::reader::front::{DESCRIBE_WORDS, LOOKUP_WORDS, MEND_WORDS, REPLY_WORDS};
 
     fn words(bytes: &[u8]) -> Vec<u64> {
         bytes
@@ -492,6 +543,16 @@ mod proved {
         let mut pair = Pair::default();
         let paths = objects_are_reported(|name, image| proved(&mut pair, name, image));
         assert!(paths > 1000, "{paths} paths");
+    }
+
+    #[test]
+    fn proved_mending_restores_the_library_s_counts() {
+        let mut pair = Pair::default();
+        every_count_is_restored(|name, image| {
+            let lent = (8 * WORDS, 8 * 512, 8 * MEND_WORDS);
+            assert_eq!(pair.mends_agree(name, image, lent, u64::MAX), 0, "{name}");
+            pair.left().image.clone()
+        });
     }
 
     /// A file is passed exactly where there is room for all its blocks.

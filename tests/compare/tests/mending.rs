@@ -473,6 +473,24 @@ fn h_with_stored_1() {
     assert_eq!(comparison.mend("H", &image, &audit, 0, 1), 13);
 }
 
+/// Room for one entry: the committed datatype has a name, a dataset and an attribute.
+#[test]
+fn c_with_stored_1() {
+    let mut comparison = Comparison::default();
+    let image = small::c().bytes;
+    let audit = comparison.audit("C", &image, 16 * 8);
+    assert_eq!(comparison.mend("C", &image, &audit, 16, 1), 0);
+    let left = comparison.pair.left().clone();
+    assert_eq!(words(&left.log), [1260, 4_294_967_299]);
+    assert_eq!(words(&left.reply)[..3], [8, 1, 1]);
+    let mut mended = image.clone();
+    mended[1260] = 3;
+    assert!(left.image == mended);
+    assert_eq!(comparison.mend("C", &image, &audit, 15, 1), 18);
+    assert_eq!(comparison.undo("C", &mended, &left.log, (1, 1)), 0);
+    assert!(comparison.pair.left().image == image);
+}
+
 /// Every limit with every log at every room, and all paths before and after.
 #[test]
 fn planned_files_are_mended() {

@@ -70,7 +70,37 @@ fn word(image: &[u8], at: usize, width: usize) -> u64 {
         .fold(0, |word, byte| word << 8 | u64::from(*byte))
 }
 
-/// Blocks are disjoint and inside, and true counts sum to the hard links and one.
+/// How many sharings an object's header has. An audit has passed it, so that nothing leaves the image.
+fn sharings(image: &[u8], header: usize) -> u64 {
+    let mut blocks = vec![(header + 16, word(image, header + 8, 4) as usize)];
+    let mut turn = 0;
+    let mut sharings = 0;
+    while turn < blocks.len() {
+        let (mut at, length) = blocks[turn];
+        let end = at + length;
+        while at < end {
+            let body = at + 8;
+            let shares = match word(image, at, 2) {
+                // Flag bit 1 of the message.
+                0x0003 => image[at + 4] & 2 != 0,
+                // Flag bit 0 of the attribute; version 1 has no flags.
+                0x000c => image[body] > 1 && image[body + 1] & 1 != 0,
+                0x0010 => {
+                    let place = word(image, body, 8) as usize;
+                    blocks.push((place, word(image, body + 8, 8) as usize));
+                    false
+                }
+                _ => false,
+            };
+            sharings += u64::from(shares);
+            at = body + word(image, at + 2, 2) as usize;
+        }
+        turn += 1;
+    }
+    sharings
+}
+
+/// Blocks are disjoint and inside, and true counts sum to the hard links, the sharings and one.
 fn check_passed(name: &str, image: &[u8], reply: &AuditReply) {
     let mut blocks: Vec<Range<u64>> = reply.list[..2 * reply.block_count as usize]
         .chunks(2)
@@ -100,7 +130,12 @@ fn check_passed(name: &str, image: &[u8], reply: &AuditReply) {
         .iter()
         .map(|object| u64::from(object.true_count))
         .sum();
-    assert_eq!(sum, links as u64 + 1, "{name}");
+    let shared: u64 = reply
+        .objects
+        .iter()
+        .map(|object| sharings(image, object.address as usize))
+        .sum();
+    assert_eq!(sum, 1 + links as u64 + shared, "{name}");
     for object in &reply.objects {
         let stored = word(image, object.address as usize + 4, 4);
         assert_eq!(u64::from(object.stored), stored, "{name}");

@@ -1,8 +1,8 @@
-//! The small files of document 01 through the command and through the C front end, against the texts of `expected/`.
+//! The small files through the command and through the C front end, against the texts of `expected/`.
 //!
 //! `NAME.txt` is what the command prints. `NAME_c.txt` is what the C front end leaves: a line `answer N`, then a line
 //! `list WORD VALUE` or `reply WORD VALUE` for each word that isn't zero. `h_lookup_*_c.txt` and `h_describe_*_c.txt` are
-//! the same of lookups and descriptions in H.
+//! the same of lookups and descriptions in H, `c_describe_d_c.txt` of one in C.
 
 use compare::generate::small::{self, DATASET, ROOT};
 use compare::library;
@@ -71,7 +71,8 @@ fn long_e(length: usize) -> Vec<u8> {
     image
 }
 
-/// The files of "Small files to try" and those at the limits of the command's input, by the name of their texts.
+/// The files of "Small files to try", those at the limits of the command's input and some with sharings, by the name of
+/// their texts.
 fn files() -> Vec<(&'static str, Vec<u8>)> {
     let e_ending = |end| small::e().with("superblock end of file", 0, end).bytes;
     vec![
@@ -88,6 +89,9 @@ fn files() -> Vec<(&'static str, Vec<u8>)> {
         ("e_65536_bytes", long_e(65_536)),
         ("e_65537_bytes", long_e(65_537)),
         ("no_bytes", Vec::new()),
+        ("c", small::c().bytes),
+        ("c_unshared", small::c().with("attribute flags", 0, 0).bytes),
+        ("c_own_flag", small::c_with_own_flag().bytes),
     ]
 }
 
@@ -315,13 +319,36 @@ fn lookups_in_h_leave_the_stored_words() {
     }
 }
 
+/// The dataset "d" of C is described by the address of what it shares. With the shared flag on the datatype's own message
+/// a lookup of it and one through it give 10, and "d" is still found.
+#[test]
+fn lookups_in_c_leave_the_stored_words() {
+    for sheet in [small::c(), small::c_with_own_flag()] {
+        let text = left_by(6, DESCRIBE_WORDS, |blocks, reply| {
+            library::describe(&sheet.bytes, b"/d", blocks, reply)
+        });
+        assert_stored(&text, "c_describe_d_c");
+    }
+    let flagged = small::c_with_own_flag().bytes;
+    for path in [b"/t".as_slice(), b"/t/x"] {
+        let text = left_by(6, LOOKUP_WORDS, |blocks, reply| {
+            library::lookup(&flagged, path, blocks, reply)
+        });
+        assert_stored(&text, "c_own_flag_c");
+        let text = left_by(6, DESCRIBE_WORDS, |blocks, reply| {
+            library::describe(&flagged, path, blocks, reply)
+        });
+        assert_stored(&text, "c_own_flag_c");
+    }
+}
+
 /// A text that no file is compared with is a mistake.
 #[test]
 fn every_text_is_used() {
     let mut used: Vec<String> = files()
         .iter()
         .flat_map(|(name, _)| [format!("{name}.txt"), format!("{name}_c.txt")])
-        .chain(["e_5_pairs_c.txt", "e_4_pairs_c.txt"].map(str::to_string))
+        .chain(["e_5_pairs_c.txt", "e_4_pairs_c.txt", "c_describe_d_c.txt"].map(str::to_string))
         .chain(
             [LOOKUPS, DESCRIPTIONS]
                 .concat()

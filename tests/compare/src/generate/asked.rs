@@ -4,7 +4,7 @@ use super::dataset::{Dataset, Datatype, Layout};
 use super::paths::Answer;
 use super::plan::{Content, Link, Object, Plan, Target};
 use super::sheet::Sheet;
-use super::small::{self, DATASET, ROOT};
+use super::small::{self, C_COMMITTED, C_DATASET, DATASET, ROOT};
 use super::special::{self, link, root};
 use super::write::{write, File};
 use super::UNDEFINED;
@@ -57,6 +57,8 @@ pub fn all() -> Vec<Asked> {
     all.extend(rooms_of_the_last_header());
     all.extend(first_answers());
     all.extend(limits());
+    all.extend(attributes_in_c());
+    all.extend(own_flag_in_c());
     all
 }
 
@@ -389,6 +391,49 @@ fn limits() -> Vec<Asked> {
     let many = named("1,025 blocks");
     all.push(refused("1,025 blocks", &many, b"/x", FULL, 13));
     all
+}
+
+/// "Only the audit reads attribute messages", and a description doesn't follow a shared datatype.
+fn attributes_in_c() -> Vec<Asked> {
+    let mut all = Vec::new();
+    for (field, value) in [
+        ("attribute flags", 0),
+        ("attribute flags", 2),
+        ("attribute version", 1),
+        ("attribute version", 4),
+        ("attribute datatype size", 9),
+        ("attribute dataspace size", 99),
+        ("attribute shared version", 1),
+        ("attribute shared address", ROOT),
+        ("attribute shared address", UNDEFINED),
+        ("shared address", ROOT),
+        ("shared address", C_DATASET),
+        ("shared address", UNDEFINED),
+    ] {
+        let image = small::c().with(field, 0, value).bytes;
+        let name = format!("C, {field} is {value}");
+        all.push(asked(&name, &image, b"/", FULL, (0, 1, ROOT), 20));
+        all.push(asked(&name, &image, b"/d", FULL, (0, 2, C_DATASET), 0));
+        let found = (0, 3, C_COMMITTED);
+        all.push(asked(&name, &image, b"/t", FULL, found, 20));
+        all.push(refused(&name, &image, b"/t/x", FULL, 17));
+        all.push(refused(&name, &image, b"/x", FULL, 15));
+    }
+    all
+}
+
+/// "a shared flag on a committed datatype's own message" makes its header unsound.
+fn own_flag_in_c() -> Vec<Asked> {
+    let name = "C, own flag";
+    let image = small::c_with_own_flag().bytes;
+    vec![
+        asked(name, &image, b"/", FULL, (0, 1, ROOT), 20),
+        asked(name, &image, b"/d", FULL, (0, 2, C_DATASET), 0),
+        refused(name, &image, b"/d/x", FULL, 17),
+        refused(name, &image, b"/t", FULL, 10),
+        refused(name, &image, b"/t/x", FULL, 10),
+        refused(name, &image, b"/t/", FULL, 14),
+    ]
 }
 
 /// A root group that is its own member under a name of 255 bytes.

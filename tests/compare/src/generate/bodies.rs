@@ -5,7 +5,11 @@ use super::sheet::Sheet;
 use super::special::{special, Special};
 use super::superblock::Superblock;
 
-/// A dataset alone with these message bodies; `shared` is the datatype's flag.
+/// A committed datatype is at 96, with a message of 8 bytes.
+const COMMITTED: u64 = 96;
+const DATASET: u64 = 128;
+
+/// A dataset with these message bodies; `shared` is the datatype's flag.
 fn dataset(space: &[u8], datatype: &[u8], layout: &[u8], shared: u8) -> Sheet {
     let messages = vec![vec![
         Message::step(1, 0, space),
@@ -14,13 +18,15 @@ fn dataset(space: &[u8], datatype: &[u8], layout: &[u8], shared: u8) -> Sheet {
     ]];
     let mut sheet = Sheet::default();
     sheet.reserve(96);
-    header::write(&mut sheet, &[96], 1, &messages);
+    let datatype = Message::step(3, 0, &STRING);
+    header::write(&mut sheet, &[COMMITTED], 1, &[vec![datatype]]);
+    header::write(&mut sheet, &[DATASET], 1, &messages);
     let superblock = Superblock {
         version: 0,
         leaf_k: 1,
         internal_k: 1,
         end: sheet.bytes.len() as u64,
-        root: 96,
+        root: DATASET,
     };
     superblock.write(&mut sheet);
     sheet
@@ -42,6 +48,7 @@ fn own(class: u8, length: usize) -> Sheet {
 fn shared(version: u8, kind: u8, length: usize) -> Sheet {
     let mut body = [0u8; 16];
     body[..2].copy_from_slice(&[version, kind]);
+    body[2..10].copy_from_slice(&COMMITTED.to_le_bytes());
     dataset(&SCALAR, &body[..length], &FOUR, 2)
 }
 

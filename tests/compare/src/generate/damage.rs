@@ -40,7 +40,7 @@ fn change_field(image: &mut [u8], sheet: &Sheet, random: &mut Random) {
     let field = choose(sheet, random);
     let old = value(image, field);
     let mask = u64::MAX >> (64 - 8 * field.width);
-    let new = match random.below(12) {
+    let new = match random.below(13) {
         0 => 0,
         1 => mask,
         2 | 3 => old.wrapping_add(1),
@@ -50,6 +50,7 @@ fn change_field(image: &mut [u8], sheet: &Sheet, random: &mut Random) {
         8 => random.below(64),
         9 => random.below(image.len() as u64),
         10 => swap(image, sheet, field, random),
+        11 => header(sheet, random),
         _ => near_the_top(sheet, random),
     };
     set(image, field, new & mask);
@@ -99,6 +100,20 @@ fn swap(image: &mut [u8], sheet: &Sheet, field: Field, random: &mut Random) -> u
         set(image, other, old);
     }
     new
+}
+
+/// The place of an object's header, where a link or a sharing then leads to, or 0 in a file that is too short for one.
+fn header(sheet: &Sheet, random: &mut Random) -> u64 {
+    let mut headers: Vec<u64> = sheet
+        .fields
+        .iter()
+        .filter(|field| field.name == "header version")
+        .map(|field| field.at as u64)
+        .collect();
+    if headers.is_empty() {
+        headers.push(0);
+    }
+    random.pick(&headers)
 }
 
 /// A value whose sum with a small length passes 2^64, or comes near it.

@@ -69,7 +69,7 @@ impl Dataset {
 
 fn message(kind: u16, flags: u8, mut body: Sheet) -> Message {
     body.pad();
-    Message { kind, flags, body }
+    Message::new(kind, flags, body)
 }
 
 impl Datatype {
@@ -82,6 +82,14 @@ impl Datatype {
             size,
             offset: 0,
             precision: (8 * size) as u16,
+        }
+    }
+
+    /// The object that it is shared with.
+    pub fn object(&self) -> Option<usize> {
+        match self {
+            Datatype::Own { .. } => None,
+            Datatype::Shared { object, .. } => Some(*object),
         }
     }
 

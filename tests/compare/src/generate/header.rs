@@ -1,5 +1,6 @@
 //! Object headers: messages in a first block and in continuations.
 
+use super::attribute::SHARED_ADDRESS;
 use super::sheet::Sheet;
 
 #[derive(Clone, Debug)]
@@ -7,37 +8,56 @@ pub struct Message {
     pub kind: u16,
     pub flags: u8,
     pub body: Sheet,
+    /// The number of the object that an attribute shares.
+    pub shares: Option<usize>,
 }
 
 impl Message {
-    /// A message that is stepped over; its body is padded.
+    pub fn new(kind: u16, flags: u8, body: Sheet) -> Message {
+        Message {
+            kind,
+            flags,
+            body,
+            shares: None,
+        }
+    }
+
+    /// A message of these bytes, padded.
     pub fn step(kind: u16, flags: u8, bytes: &[u8]) -> Message {
         let mut body = Sheet::default();
         body.raw(0, bytes);
         body.pad();
-        Message { kind, flags, body }
+        Message::new(kind, flags, body)
     }
 
     pub fn symbol_table(tree: u64, heap: u64) -> Message {
         let mut body = Sheet::default();
         body.number("table tree", 0, 8, tree);
         body.number("table heap", 8, 8, heap);
-        Message {
-            kind: 0x11,
-            flags: 0,
-            body,
-        }
+        Message::new(0x11, 0, body)
     }
 
-    fn continuation(address: u64, length: u64) -> Message {
+    /// In a block that isn't written yet, `address` is the number of the block that follows.
+    pub fn continuation(address: u64, length: u64) -> Message {
         let mut body = Sheet::default();
         body.number("continuation address", 0, 8, address);
         body.number("continuation length", 8, 8, length);
-        Message {
-            kind: 0x10,
-            flags: 0,
-            body,
+        Message::new(0x10, 0, body)
+    }
+
+    /// The number of the block that a continuation names before it is written.
+    fn child(&self) -> Option<usize> {
+        (self.kind == 0x10).then(|| self.body.value(self.body.fields[0]) as usize)
+    }
+
+    /// The same message with the place of the object that it shares.
+    pub fn placed(&self, places: &[u64]) -> Message {
+        let mut message = self.clone();
+        if let Some(object) = self.shares {
+            let place = places.get(object).copied().unwrap_or(0);
+            message.body = message.body.with(SHARED_ADDRESS, 0, place);
         }
+        message
     }
 
     fn length(&self) -> u64 {
@@ -73,6 +93,20 @@ pub fn deal(messages: Vec<Message>, parents: &[usize]) -> Vec<Vec<Message>> {
     blocks
 }
 
+/// The messages in the order in which they are read: a block, then those that its continuations name, as a queue.
+pub fn in_order(blocks: &[Vec<Message>]) -> Vec<&Message> {
+    let mut order = Vec::new();
+    let mut queue = vec![0];
+    let mut turn = 0;
+    while turn < queue.len() {
+        let block = &blocks[queue[turn]];
+        order.extend(block);
+        queue.extend(block.iter().filter_map(Message::child));
+        turn += 1;
+    }
+    order
+}
+
 pub fn length(block: &[Message]) -> u64 {
     block.iter().map(Message::length).sum()
 }
@@ -90,8 +124,7 @@ pub fn write(sheet: &mut Sheet, places: &[u64], stored: u32, blocks: &[Vec<Messa
     for (number, block) in blocks.iter().enumerate() {
         let mut at = places[number] + if number == 0 { 16 } else { 0 };
         for message in block {
-            if message.kind == 0x10 {
-                let child = message.body.value(message.body.fields[0]) as usize;
+            if let Some(child) = message.child() {
                 let target = Message::continuation(places[child], length(&blocks[child]));
                 target.write(sheet, at);
             } else {

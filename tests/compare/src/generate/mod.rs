@@ -2,11 +2,13 @@
 //! files, and damage to single fields and bytes.
 
 pub mod asked;
+pub mod attribute;
 mod bodies;
 pub mod corpus;
 pub mod damage;
 pub mod dataset;
 mod edges;
+mod faults;
 pub mod files;
 pub mod group;
 pub mod header;
@@ -15,6 +17,7 @@ mod orders;
 pub mod paths;
 pub mod plan;
 pub mod random;
+pub mod sharing;
 pub mod sheet;
 pub mod small;
 pub mod special;

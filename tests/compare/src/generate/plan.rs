@@ -1,7 +1,8 @@
 //! What a file is to hold, before it is written, and what an audit of it has to say.
 
 use super::dataset::Dataset;
-use super::header::Message;
+use super::header::{self, Message};
+use super::write::planned_header;
 
 #[derive(Clone, Debug)]
 pub struct Plan {
@@ -21,7 +22,7 @@ pub struct Object {
     pub content: Content,
     /// The stored count is the true one plus this.
     pub miscount: i64,
-    /// Messages that are stepped over.
+    /// Attributes, and messages that are stepped over.
     pub steps: Vec<Message>,
     /// For every continuation, the number of the block that names it: the header's is 0.
     pub parents: Vec<usize>,
@@ -61,6 +62,15 @@ pub enum Target {
     Soft(Vec<u8>),
 }
 
+impl Link {
+    fn object(&self) -> Option<usize> {
+        match self.target {
+            Target::Object(number) => Some(number),
+            _ => None,
+        }
+    }
+}
+
 impl Object {
     pub fn new(content: Content) -> Object {
         Object {
@@ -92,23 +102,35 @@ impl Plan {
         }
     }
 
-    /// The objects of the walk in order of discovery, each with its true count.
+    /// The objects of the walk in order of discovery, each with its true count: hard links and sharings.
     pub fn walk(&self) -> Vec<(usize, u32)> {
         let mut found = vec![(0, 1)];
         let mut turn = 0;
         while turn < found.len() {
-            if let Content::Group(group) = &self.objects[found[turn].0].content {
-                for link in &group.links {
-                    if let Target::Object(number) = link.target {
-                        match found.iter_mut().find(|object| object.0 == number) {
-                            Some(object) => object.1 += 1,
-                            None => found.push((number, 1)),
-                        }
-                    }
+            for number in references(&self.objects[found[turn].0]) {
+                match found.iter_mut().find(|object| object.0 == number) {
+                    Some(object) => object.1 += 1,
+                    None => found.push((number, 1)),
                 }
             }
             turn += 1;
         }
         found
     }
+}
+
+/// The objects that an object shares or links to, in the order in which an audit meets them.
+fn references(object: &Object) -> Vec<usize> {
+    let blocks = planned_header(object);
+    let messages = header::in_order(&blocks);
+    let mut references: Vec<usize> = messages
+        .iter()
+        .filter_map(|message| message.shares)
+        .collect();
+    match &object.content {
+        Content::Group(group) => references.extend(group.links.iter().filter_map(Link::object)),
+        Content::Dataset(dataset) => references.extend(dataset.datatype.object()),
+        Content::Committed => {}
+    }
+    references
 }

@@ -1,24 +1,28 @@
-//! The small files of document 01 ("Small files to try").
+//! The small files of document 01 ("Small files to try"), and one with sharings.
 
+use super::attribute::Attribute;
 use super::dataset::{Dataset, Datatype, Layout};
 use super::group::{write_heap, write_node, write_symbols, Child, Entry, Segment};
 use super::header::{self, Message};
 use super::sheet::Sheet;
 use super::superblock::Superblock;
+use super::UNDEFINED;
 
 pub const ROOT: u64 = 96;
 pub const DATASET: u64 = 1128;
+/// The root's tree in E and H.
+const TREE: u64 = 136;
 
 /// "E: 800 bytes, K 4 and 16; header at 96 (40 long), tree 136 (544), heap 680 (32), segment 712 (88)."
 pub fn e() -> Sheet {
     let mut sheet = Sheet::default();
     sheet.reserve(800);
     write_root(&mut sheet, 800, 1);
-    write_group(&mut sheet, &[]);
+    write_group(&mut sheet, TREE, &[]);
     sheet
 }
 
-fn write_root(sheet: &mut Sheet, end: u64, stored: u32) {
+pub fn write_superblock(sheet: &mut Sheet, end: u64) {
     let head = Superblock {
         version: 0,
         leaf_k: 4,
@@ -27,12 +31,23 @@ fn write_root(sheet: &mut Sheet, end: u64, stored: u32) {
         root: ROOT,
     };
     head.write(sheet);
-    let messages = vec![vec![Message::symbol_table(136, 680)]];
+}
+
+fn write_root(sheet: &mut Sheet, end: u64, stored: u32) {
+    write_superblock(sheet, end);
+    let messages = vec![vec![table(TREE)]];
     header::write(sheet, &[ROOT], stored, &messages);
 }
 
-/// Tree, heap and, if there are links, a symbol node at 800. The rest of the segment is a free block.
-fn write_group(sheet: &mut Sheet, links: &[(&[u8], u64)]) {
+/// The symbol table message of a group whose tree lies there.
+pub fn table(tree: u64) -> Message {
+    Message::symbol_table(tree, tree + 544)
+}
+
+/// Tree, heap, segment and, if there are links, a symbol node, one behind the other. The rest of the segment is a free
+/// block.
+pub fn write_group(sheet: &mut Sheet, tree: u64, links: &[(&[u8], u64)]) {
+    let (heap, segment_at, symbols) = (tree + 544, tree + 576, tree + 664);
     let mut segment = Segment::new();
     let entries: Vec<Entry> = links
         .iter()
@@ -49,17 +64,17 @@ fn write_group(sheet: &mut Sheet, links: &[(&[u8], u64)]) {
     }
     segment.sheet.reserve(88 - segment.sheet.bytes.len() as u64);
     let head = segment.link_free();
-    write_heap(sheet, 680, head, 712, &segment.sheet);
+    write_heap(sheet, heap, head, segment_at, &segment.sheet);
     if entries.is_empty() {
-        write_node(sheet, 136, 0, 0, &[]);
+        write_node(sheet, tree, 0, 0, &[]);
         return;
     }
     let child = Child {
-        address: 800,
+        address: symbols,
         key: entries[entries.len() - 1].name,
     };
-    write_node(sheet, 136, 0, 0, &[child]);
-    write_symbols(sheet, 800, &entries);
+    write_node(sheet, tree, 0, 0, &[child]);
+    write_symbols(sheet, symbols, &entries);
 }
 
 /// "H: E plus SNOD at 800 (328), names "a" and "b" for a dataset header at 1128 (96 long) with four bytes at 1224."
@@ -72,7 +87,7 @@ pub fn h_with(links: &[(&[u8], u64)], root_stored: u32, stored: u32) -> Sheet {
     let mut sheet = Sheet::default();
     sheet.reserve(1228);
     write_root(&mut sheet, 1228, root_stored);
-    write_group(&mut sheet, links);
+    write_group(&mut sheet, TREE, links);
     let dataset = Dataset {
         sizes: vec![4],
         maxima: None,
@@ -83,6 +98,65 @@ pub fn h_with(links: &[(&[u8], u64)], root_stored: u32, stored: u32) -> Sheet {
     header::write(&mut sheet, &[DATASET], stored, &messages);
     sheet.raw(1224, b"data");
     sheet
+}
+
+/// The dataset "d" and the committed datatype "t" of C.
+pub const C_DATASET: u64 = 1168;
+pub const C_COMMITTED: u64 = 1256;
+
+/// C: root header at 96 (80 long) with an attribute of version 2, tree 176, heap 720, segment 752, SNOD 840 with "d" and
+/// "t", a dataset at 1168 (88 long) without data and a committed datatype at 1256 (40 long). The attribute and the
+/// dataset share the committed datatype. Stored counts 1.
+pub fn c() -> Sheet {
+    c_with(&[], &[])
+}
+
+/// C with the shared flag on the message of "t", the last of its messages.
+pub fn c_with_own_flag() -> Sheet {
+    c().with("message flags", 5, 2)
+}
+
+/// C with further messages in the root's header, before and behind the attribute; all that follows moves.
+pub fn c_with(before: &[Message], behind: &[Message]) -> Sheet {
+    let attribute = Attribute::shared(2, 0).message();
+    let mut root = vec![table(0)];
+    root.extend_from_slice(before);
+    root.push(attribute);
+    root.extend_from_slice(behind);
+    let tree = ROOT + 16 + header::length(&root);
+    let dataset = tree + 664 + 328;
+    let committed = dataset + 88;
+    root[0] = table(tree);
+    let root = root.iter().map(|message| message.placed(&[committed]));
+    let mut sheet = Sheet::default();
+    sheet.reserve(committed + 40);
+    write_superblock(&mut sheet, committed + 40);
+    header::write(&mut sheet, &[ROOT], 1, &[root.collect()]);
+    write_group(&mut sheet, tree, &[(b"d", dataset), (b"t", committed)]);
+    header::write(&mut sheet, &[dataset], 1, &[sharing_dataset(committed)]);
+    header::write(&mut sheet, &[committed], 1, &[vec![committed_message()]]);
+    sheet
+}
+
+/// The messages of a dataset of one element without data that shares the object at an address.
+pub fn sharing_dataset(committed: u64) -> Vec<Message> {
+    let dataset = Dataset {
+        sizes: Vec::new(),
+        maxima: None,
+        datatype: Datatype::Shared {
+            version: 2,
+            object: 0,
+        },
+        layout: Layout::At(UNDEFINED, 0),
+    };
+    let mut messages = dataset.messages(0, committed);
+    messages[1].flags = 2;
+    messages
+}
+
+/// The message of a committed datatype: a string of one byte.
+pub fn committed_message() -> Message {
+    Message::step(3, 0, &[0x13, 0, 0, 0, 1, 0, 0, 0, 0, 0, 0, 0, 0, 0, 0, 0])
 }
 
 /// The root group of E with names for so many committed datatypes less one. A header's stored count is its number, so
@@ -104,11 +178,11 @@ pub fn objects(count: u64) -> Sheet {
         let key = some[some.len() - 1];
         children.push(Child { address, key });
     }
-    write_node(&mut sheet, 136, 0, 0, &children);
+    write_node(&mut sheet, TREE, 0, 0, &children);
     for number in 1..count {
-        let datatype = Message::step(3, 0, &[0x13, 0, 0, 0, 1, 0, 0, 0, 0, 0, 0, 0, 0, 0, 0, 0]);
+        let messages = vec![committed_message()];
         let place = headers + 40 * (number - 1);
-        header::write(&mut sheet, &[place], number as u32, &[vec![datatype]]);
+        header::write(&mut sheet, &[place], number as u32, &[messages]);
     }
     let end = sheet.reserve(0);
     write_root(&mut sheet, end, 1);
@@ -129,7 +203,7 @@ fn entries(names: &[u64], first: u64) -> Vec<Entry> {
         .collect()
 }
 
-/// Both files and their variants, by name.
+/// The files and their variants, by name.
 pub fn all() -> Vec<(&'static str, Sheet)> {
     let loop_links: [(&[u8], u64); 3] = [(b"a", DATASET), (b"b", DATASET), (b"loop", ROOT)];
     vec![
@@ -146,5 +220,6 @@ pub fn all() -> Vec<(&'static str, Sheet)> {
             h_with(&[(b"b", DATASET), (b"a", DATASET)], 1, 2),
         ),
         ("H with loop", h_with(&loop_links, 1, 2)),
+        ("C", c()),
     ]
 }

@@ -4,12 +4,23 @@ use super::dataset::{Dataset, Datatype, Layout};
 use super::plan::{Content, Group, Link, Object, Plan, Target};
 use super::sheet::Sheet;
 use super::write::write;
-use super::{bodies, edges, orders, small, UNDEFINED};
+use super::{bodies, edges, orders, sharing, small, UNDEFINED};
 
 pub struct Special {
     pub name: String,
     pub sheet: Sheet,
     pub number: u32,
+    /// The place of the fault, or of the block that can't be entered, where it is told.
+    pub place: Option<u64>,
+}
+
+impl Special {
+    pub fn at(self, place: u64) -> Special {
+        Special {
+            place: Some(place),
+            ..self
+        }
+    }
 }
 
 pub fn special(name: impl Into<String>, sheet: Sheet, number: u32) -> Special {
@@ -17,6 +28,7 @@ pub fn special(name: impl Into<String>, sheet: Sheet, number: u32) -> Special {
         name: name.into(),
         sheet,
         number,
+        place: None,
     }
 }
 
@@ -35,6 +47,7 @@ pub fn all() -> Vec<Special> {
     all.extend(bodies::datatypes());
     all.extend(bodies::spaces_and_layouts());
     all.extend(orders::orders());
+    all.extend(sharing::passed());
     all.extend(superblocks());
     all.extend(lengths());
     all.extend(lengths_near_the_top());
@@ -43,7 +56,7 @@ pub fn all() -> Vec<Special> {
 }
 
 fn small() -> Vec<Special> {
-    let numbers = [0, 5, 4, 0, 0, 8, 0];
+    let numbers = [0, 5, 4, 0, 0, 8, 0, 0];
     small::all()
         .into_iter()
         .zip(numbers)
@@ -142,6 +155,7 @@ fn names() -> Vec<Special> {
     ]
 }
 
+/// A dataset "d", and a committed datatype without a name that it may share.
 fn with_dataset(sizes: Vec<u64>, datatype: Datatype, layout: Layout) -> Sheet {
     let dataset = Dataset {
         sizes,
@@ -150,7 +164,11 @@ fn with_dataset(sizes: Vec<u64>, datatype: Datatype, layout: Layout) -> Sheet {
         layout,
     };
     let links = vec![link("d", Target::Object(1))];
-    let objects = vec![root(links), Object::new(Content::Dataset(dataset))];
+    let objects = vec![
+        root(links),
+        Object::new(Content::Dataset(dataset)),
+        Object::new(Content::Committed),
+    ];
     write(&Plan::new(objects), 4).sheet
 }
 
@@ -225,7 +243,7 @@ fn far_ends() -> Vec<Special> {
     let far = Layout::At(8, UNDEFINED);
     let shared = Datatype::Shared {
         version: 2,
-        object: 0,
+        object: 2,
     };
     all.push(special(
         "data to 2^64",
@@ -284,7 +302,7 @@ fn lengths_near_the_top() -> Vec<Special> {
 fn shared_data() -> Sheet {
     let shared = Datatype::Shared {
         version: 2,
-        object: 0,
+        object: 2,
     };
     with_dataset(Vec::new(), shared, Layout::Stored(16))
 }

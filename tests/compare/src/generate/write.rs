@@ -1,6 +1,5 @@
 //! A plan turned into a file.
 
-use super::dataset::Datatype;
 use super::group::Writer;
 use super::header::{self, Message};
 use super::plan::{Content, Object, Plan};
@@ -57,7 +56,7 @@ fn reserve_header(
     plan: &Plan,
     object: &Object,
 ) -> Vec<u64> {
-    let blocks = header::deal(messages(object, (0, 0)), &object.parents);
+    let blocks = planned_header(object);
     let mut places = Vec::new();
     for (number, block) in blocks.iter().enumerate() {
         sheet.reserve(random.between(0, plan.gap));
@@ -67,8 +66,13 @@ fn reserve_header(
     places
 }
 
+/// The messages of an object by block, without places.
+pub fn planned_header(object: &Object) -> Vec<Vec<Message>> {
+    header::deal(messages(object, (0, 0), &[]), &object.parents)
+}
+
 /// All messages of an object; `pair` is tree and heap, or data and shared object.
-fn messages(object: &Object, pair: (u64, u64)) -> Vec<Message> {
+fn messages(object: &Object, pair: (u64, u64), places: &[u64]) -> Vec<Message> {
     let mut messages = match &object.content {
         Content::Group(_) => vec![Message::symbol_table(pair.0, pair.1)],
         Content::Dataset(dataset) => dataset.messages(pair.0, pair.1),
@@ -79,7 +83,7 @@ fn messages(object: &Object, pair: (u64, u64)) -> Vec<Message> {
     };
     for (number, step) in object.steps.iter().enumerate() {
         let turn = (number * 5 + 1) % (messages.len() + 1);
-        messages.insert(turn, step.clone());
+        messages.insert(turn, step.placed(places));
     }
     messages
 }
@@ -105,15 +109,12 @@ fn write_content(
             let data = writer.reserve(dataset.layout.stored());
             let bytes = writer.random.bytes(dataset.layout.stored());
             writer.sheet.raw(data, &bytes);
-            let shared = match dataset.datatype {
-                Datatype::Shared { object, .. } => places[object],
-                _ => 0,
-            };
+            let shared = dataset.datatype.object().map_or(0, |object| places[object]);
             (data, shared)
         }
         Content::Committed => (0, 0),
     };
-    messages(object, pair)
+    messages(object, pair, places)
 }
 
 fn stored_counts(plan: &Plan) -> Vec<u32> {

@@ -3,9 +3,9 @@
 use super::blocks::Blocks;
 use super::group::{self, Target};
 use super::header::{self, Kind};
-use super::refusal::Walked;
+use super::refusal::{Located, Stop, Walked};
 use super::table::{Object, Table};
-use super::{dataset, superblock};
+use super::{attribute, dataset, superblock};
 
 /// The audit's reply and the block list as it leaves it.
 #[derive(Clone, PartialEq, Eq, Debug, Default)]
@@ -31,23 +31,35 @@ pub fn audit(image: &[u8], lent_words: usize) -> AuditReply {
             objects: audited.objects,
         },
         // "Any number but 0 returns zeros in every other field, zero-fills every list lent for writing"
-        Err(refusal) => AuditReply {
-            number: refusal.number(),
+        Err(stop) => AuditReply {
+            number: stop.number(),
             list: vec![0; lent_words],
             ..AuditReply::default()
         },
     }
 }
 
+/// Where an audit stops, if it does. No reply says it.
+pub fn audit_stop(image: &[u8], lent_words: usize) -> Option<Stop> {
+    run(image, super::room(lent_words)).err()
+}
+
 /// "enter the superblock; take objects in order of discovery, root first."
 pub fn run(image: &[u8], room: usize) -> Walked<Audited> {
-    let superblock = superblock::read(image)?;
+    let superblock = superblock::read(image).at(0)?;
     let mut blocks = Blocks::start(&superblock, room)?;
     let mut table = Table::with_root(superblock.root);
     let mut number = 0;
     while let Some(address) = table.address(number) {
-        let header = header::read(image, &mut blocks, address)?;
+        // "A shared address is discovered as an object where its message is read, an attribute's with its header's
+        // messages."
+        let header = header::read(image, &mut blocks, address, |attribute| {
+            let shared = attribute::shared_address(attribute)?;
+            shared.map_or(Ok(()), |address| table.share(address))
+        })?;
         table.store(number, header.stored);
+        let committed = matches!(header.kind, Kind::Committed);
+        table.learn_kind(number, committed).at(address)?;
         match header.kind {
             Kind::Group { tree, heap } => {
                 group::walk(
@@ -66,7 +78,8 @@ pub fn run(image: &[u8], room: usize) -> Walked<Audited> {
                 datatype,
                 layout,
             } => {
-                dataset::read(&mut blocks, space, datatype, layout)?;
+                let messages = [space, datatype, layout];
+                dataset::read(&mut blocks, messages, |address| table.share(address))?;
             }
             Kind::Committed => {}
         }

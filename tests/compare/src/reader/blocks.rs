@@ -1,6 +1,6 @@
 //! The block list of a walk.
 
-use super::refusal::{ask, Refusal, Walked};
+use super::refusal::{Part, Refusal, Stop, Walked};
 use super::superblock::Superblock;
 use std::ops::Range;
 
@@ -28,37 +28,59 @@ impl Blocks {
             entered: Vec::with_capacity(room.min(64)),
             by_address: Vec::with_capacity(room.min(64)),
         };
-        blocks.enter(0, superblock.length)?;
+        blocks.enter(Part::Superblock, 0, superblock.length)?;
         Ok(blocks)
     }
 
     /// The end of `length` bytes at `address` if they lie "inside the end-of-file address".
-    fn end(&self, address: u64, length: u64) -> Walked<u64> {
-        address
-            .checked_add(length)
-            .filter(|end| *end <= self.end_of_file)
-            .ok_or(Refusal::BlockOutside)
+    fn end(&self, part: Part, address: u64, length: u64) -> Walked<u64> {
+        let end = address.checked_add(length);
+        end.filter(|end| *end <= self.end_of_file)
+            .ok_or(Stop::NotEntered {
+                refusal: Refusal::BlockOutside,
+                part,
+                address,
+                length,
+                met: 0,
+            })
     }
 
     /// "A part whose length must first be read gives 5 if its fixed prefix isn't inside." Gives the prefix's place.
-    pub fn prefix(&self, address: u64, length: u64) -> Walked<usize> {
-        self.end(address, length)?;
+    pub fn prefix(&self, part: Part, address: u64, length: u64) -> Walked<usize> {
+        self.end(part, address, length)?;
         Ok(address as usize)
     }
 
     /// "To enter a block: 5, 6, 13". No block is empty. Gives the block's place in the image.
-    pub fn enter(&mut self, address: u64, length: u64) -> Walked<Range<usize>> {
-        let end = self.end(address, length)?;
+    pub fn enter(&mut self, part: Part, address: u64, length: u64) -> Walked<Range<usize>> {
+        let end = self.end(part, address, length)?;
         let before = self.by_address.partition_point(|block| block.1 <= address);
         let apart = match self.by_address.get(before) {
             Some(next) => end <= next.0,
             None => true,
         };
-        ask(apart, Refusal::BlocksMeet)?;
-        ask(self.entered.len() < self.room, Refusal::NoRoom)?;
+        let refused = |refusal, met| Stop::NotEntered {
+            refusal,
+            part,
+            address,
+            length,
+            met,
+        };
+        if !apart {
+            return Err(refused(Refusal::BlocksMeet, self.first_met(address, end)));
+        }
+        if self.entered.len() >= self.room {
+            return Err(refused(Refusal::NoRoom, 0));
+        }
         self.by_address.insert(before, (address, end));
         self.entered.push(Block { address, length });
         Ok(address as usize..end as usize)
+    }
+
+    /// The address of the first block entered that shares a byte with this one.
+    fn first_met(&self, address: u64, end: u64) -> u64 {
+        let meets = |block: &&Block| block.address < end && address < block.address + block.length;
+        self.entered.iter().find(meets).map_or(0, |met| met.address)
     }
 
     pub fn entered(&self) -> &[Block] {

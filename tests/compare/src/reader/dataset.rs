@@ -3,7 +3,7 @@
 use super::blocks::Blocks;
 use super::bytes::{u16_at, u32_at, u64_at, UNDEFINED};
 use super::header::Body;
-use super::refusal::{ask, Refusal, Walked};
+use super::refusal::{ask, Located, Part, Read, Refusal, Walked};
 
 /// "Dimensions 0 to 32, else 11."
 pub const MOST_DIMENSIONS: usize = 32;
@@ -38,26 +38,36 @@ pub struct Dataset {
     pub layout: Layout,
 }
 
-/// "for a dataset its dataspace, datatype, layout, then contiguous bytes if address is defined and length above 0"
-pub fn read(
+/// "for a dataset its dataspace, datatype, layout, then contiguous bytes if address is defined and length above 0".
+/// `share` is called with the address of a shared datatype "where its message is read".
+pub fn read<F>(
     blocks: &mut Blocks,
-    space: Body<'_>,
-    datatype: Body<'_>,
-    layout: Body<'_>,
-) -> Walked<Dataset> {
+    [space, datatype, layout]: [Body<'_>; 3],
+    share: F,
+) -> Walked<Dataset>
+where
+    F: FnOnce(u64) -> Read<()>,
+{
+    let datatype_at = datatype.message();
+    let space = read_space(space.bytes).at(space.message())?;
+    let datatype = read_datatype(datatype).at(datatype_at)?;
+    if let Datatype::Shared { address } = datatype {
+        share(address).at(datatype_at)?;
+    }
+    let layout_at = layout.message();
     let dataset = Dataset {
-        space: read_space(space.bytes)?,
-        datatype: read_datatype(datatype)?,
-        layout: read_layout(layout)?,
+        space,
+        datatype,
+        layout: read_layout(layout).at(layout_at)?,
     };
-    ask(dataset.sizes_agree(), Refusal::BadDataset)?;
+    ask(dataset.sizes_agree(), Refusal::BadDataset).at(layout_at)?;
     let Layout {
         class,
         address,
         size,
     } = dataset.layout;
     if class == 1 && address != UNDEFINED && size > 0 {
-        blocks.enter(address, size)?;
+        blocks.enter(Part::Data, address, size)?;
     }
     Ok(dataset)
 }
@@ -78,12 +88,12 @@ impl Dataset {
 }
 
 /// The first `length` bytes are there: "one too short gives 11".
-fn reaches(body: &[u8], length: usize) -> Walked<()> {
+fn reaches(body: &[u8], length: usize) -> Read<()> {
     ask(body.len() >= length, Refusal::BadDataset)
 }
 
 /// "Dataspace version 1: version, rank, flags, 5 reserved, sizes, maxima if flag bit 0. Other flag bits give 3."
-fn read_space(body: &[u8]) -> Walked<Space> {
+fn read_space(body: &[u8]) -> Read<Space> {
     reaches(body, 1)?;
     ask(body[0] == 1, Refusal::NotRead)?;
     reaches(body, 2)?;
@@ -115,7 +125,7 @@ fn read_space(body: &[u8]) -> Walked<Space> {
     Ok(space)
 }
 
-fn read_datatype(body: Body<'_>) -> Walked<Datatype> {
+fn read_datatype(body: Body<'_>) -> Read<Datatype> {
     if body.shared {
         read_shared(body.bytes)
     } else {
@@ -124,7 +134,7 @@ fn read_datatype(body: Body<'_>) -> Walked<Datatype> {
 }
 
 /// "A shared datatype (version 2, or version 3 with type 2, address at byte 2; others give 3)"
-fn read_shared(body: &[u8]) -> Walked<Datatype> {
+fn read_shared(body: &[u8]) -> Read<Datatype> {
     reaches(body, 1)?;
     ask(matches!(body[0], 2 | 3), Refusal::NotRead)?;
     reaches(body, 2)?;
@@ -136,7 +146,7 @@ fn read_shared(body: &[u8]) -> Walked<Datatype> {
 }
 
 /// "Datatype versions 1 to 3, classes 0, 1, 3, 4, 5. Header 8 bytes: class and version, bits 3, size 4 (1 or more)."
-fn read_own(body: &[u8]) -> Walked<Datatype> {
+fn read_own(body: &[u8]) -> Read<Datatype> {
     reaches(body, 1)?;
     let class = body[0] & 15;
     let version = body[0] >> 4;
@@ -168,7 +178,7 @@ fn read_own(body: &[u8]) -> Walked<Datatype> {
 }
 
 /// "Layout version 3: compact (size 2, data) or contiguous (address, size). [..] Chunked gives 3."
-fn read_layout(body: Body<'_>) -> Walked<Layout> {
+fn read_layout(body: Body<'_>) -> Read<Layout> {
     let bytes = body.bytes;
     reaches(bytes, 1)?;
     ask(bytes[0] == 3, Refusal::NotRead)?;

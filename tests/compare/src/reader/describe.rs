@@ -4,7 +4,7 @@ use super::blocks::Blocks;
 use super::dataset::{self, Dataset, Datatype, MOST_DIMENSIONS};
 use super::header::Kind;
 use super::lookup::{find, Found};
-use super::refusal::{Refusal, Walked};
+use super::refusal::{Refusal, Stop, Walked, NO_PLACE};
 
 /// The fields of a description; "those not given are 0".
 #[derive(Clone, PartialEq, Eq, Debug, Default)]
@@ -44,13 +44,15 @@ pub fn describe(image: &[u8], path: &[u8], lent_words: usize) -> DescribeReply {
             list: described.blocks.list(lent_words),
             description: described.description,
         },
-        Err(refusal) => DescribeReply {
-            number: refusal.number(),
+        Err(stop) => DescribeReply {
+            number: stop.number(),
             list: vec![0; lent_words],
             ..DescribeReply::default()
         },
     }
 }
+
+const NO_DATASET: Stop = Stop::Fault(Refusal::NoDataset, NO_PLACE);
 
 /// "Description looks up (20 unless kind 2), then reads the dataset's messages on the header's list, enters its data
 /// and leaves that list."
@@ -60,7 +62,7 @@ pub fn run(image: &[u8], path: &[u8], room: usize) -> Walked<Described> {
         header, mut blocks, ..
     } = found
     else {
-        return Err(Refusal::NoDataset);
+        return Err(NO_DATASET);
     };
     let Kind::Dataset {
         space,
@@ -68,9 +70,10 @@ pub fn run(image: &[u8], path: &[u8], room: usize) -> Walked<Described> {
         layout,
     } = header.kind
     else {
-        return Err(Refusal::NoDataset);
+        return Err(NO_DATASET);
     };
-    let dataset = dataset::read(&mut blocks, space, datatype, layout)?;
+    // "reported by address and not followed"
+    let dataset = dataset::read(&mut blocks, [space, datatype, layout], |_| Ok(()))?;
     Ok(Described {
         description: fields(&dataset),
         blocks,

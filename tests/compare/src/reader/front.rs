@@ -7,7 +7,7 @@ use super::blocks::Blocks;
 use super::describe::{self, Described, Description};
 use super::lookup;
 use super::mend;
-use super::refusal::{ask, Refusal, Walked};
+use super::refusal::{ask, Located, Refusal, Walked, NO_PLACE};
 
 /// "block count, objects, then address, stored and true count of each": 2 words and 3 for each of 256 objects.
 pub const REPLY_WORDS: usize = 770;
@@ -33,7 +33,7 @@ pub fn audit_bytes(image: &[u8], blocks: &mut [u8], reply: &mut [u8]) -> u32 {
             write_audit(reply, &audited);
             0
         }
-        Err(refusal) => refuse(refusal, blocks, reply),
+        Err(stop) => refuse(stop.number(), blocks, reply),
     }
 }
 
@@ -47,7 +47,7 @@ pub fn lookup_bytes(image: &[u8], path: &[u8], blocks: &mut [u8], reply: &mut [u
             write_words(reply, &[0, u64::from(found.kind()), found.address()]);
             0
         }
-        Err(refusal) => refuse(refusal, blocks, reply),
+        Err(stop) => refuse(stop.number(), blocks, reply),
     }
 }
 
@@ -64,7 +64,7 @@ pub fn describe_bytes(image: &[u8], path: &[u8], blocks: &mut [u8], reply: &mut 
             write_words(reply, &description_words(count, &description));
             0
         }
-        Err(refusal) => refuse(refusal, blocks, reply),
+        Err(stop) => refuse(stop.number(), blocks, reply),
     }
 }
 
@@ -76,9 +76,9 @@ pub fn mend_bytes(
     reply: &mut [u8],
     limit: u64,
 ) -> u32 {
-    if let Err(refusal) = long_enough(reply, MEND_WORDS) {
+    if let Err(stop) = long_enough(reply, MEND_WORDS) {
         log.fill(0);
-        return refuse(refusal, blocks, reply);
+        return refuse(stop.number(), blocks, reply);
     }
     let mended = mend::mend(image, blocks.len() / 8, log.len() / 8, limit);
     write_words(blocks, &mended.list);
@@ -89,8 +89,8 @@ pub fn mend_bytes(
 
 /// A refused undo has no writes.
 pub fn undo_bytes(image: &mut [u8], log: &[u8], reply: &mut [u8], entries: u64, limit: u64) -> u32 {
-    if let Err(refusal) = long_enough(reply, UNDO_WORDS) {
-        return refuse(refusal, &mut [], reply);
+    if let Err(stop) = long_enough(reply, UNDO_WORDS) {
+        return refuse(stop.number(), &mut [], reply);
     }
     let words: Vec<u64> = log
         .chunks_exact(8)
@@ -103,7 +103,7 @@ pub fn undo_bytes(image: &mut [u8], log: &[u8], reply: &mut [u8], entries: u64, 
 
 /// "Under 770, 3 or 1 words gives 13 first, in C only." Lookup and description have their own least number of words.
 fn long_enough(reply: &[u8], words: usize) -> Walked<()> {
-    ask(reply.len() / 8 >= words, Refusal::NoRoom)
+    ask(reply.len() / 8 >= words, Refusal::NoRoom).at(NO_PLACE)
 }
 
 fn room_of(blocks: &[u8]) -> usize {
@@ -111,10 +111,10 @@ fn room_of(blocks: &[u8]) -> usize {
 }
 
 /// "Any number but 0 returns zeros in every other field, zero-fills every list lent for writing".
-fn refuse(refusal: Refusal, blocks: &mut [u8], reply: &mut [u8]) -> u32 {
+fn refuse(number: u32, blocks: &mut [u8], reply: &mut [u8]) -> u32 {
     blocks.fill(0);
     reply.fill(0);
-    refusal.number()
+    number
 }
 
 fn write_list(blocks: &mut [u8], entered: &Blocks) {

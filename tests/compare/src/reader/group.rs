@@ -3,7 +3,7 @@
 use super::blocks::Blocks;
 use super::bytes::{u16_at, u32_at, u64_at};
 use super::heap::{self, Heap};
-use super::refusal::{ask, Refusal, Walked};
+use super::refusal::{ask, Located, Part, Read, Refusal, Walked};
 use super::superblock::Superblock;
 
 /// A sound entry of a symbol node.
@@ -53,7 +53,7 @@ pub fn walk<'a, F>(
     each: F,
 ) -> Walked<()>
 where
-    F: FnMut(Link<'a>) -> Walked<()>,
+    F: FnMut(Link<'a>) -> Read<()>,
 {
     let heap = heap::read(image, blocks, heap)?;
     let mut walk = Walk {
@@ -73,26 +73,28 @@ where
 
 impl<'a, F> Walk<'a, '_, F>
 where
-    F: FnMut(Link<'a>) -> Walked<()>,
+    F: FnMut(Link<'a>) -> Read<()>,
 {
     /// A tree node; `level` is the one that its parent asks for, none for the root.
     fn node(&mut self, address: u64, level: Option<u8>, bounds: Bounds<'a>) -> Walked<()> {
         // "It occupies 32 + 32K bytes, K internal."
         let length = 32 + 32 * self.superblock.internal_k;
-        let node = &self.image[self.blocks.enter(address, length)?];
-        ask(node[..4] == *b"TREE", Refusal::WrongSignature)?;
+        let node = &self.image[self.blocks.enter(Part::Tree, address, length)?];
+        ask(node[..4] == *b"TREE", Refusal::WrongSignature).at(address)?;
         let used = usize::from(u16_at(node, 6));
-        ask(self.node_is_sound(node, level, used), Refusal::BadTree)?;
+        ask(self.node_is_sound(node, level, used), Refusal::BadTree).at(address)?;
         if used == 0 {
             return Ok(());
         }
         for key in 0..=used {
-            self.heap.ends(u64_at(node, 24 + 16 * key))?;
+            let at = 24 + 16 * key;
+            let ends = self.heap.ends(u64_at(node, at));
+            ends.at(address + at as u64)?;
         }
-        let mut low = self.heap.key(u64_at(node, 24))?;
+        let mut low = self.key(node, address, 24)?;
         for child in 0..used {
             let at = 32 + 16 * child;
-            let high = self.heap.key(u64_at(node, at + 8))?;
+            let high = self.key(node, address, at + 8)?;
             let bounds = bounds.within(low, high);
             // "A child is one level lower; children of level 0 are symbol nodes."
             match node[5].checked_sub(1) {
@@ -102,6 +104,11 @@ where
             low = high;
         }
         Ok(())
+    }
+
+    /// The key whose offset stands there in a node.
+    fn key(&self, node: &[u8], address: u64, at: usize) -> Walked<&'a [u8]> {
+        self.heap.key(u64_at(node, at)).at(address + at as u64)
     }
 
     /// "type 0 (else 8), level, entries used", "At most 2K entries. Only a root of level 0 may be empty".
@@ -118,23 +125,25 @@ where
     /// "it occupies 8 + 80K bytes, K leaf. Count 1 to 2K."
     fn symbol_node(&mut self, address: u64, bounds: Bounds<'a>) -> Walked<()> {
         let length = 8 + 80 * self.superblock.leaf_k;
-        let node = &self.image[self.blocks.enter(address, length)?];
+        let node = &self.image[self.blocks.enter(Part::SymbolNode, address, length)?];
         let signed = node[..4] == *b"SNOD" && node[4] == 1;
-        ask(signed, Refusal::WrongSignature)?;
+        ask(signed, Refusal::WrongSignature).at(address)?;
         let count = u16_at(node, 6);
         let in_range = (1..=2 * self.superblock.leaf_k).contains(&u64::from(count));
-        ask(in_range, Refusal::BadTree)?;
+        ask(in_range, Refusal::BadTree).at(address)?;
         // From here on a name has to be above the last one and above the key.
         self.last = self.last.max(bounds.low);
-        for entry in node[8..].chunks_exact(40).take(usize::from(count)) {
-            self.entry(entry, bounds.high)?;
+        let entries = node[8..].chunks_exact(40).take(usize::from(count));
+        for (number, entry) in entries.enumerate() {
+            let place = address + 8 + 40 * number as u64;
+            self.entry(entry, bounds.high).at(place)?;
         }
         Ok(())
     }
 
     /// "for a symbol entry: name, its place among names and keys, type, link value, then, in the audit only, the
     /// discovery of an object"
-    fn entry(&mut self, entry: &[u8], high: Option<&'a [u8]>) -> Walked<()> {
+    fn entry(&mut self, entry: &[u8], high: Option<&'a [u8]>) -> Read<()> {
         let name = self.heap.name(u64_at(entry, 0))?;
         let in_place = name > self.last && high.is_none_or(|high| name <= high);
         ask(in_place, Refusal::BadTree)?;

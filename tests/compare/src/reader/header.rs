@@ -2,7 +2,7 @@
 
 use super::blocks::Blocks;
 use super::bytes::{u16_at, u32_at, u64_at};
-use super::refusal::{ask, Refusal, Walked};
+use super::refusal::{ask, Located, Part, Read, Refusal, Walked};
 
 /// A message body: "handed to its reader as a part of the image and no reader sees beyond it".
 #[derive(Clone, Copy)]
@@ -11,6 +11,13 @@ pub struct Body<'a> {
     /// Its first byte's place in the image.
     pub place: usize,
     pub shared: bool,
+}
+
+impl Body<'_> {
+    /// The place of its message, which has 8 bytes before the body.
+    pub fn message(&self) -> u64 {
+        self.place as u64 - 8
+    }
 }
 
 #[derive(Clone, Copy)]
@@ -68,57 +75,89 @@ struct Messages<'a> {
     continuations: Vec<(u64, u64)>,
 }
 
-/// "header block, then continuations in order met, each read whole before the next; kind"
-pub fn read<'a>(image: &'a [u8], blocks: &mut Blocks, address: u64) -> Walked<Header<'a>> {
+/// "header block, then continuations in order met, each read whole before the next; kind". `each` is called with every
+/// attribute message where it is met.
+pub fn read<'a, F>(
+    image: &'a [u8],
+    blocks: &mut Blocks,
+    address: u64,
+    mut each: F,
+) -> Walked<Header<'a>>
+where
+    F: FnMut(&'a [u8]) -> Read<()>,
+{
     // 16 bytes inside, then the length, whatever the version.
-    let place = blocks.prefix(address, 16)?;
+    let place = blocks.prefix(Part::Header, address, 16)?;
     let length = 16 + u64::from(u32_at(image, place + 8));
-    let block = blocks.enter(address, length)?;
-    ask(image[place] == 1, Refusal::NotRead)?;
+    let block = blocks.enter(Part::Header, address, length)?;
+    ask(image[place] == 1, Refusal::NotRead).at(address)?;
     let mut messages = Messages::default();
-    messages.read_block(&image[block.clone()], block.start, 16)?;
+    messages.read_block(&image[block.clone()], block.start, 16, &mut each)?;
     let mut turn = 0;
     while let Some(&(address, length)) = messages.continuations.get(turn) {
-        let block = blocks.enter(address, length)?;
-        messages.read_block(&image[block.clone()], block.start, 0)?;
+        let block = blocks.enter(Part::Continuation, address, length)?;
+        messages.read_block(&image[block.clone()], block.start, 0, &mut each)?;
         turn += 1;
     }
     // "their total over all blocks equals the message count, else 10"
     let count = u64::from(u16_at(image, place + 2));
-    ask(messages.total == count, Refusal::BadHeader)?;
+    ask(messages.total == count, Refusal::BadHeader).at(address)?;
     Ok(Header {
         stored: u32_at(image, place + 4),
-        kind: messages.kind()?,
+        kind: messages.kind().at(address)?,
     })
 }
 
 impl<'a> Messages<'a> {
     /// "Messages fill each block exactly": from `at` on to the block's end.
-    fn read_block(&mut self, block: &'a [u8], place: usize, mut at: usize) -> Walked<()> {
+    fn read_block<F>(
+        &mut self,
+        block: &'a [u8],
+        place: usize,
+        mut at: usize,
+        each: &mut F,
+    ) -> Walked<()>
+    where
+        F: FnMut(&'a [u8]) -> Read<()>,
+    {
         while at < block.len() {
-            ask(block.len() - at >= 8, Refusal::BadHeader)?;
-            let kind = u16_at(block, at);
-            ask(read_here(kind), Refusal::NotRead)?;
-            let size = usize::from(u16_at(block, at + 2));
-            // "size a multiple of 8"
-            ask(size.is_multiple_of(8), Refusal::BadHeader)?;
-            ask(block.len() - at - 8 >= size, Refusal::BadHeader)?;
-            // "The shared flag (bit 1) is allowed on 0x0003 only, else 3."
-            let shared = block[at + 4] & 2 != 0;
-            ask(!shared || kind == 0x0003, Refusal::NotRead)?;
-            let body = Body {
-                bytes: &block[at + 8..at + 8 + size],
-                place: place + at + 8,
-                shared,
-            };
-            self.take(kind, body)?;
-            self.total += 1;
-            at += 8 + size;
+            let head = place + at;
+            let length = self.read_message(&block[at..], head, each);
+            at += length.at(head as u64)?;
         }
         Ok(())
     }
 
-    fn take(&mut self, kind: u16, body: Body<'a>) -> Walked<()> {
+    /// The first message of the rest of a block; gives its length.
+    fn read_message<F>(&mut self, rest: &'a [u8], place: usize, each: &mut F) -> Read<usize>
+    where
+        F: FnMut(&'a [u8]) -> Read<()>,
+    {
+        ask(rest.len() >= 8, Refusal::BadHeader)?;
+        let kind = u16_at(rest, 0);
+        ask(read_here(kind), Refusal::NotRead)?;
+        let size = usize::from(u16_at(rest, 2));
+        // "size a multiple of 8"
+        ask(size.is_multiple_of(8), Refusal::BadHeader)?;
+        ask(rest.len() - 8 >= size, Refusal::BadHeader)?;
+        // "The shared flag (bit 1) is allowed on 0x0003 only, else 3."
+        let shared = rest[4] & 2 != 0;
+        ask(!shared || kind == 0x0003, Refusal::NotRead)?;
+        let body = Body {
+            bytes: &rest[8..8 + size],
+            place: place + 8,
+            shared,
+        };
+        if kind == 0x000c {
+            each(body.bytes)?;
+        } else {
+            self.take(kind, body)?;
+        }
+        self.total += 1;
+        Ok(8 + size)
+    }
+
+    fn take(&mut self, kind: u16, body: Body<'a>) -> Read<()> {
         match kind {
             0x0001 => self.spaces.add(body),
             0x0003 => self.datatypes.add(body),
@@ -141,7 +180,7 @@ impl<'a> Messages<'a> {
 
     /// "A group has one 0x0011 and none of 1, 3, 8; a dataset one each of 1, 3, 8 and no 0x0011; a committed datatype
     /// one 3 alone of these, its body not read. Anything else gives 10."
-    fn kind(&self) -> Walked<Kind<'a>> {
+    fn kind(&self) -> Read<Kind<'a>> {
         let times = [
             self.tables.times,
             self.spaces.times,
@@ -159,7 +198,11 @@ impl<'a> Messages<'a> {
                 datatype,
                 layout,
             }),
-            ([0, 0, 1, 0], _, _) => Ok(Kind::Committed),
+            ([0, 0, 1, 0], _, (_, Some(datatype), _)) => {
+                // "a shared flag on a committed datatype's own message" gives 10.
+                ask(!datatype.shared, Refusal::BadHeader)?;
+                Ok(Kind::Committed)
+            }
             _ => Err(Refusal::BadHeader),
         }
     }

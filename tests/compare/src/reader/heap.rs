@@ -2,7 +2,7 @@
 
 use super::blocks::Blocks;
 use super::bytes::{u64_at, UNDEFINED};
-use super::refusal::{ask, Refusal, Walked};
+use super::refusal::{ask, Located, Part, Read, Refusal, Walked};
 
 /// A name has at most 255 bytes: a longer key compares with names by its first 256.
 const KEY_BYTES: usize = 256;
@@ -17,16 +17,16 @@ pub struct Heap<'a> {
 
 /// "the heap header, segment", then the free list.
 pub fn read<'a>(image: &'a [u8], blocks: &mut Blocks, address: u64) -> Walked<Heap<'a>> {
-    let head = &image[blocks.enter(address, 32)?];
-    ask(
-        head[..4] == *b"HEAP" && head[4] == 0,
-        Refusal::WrongSignature,
-    )?;
+    let head = &image[blocks.enter(Part::Heap, address, 32)?];
+    let signed = head[..4] == *b"HEAP" && head[4] == 0;
+    ask(signed, Refusal::WrongSignature).at(address)?;
     let size = u64_at(head, 8);
     // "Segment at least 8."
-    ask(size >= 8, Refusal::BadHeapOrName)?;
-    let segment = &image[blocks.enter(u64_at(head, 24), size)?];
-    let free = free_blocks(segment, u64_at(head, 16)).ok_or(Refusal::BadHeapOrName)?;
+    ask(size >= 8, Refusal::BadHeapOrName).at(address)?;
+    let segment_at = u64_at(head, 24);
+    let segment = &image[blocks.enter(Part::Segment, segment_at, size)?];
+    let free = free_blocks(segment, u64_at(head, 16));
+    let free = free.ok_or(Refusal::BadHeapOrName).at(segment_at)?;
     let ended_below = match segment.iter().rposition(|byte| *byte == 0) {
         Some(last_nul) => last_nul + 1,
         None => 0,
@@ -68,12 +68,12 @@ fn free_blocks(segment: &[u8], head: u64) -> Option<Vec<(usize, usize)>> {
 
 impl<'a> Heap<'a> {
     /// "Names, link values and keys are NUL-terminated inside the segment."
-    pub fn ends(&self, offset: u64) -> Walked<()> {
+    pub fn ends(&self, offset: u64) -> Read<()> {
         ask(offset < self.ended_below as u64, Refusal::BadHeapOrName)
     }
 
     /// Keys only have to end; a long one is cut.
-    pub fn key(&self, offset: u64) -> Walked<&'a [u8]> {
+    pub fn key(&self, offset: u64) -> Read<&'a [u8]> {
         self.ends(offset)?;
         let rest = &self.segment[offset as usize..];
         let window = &rest[..rest.len().min(KEY_BYTES)];
@@ -88,7 +88,7 @@ impl<'a> Heap<'a> {
     }
 
     /// "A name has 1 to 255 bytes, no '/', and isn't "."."
-    pub fn name(&self, offset: u64) -> Walked<&'a [u8]> {
+    pub fn name(&self, offset: u64) -> Read<&'a [u8]> {
         let name = self.key(offset)?;
         let sound = (1..=255).contains(&name.len()) && name != b"." && !name.contains(&b'/');
         ask(sound, Refusal::BadHeapOrName)?;
@@ -100,7 +100,7 @@ impl<'a> Heap<'a> {
     }
 
     /// A symbolic link's value: any bytes, of any length.
-    pub fn link_value(&self, offset: u64) -> Walked<()> {
+    pub fn link_value(&self, offset: u64) -> Read<()> {
         self.ends(offset)?;
         let offset = offset as usize;
         match self.first_free(offset) {

@@ -3,7 +3,7 @@
 use super::blocks::Blocks;
 use super::group::{self, Target};
 use super::header::{self, Header, Kind};
-use super::refusal::{ask, Refusal, Walked};
+use super::refusal::{ask, Located, Read, Refusal, Stop, Walked, NO_PLACE};
 use super::superblock::{self, Superblock};
 
 #[derive(Clone, PartialEq, Eq, Debug, Default)]
@@ -53,14 +53,19 @@ pub fn lookup(image: &[u8], path: &[u8], lent_words: usize) -> LookupReply {
             reply.kind = found.kind();
             reply.address = found.address();
         }
-        Err(refusal) => reply.number = refusal.number(),
+        Err(stop) => reply.number = stop.number(),
     }
     reply
 }
 
+/// Where a lookup stops, if it does. No reply says it.
+pub fn lookup_stop(image: &[u8], path: &[u8], lent_words: usize) -> Option<Stop> {
+    find(image, path, super::room(lent_words)).err()
+}
+
 pub fn find<'a>(image: &'a [u8], path: &[u8], room: usize) -> Walked<Found<'a>> {
-    let components = components(path)?;
-    let superblock = superblock::read(image)?;
+    let components = components(path).at(NO_PLACE)?;
+    let superblock = superblock::read(image).at(0)?;
     let mut address = superblock.root;
     let count = components.len();
     for (number, component) in components.into_iter().enumerate() {
@@ -68,19 +73,24 @@ pub fn find<'a>(image: &'a [u8], path: &[u8], room: usize) -> Walked<Found<'a>> 
             Target::Hard(next) => address = next,
             // "symbolic link before the last component"
             Target::Symbolic => {
-                ask(number + 1 == count, Refusal::SymbolicLink)?;
+                ask(number + 1 == count, Refusal::SymbolicLink).at(NO_PLACE)?;
                 return Ok(Found::SymbolicLink);
             }
         }
     }
     // "the last object's header is then read on a fresh list"
     let mut blocks = Blocks::start(&superblock, room)?;
-    let header = header::read(image, &mut blocks, address)?;
+    let header = header::read(image, &mut blocks, address, stepped_over)?;
     Ok(Found::Object {
         address,
         header,
         blocks,
     })
+}
+
+/// "Only the audit reads attribute messages".
+fn stepped_over(_attribute: &[u8]) -> Read<()> {
+    Ok(())
 }
 
 /// "Each component starts a fresh block list (superblock first), and its whole group must be sound".
@@ -92,9 +102,9 @@ fn step(
     component: &[u8],
 ) -> Walked<Target> {
     let mut blocks = Blocks::start(superblock, room)?;
-    let header = header::read(image, &mut blocks, address)?;
+    let header = header::read(image, &mut blocks, address, stepped_over)?;
     let Kind::Group { tree, heap } = header.kind else {
-        return Err(Refusal::NoGroup);
+        return Err(Stop::Fault(Refusal::NoGroup, NO_PLACE));
     };
     let mut found = None;
     group::walk(image, superblock, &mut blocks, (tree, heap), |link| {
@@ -103,12 +113,12 @@ fn step(
         }
         Ok(())
     })?;
-    found.ok_or(Refusal::NameAbsent)
+    found.ok_or(Refusal::NameAbsent).at(NO_PLACE)
 }
 
 /// "a path is "/" or '/' before each component; any other form, a length outside 1 to 1,024, or a component that is
 /// empty, ".", over 255 bytes or holds a NUL gives 14"
-fn components(path: &[u8]) -> Walked<Vec<&[u8]>> {
+fn components(path: &[u8]) -> Read<Vec<&[u8]>> {
     let formed = (1..=1024).contains(&path.len()) && path[0] == b'/';
     ask(formed, Refusal::BadPath)?;
     if path.len() == 1 {

@@ -2,7 +2,7 @@
 
 use super::audit;
 use super::bytes::u32_at;
-use super::refusal::{ask, Refusal, Walked};
+use super::refusal::{ask, Located, Read, Refusal, Walked, NO_PLACE};
 use super::superblock;
 
 #[derive(Clone, PartialEq, Eq, Debug, Default)]
@@ -25,8 +25,8 @@ pub struct UndoReply {
 pub fn mend(image: &mut [u8], lent_words: usize, log_words: usize, limit: u64) -> MendReply {
     match try_mend(image, lent_words, log_words, limit) {
         Ok(reply) => reply,
-        Err(refusal) => MendReply {
-            number: refusal.number(),
+        Err(stop) => MendReply {
+            number: stop.number(),
             list: vec![0; lent_words],
             log: vec![0; log_words],
             ..MendReply::default()
@@ -51,7 +51,7 @@ fn try_mend(
         .filter(|object| object.stored != object.true_count);
     let mut entries = 0;
     for object in wrong {
-        let place = places.next().ok_or(Refusal::LogTooShort)?;
+        let place = places.next().ok_or(Refusal::LogTooShort).at(NO_PLACE)?;
         place[0] = object.address + 4;
         place[1] = u64::from(object.stored) << 32 | u64::from(object.true_count);
         entries += 1;
@@ -83,7 +83,7 @@ pub fn undo(image: &mut [u8], log: &[u64], entries: u64, limit: u64) -> UndoRepl
 
 /// "answer 1 first, 18 if fewer than 2e words, 19 if any of the e fields leaves the image or holds neither old nor
 /// new; then the old counts of the last n entries, or of all if n is above e, are written, last first"
-fn try_undo(image: &mut [u8], log: &[u64], entries: u64, limit: u64) -> Walked<u64> {
+fn try_undo(image: &mut [u8], log: &[u64], entries: u64, limit: u64) -> Read<u64> {
     ask(superblock::length_in_range(image), Refusal::ImageLength)?;
     let held = (log.len() / 2) as u64;
     ask(entries <= held, Refusal::LogTooShort)?;

@@ -1,5 +1,6 @@
 //! The separate reader. Comments in quotes are sentences of document 01.
 
+mod attribute;
 mod audit;
 mod blocks;
 mod bytes;
@@ -15,11 +16,11 @@ mod refusal;
 mod superblock;
 mod table;
 
-pub use audit::{audit, AuditReply};
+pub use audit::{audit, audit_stop, AuditReply};
 pub use describe::{describe, DescribeReply, Description};
-pub use lookup::{lookup, LookupReply};
+pub use lookup::{lookup, lookup_stop, LookupReply};
 pub use mend::{mend, undo, MendReply, UndoReply};
-pub use refusal::Refusal;
+pub use refusal::{Part, Refusal, Stop};
 pub use table::Object;
 
 /// "Room is the lesser of 1,024 and the whole pairs lent."

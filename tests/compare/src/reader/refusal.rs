@@ -1,4 +1,4 @@
-//! The numbers of the table "Replies" other than 0.
+//! The numbers of the table "Replies" other than 0, and where a walk stops with one.
 
 #[derive(Clone, Copy, PartialEq, Eq, Debug)]
 #[repr(u32)]
@@ -31,14 +31,75 @@ impl Refusal {
     }
 }
 
-/// What a step of a walk gives.
-pub type Walked<T> = Result<T, Refusal>;
+/// What a reader of a part of the image gives. Its answer has no place: who hands over the part knows that.
+pub type Read<T> = Result<T, Refusal>;
 
 /// `Ok` exactly if `sound` holds.
-pub fn ask(sound: bool, refusal: Refusal) -> Walked<()> {
+pub fn ask(sound: bool, refusal: Refusal) -> Read<()> {
     if sound {
         Ok(())
     } else {
         Err(refusal)
+    }
+}
+
+/// Why a walk stops.
+#[derive(Clone, Copy, PartialEq, Eq, Debug)]
+pub enum Stop {
+    /// The answer to a fault, and the place in the image where it was met.
+    Fault(Refusal, u64),
+    /// 5, 6 and 13: the block that can't be entered, and with 6 the address of the first block entered that it meets.
+    NotEntered {
+        refusal: Refusal,
+        part: Part,
+        address: u64,
+        length: u64,
+        met: u64,
+    },
+}
+
+impl Stop {
+    pub fn number(self) -> u32 {
+        match self {
+            Stop::Fault(refusal, _) | Stop::NotEntered { refusal, .. } => refusal.number(),
+        }
+    }
+
+    /// The place of the fault, or the address of the block that can't be entered.
+    pub fn place(self) -> u64 {
+        match self {
+            Stop::Fault(_, place) => place,
+            Stop::NotEntered { address, .. } => address,
+        }
+    }
+}
+
+/// What a block is.
+#[derive(Clone, Copy, PartialEq, Eq, Debug)]
+pub enum Part {
+    Superblock = 1,
+    Header = 2,
+    Continuation = 3,
+    Heap = 4,
+    Segment = 5,
+    Tree = 6,
+    SymbolNode = 7,
+    Data = 8,
+}
+
+/// The place of an answer that is about no byte of the image: to a path, or to what was lent.
+pub const NO_PLACE: u64 = 0;
+
+/// What a step of a walk gives.
+pub type Walked<T> = Result<T, Stop>;
+
+/// A part's answer becomes a fault where the part stands.
+pub trait Located<T> {
+    fn at(self, place: u64) -> Walked<T>;
+}
+
+impl<T> Located<T> for Read<T> {
+    fn at(self, place: u64) -> Walked<T> {
+        self.map_err(|refusal| Stop::Fault(refusal, place))
     }
 }

@@ -1,7 +1,7 @@
 //! The superblock of versions 0 and 1.
 
 use super::bytes::{u16_at, u32_at, u64_at, UNDEFINED};
-use super::refusal::{ask, Refusal, Walked};
+use super::refusal::{ask, Read, Refusal};
 
 const SIGNATURE: [u8; 8] = [0x89, 0x48, 0x44, 0x46, 0x0d, 0x0a, 0x1a, 0x0a];
 
@@ -21,7 +21,7 @@ pub fn length_in_range(image: &[u8]) -> bool {
 }
 
 /// "1, 2, 3, 4 for the superblock"
-pub fn read(image: &[u8]) -> Walked<Superblock> {
+pub fn read(image: &[u8]) -> Read<Superblock> {
     ask(length_in_range(image), Refusal::ImageLength)?;
     ask(image[..8] == SIGNATURE, Refusal::NoSignature)?;
     let version = image[8];
@@ -47,7 +47,7 @@ pub fn read(image: &[u8]) -> Walked<Superblock> {
 }
 
 /// All that gives 3 after the version: it lies in the first 96 bytes in both versions.
-fn read_what_is_not_read_here(image: &[u8], shift: usize) -> Walked<()> {
+fn read_what_is_not_read_here(image: &[u8], shift: usize) -> Read<()> {
     // "Bytes 9, 10, 12 are 0; byte 13 and 14 are 8"
     let versions = image[9] == 0 && image[10] == 0 && image[12] == 0;
     let widths = image[13] == 8 && image[14] == 8;
