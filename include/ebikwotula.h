@@ -1,5 +1,5 @@
-/* Ebikwotula: the audit of hard links in an HDF5 file, mending and undo of their counts, path lookup and dataset
- * description, for C.
+/* Ebikwotula: the audit of hard links and sharings in an HDF5 file, mending and undo of their counts, path lookup and
+ * dataset description, for C.
  *
  * Link with libebikwotula.a (rt staticlib ebikwotula).
  *
@@ -82,7 +82,7 @@ enum ebikwotula_kind {
  *           then three words for each object, in order of discovery, the root first: for object i, from 0 on,
  *           word 2 + 3 * i   its address
  *           word 3 + 3 * i   the reference count stored in its header
- *           word 4 + 3 * i   its true count: the number of hard links that reach it
+ *           word 4 + 3 * i   its true count: the number of hard links and sharings that reach it
  *
  * If the answer is not 0, every byte of blocks and reply is 0.
  */
