@@ -43,9 +43,14 @@ module _ (im ws : List ℕ) (s : Superblock) (room : ℕ) (is : room ≡ roomOf 
   list-lent = room-lent ws room is
 
   -- the superblock can't be entered
-  pub superblock-stopped : (addresses counts : List ℕ) (x : Refusal) → Walked ws ws₁ (stopped x) (run im eof room (superblockWalk (superblockOf s)) []) → ImageWalked im ws s ws₁ addresses counts (Stopped x)
+  pub superblock-stopped : (addresses counts : List ℕ) (x : Refusal) → Walked ws ws₁ (stopped x) (run im eof room (superblockWalk (superblockOf s)) []) →
+      ImageWalked im ws s ws₁ addresses counts (Stopped x)
   unfolding auditWalk blocksOf
-  superblock-stopped addresses counts x h = record { walked = rw (← is) (callee-stopped ws₁ (superblockWalk (superblockOf s)) _ (start im eof room w 0 ws list-lent) h); ready = tt }
+  superblock-stopped addresses counts x h = record {
+    walked = rw (← is) (callee-stopped ws₁ (superblockWalk (superblockOf s)) _
+        (start im eof room w 0 ws list-lent) h);
+    ready = tt;
+  }
 
   module _ (n : ℕ) (same : length ws₁ ≡ length ws) (h : Walked ws ws₁ (ended tt n) (run im eof room (superblockWalk (superblockOf s)) [])) where
     -- it is entered, as the first block
@@ -62,7 +67,8 @@ module _ (im ws : List ℕ) (s : Superblock) (room : ℕ) (is : room ≡ roomOf 
     unfolding auditWalk blocksOf
     at-objects = callee-done ws₁ (superblockWalk (superblockOf s)) _ (start im eof room w 0 ws list-lent) same h
 
-    module _ (addresses₀ counts₀ addresses counts marks : List ℕ) (t : Started addresses₀ counts₀ (s .root) addresses counts) (zeros : marks ≡ replicate objectsMost 0) where
+    module _ (addresses₀ counts₀ addresses counts marks : List ℕ) (t : Started addresses₀ counts₀ (s .root) addresses counts)
+        (zeros : marks ≡ replicate objectsMost 0) where
       -- the table holds the root, with one link
       pub root-listed : 1 ≤ s .size → eof < 2 ^ 32 → Listed ws₁ addresses counts marks eof room n 1 0
       unfolding blocksOf
@@ -85,7 +91,8 @@ module _ (im ws : List ℕ) (s : Superblock) (room : ℕ) (is : room ≡ roomOf 
       root-found = rw (t .ledger, zeros)
 
       pub objects-read : (ws₂ addresses₂ counts₂ marks₂ : List ℕ) (r : ObjectRead) → length ws₂ ≡ length ws₁ →
-          FoundWalked im ws₁ addresses counts marks s room (objectsWalk (superblockOf s) objectsMost 0) n 1 ws₂ addresses₂ counts₂ marks₂ r → ImageWalked im ws s ws₂ addresses₂ counts₂ r
+          FoundWalked im ws₁ addresses counts marks s room (objectsWalk (superblockOf s) objectsMost 0) n 1 ws₂ addresses₂ counts₂ marks₂ r →
+          ImageWalked im ws s ws₂ addresses₂ counts₂ r
       unfolding blocksOf
       objects-read ws₂ addresses₂ counts₂ marks₂ (Done count objects) long l =
           let k = rw root-found at (l .walked) in

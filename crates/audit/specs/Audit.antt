@@ -52,7 +52,13 @@ ZerosFrom n l = (k : ℕ) → n ≤ k → getD l k 0 ≡ 0
 
 -- the reply of document 01, by what was returned and left
 abbrev pub replyOf : List ℕ → List ℕ → List ℕ → List ℕ → Audited → AuditReply
-replyOf ws addresses stored counts r = record { number = r .number; blockCount = r .«block_count»; objects = countedPlaces (r .objects) addresses stored counts; list = ws }
+replyOf ws addresses stored counts r = record {
+  number = r .number;
+  blockCount = r .«block_count»;
+  objects = countedPlaces (r .objects) addresses stored
+      counts;
+  list = ws;
+}
 
 -- The reply is the definition's, and its objects have places. Where there are objects, all other places are zeros; no reply shows what a refusal leaves there.
 pub record AuditedIs (im : List ℕ) (lent : ℕ) (ws addresses stored counts : List ℕ) (r : Audited) : Type 0 where

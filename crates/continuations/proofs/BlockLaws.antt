@@ -34,12 +34,14 @@ block-inside eof room v a m n ws c p =
     entryAnswer-zero eof room (blocksOf n ws) a m (entered-zero (kindNumber v) a m (blocksOf n ws) (entryAnswer eof room (blocksOf n ws) a m) n c p .0) .0
 
 -- A block of so many bytes that was entered: what is found in it can be counted.
-module _ (eof room : ℕ) (v : Kind) (a m n : ℕ) (ws ws₁ : List ℕ) (l : Lent ws n room) (q : ws₁ ≡ entered (entryAnswer eof room (blocksOf n ws) a m) ws n a m) (c : ℕ)
+module _ (eof room : ℕ) (v : Kind) (a m n : ℕ) (ws ws₁ : List ℕ) (l : Lent ws n room) (q : ws₁ ≡ entered (entryAnswer eof room (blocksOf n ws) a m) ws n a m)
+    (c : ℕ)
     (p : Entered c ≡ entering (entryAnswer eof room (blocksOf n ws) a m) (kindNumber v) a m (blocksOf n ws) n) (auditing : Bool) where
   longer : lengthSum (blocksOf c ws₁) ≡ lengthSum (blocksOf n ws) + m
   unfolding lengthSum
   longer =
-      ap lengthSum (entered-blocks eof room v a m n ws ws₁ l q c p) ∙ lengths-append (blocksOf n ws) (block a m ∷ []) ∙ (let z : lengthSum (blocksOf n ws) + (m + 0) ≡ lengthSum (blocksOf n ws) + m = omega arith in z)
+      ap lengthSum (entered-blocks eof room v a m n ws ws₁ l q c p) ∙ lengths-append (blocksOf n ws) (block a m ∷ []) ∙
+      (let z : lengthSum (blocksOf n ws) + (m + 0) ≡ lengthSum (blocksOf n ws) + m = omega arith in z)
 
   module _ (addresses counts marks : List ℕ) (objects spare : ℕ) (h : CountingIf auditing ws addresses counts marks eof n objects spare) where
     -- the block's bytes are to spare
@@ -65,7 +67,8 @@ module _ (auditing : Bool) (eof : ℕ) (ws : List ℕ) (n : ℕ) (addresses coun
   }
 
   -- it is used up, but for the rest
-  pub counting-kept : (spare used : ℕ) (addresses′ counts′ marks′ : List ℕ) (objects′ : ℕ) → CountingIf auditing ws addresses counts marks eof n objects (spare + used) →
+  pub counting-kept : (spare used : ℕ) (addresses′ counts′ marks′ : List ℕ) (objects′ : ℕ) →
+      CountingIf auditing ws addresses counts marks eof n objects (spare + used) →
       KeptIf auditing addresses counts objects used addresses′ counts′ marks′ objects′ → CountingIf auditing ws addresses′ counts′ marks′ eof n objects′ spare
   counting-kept spare used addresses′ counts′ marks′ objects′ h k e = record {
     small = h e .small;
@@ -76,7 +79,8 @@ module _ (auditing : Bool) (eof : ℕ) (ws : List ℕ) (n : ℕ) (addresses coun
     links = omega (arith, h e .links, k e .links);
   }
 
-  pub counting-less : (spare less : ℕ) → less ≤ spare → CountingIf auditing ws addresses counts marks eof n objects spare → CountingIf auditing ws addresses counts marks eof n objects less
+  pub counting-less : (spare less : ℕ) → less ≤ spare → CountingIf auditing ws addresses counts marks eof n objects spare →
+      CountingIf auditing ws addresses counts marks eof n objects less
   counting-less spare less l h e = record {
     small = h e .small;
     apart = h e .apart;
@@ -86,7 +90,8 @@ module _ (auditing : Bool) (eof : ℕ) (ws : List ℕ) (n : ℕ) (addresses coun
     links = omega (arith, h e .links);
   }
 
-module _ {S : Type 0} (visit : Message → S → Result S) (im : List ℕ) (eof room : ℕ) (ws : List ℕ) (n address size : ℕ) (found : S) (l : Lent ws n room) (ws₁ : List ℕ)
+module _ {S : Type 0} (visit : Message → S → Result S) (im : List ℕ) (eof room : ℕ) (ws : List ℕ) (n address size : ℕ) (found : S) (l : Lent ws n room)
+    (ws₁ : List ℕ)
     (q : ws₁ ≡ entered (entryAnswer eof room (blocksOf n ws) address size) ws n address size) where
   at-entry : Simulation im eof room (blockWalk visit address size found) n ws (blockWalk visit address size found) n ws
   at-entry = start im eof room (blockWalk visit address size found) n ws l
@@ -100,11 +105,13 @@ module _ {S : Type 0} (visit : Message → S → Result S) (im : List ℕ) (eof 
     inside : address + size ≤ eof
     inside = block-inside eof room continuationBlock address size n ws m e
 
-    behind-entry : Simulation im eof room (blockWalk visit address size found) n ws (messages visit (length (part im address size)) address (part im address size) found) m ws₁
+    behind-entry : Simulation im eof room (blockWalk visit address size found) n ws
+        (messages visit (length (part im address size)) address (part im address size) found) m ws₁
     unfolding shown _>>=_
     behind-entry = block-entered size refl refl ws₁ at-entry q m e
 
-    block-is : (w : Walk (Gathered S)) → MessagesAre visit im address (address + size) found w → messages visit (length (part im address size)) address (part im address size) found ≡ w
+    block-is : (w : Walk (Gathered S)) → MessagesAre visit im address (address + size) found w →
+        messages visit (length (part im address size)) address (part im address size) found ≡ w
     block-is w h =
         let d : address + size - address ≡ size = omega arith in
         let z : length (part im address size) ≡ size = part-length im address size (omega (arith, inside)) in

@@ -65,7 +65,8 @@ next-block im ws count b at end waiting l h =
     (λ e. absurd (omega (arith, e .0)))
 
 -- the last block
-pub last-block : (im ws : List ℕ) (count b at end : ℕ) (waiting : List Message) → count ≤ b + 1 → Searched im ws count (cursor b at end) waiting → Sought im ws count (cursor b at end) waiting
+pub last-block : (im ws : List ℕ) (count b at end : ℕ) (waiting : List Message) → count ≤ b + 1 → Searched im ws count (cursor b at end) waiting →
+    Sought im ws count (cursor b at end) waiting
 unfolding blocksOf
 last-block im ws count b at end waiting l =
     ⊎-elim
@@ -74,16 +75,25 @@ last-block im ws count b at end waiting l =
     inl (e .0, subst (λ (k : ℕ). Later im (blocksOf k (drop (b + 1 + (b + 1)) ws)) waiting) z (e .1)))
     (λ e. inr e)
 
-pub found-here : (im ws : List ℕ) (count b at end : ℕ) (waiting : List Message) → at < end → Searched im ws count (cursor b at end) waiting → Sought im ws count (cursor b at end) waiting
+pub found-here : (im ws : List ℕ) (count b at end : ℕ) (waiting : List Message) → at < end → Searched im ws count (cursor b at end) waiting →
+    Sought im ws count (cursor b at end) waiting
 found-here im ws count b at end waiting l = ⊎-elim (λ e. absurd (omega (arith, e .0))) (λ e. inr e)
 
 -- A block more at the end of the list.
 later-more : (im : List ℕ) (bs : List Block) (later new : List Message) (b : Block) → Later im bs later → Holds im (b .at) (b .at + b .size) new →
     Later im (bs ++ (b ∷ [])) (later ++ ofType 0x0010 new)
 later-more im [] later new b l h = (new, [], h, ap (λ (x : List Message). x ++ ofType 0x0010 new) l ∙ sym (append-nil (ofType 0x0010 new)), refl)
-later-more im (x ∷ bs) later new b l h = (l .0, l .1 ++ ofType 0x0010 new, l .2, ap (λ (x : List Message). x ++ ofType 0x0010 new) (l .3) ∙ append-assoc (ofType 0x0010 (l .0)) (l .1) (ofType 0x0010 new), later-more im bs (l .1) new b (l .4) h)
+later-more im (x ∷ bs) later new b l h = (
+  l .0,
+  l .1 ++ ofType 0x0010 new,
+  l .2,
+  ap (λ (x : List Message). x ++ ofType 0x0010 new) (l .3) ∙ append-assoc
+      (ofType 0x0010 (l .0)) (l .1) (ofType 0x0010 new),
+  later-more im bs (l .1) new b (l .4) h,
+)
 
-blocks-more : (ws : List ℕ) (n i a m : ℕ) → i ≤ n → n + n + 2 ≤ length ws → blocksFrom (n + 1) i (set (set ws (n + n) a) (n + n + 1) m) ≡ blocksFrom n i ws ++ (block a m ∷ [])
+blocks-more : (ws : List ℕ) (n i a m : ℕ) → i ≤ n → n + n + 2 ≤ length ws →
+    blocksFrom (n + 1) i (set (set ws (n + n) a) (n + n + 1) m) ≡ blocksFrom n i ws ++ (block a m ∷ [])
 blocks-more ws n i a m h l =
     let d = n - i in
     let e : n + 1 - i ≡ suc d = omega arith in
@@ -93,7 +103,8 @@ blocks-more ws n i a m h l =
     (blocks-snoc a m d (d + d) (drop (i + i) ws) refl (simp length-drop (omega arith)))
 
 -- What waits once a continuation was entered, as the last block of the list, and read.
-pub waiting-more : (im ws : List ℕ) (n : ℕ) (c : Cursor) (rest new : List Message) (a m : ℕ) → n + n + 2 ≤ length ws → Holds im a (a + m) new → Waiting im ws n c rest →
+pub waiting-more : (im ws : List ℕ) (n : ℕ) (c : Cursor) (rest new : List Message) (a m : ℕ) → n + n + 2 ≤ length ws → Holds im a (a + m) new →
+    Waiting im ws n c rest →
     Waiting im (set (set ws (n + n) a) (n + n + 1) m) (n + 1) c (rest ++ ofType 0x0010 new)
 waiting-more im ws n c rest new a m l h w = record {
   here = w .here;
@@ -121,14 +132,16 @@ more sofar new = gathered (sofar ++ new .all) (new .found)
 
 module _ {S : Type 0} (visit : Message → S → Result S) (im : List ℕ) where
   -- the walk from a continuation that waits on: it is entered and read, and what it names waits behind the others
-  next-walk : (fuel at address size : ℕ) (rest sofar : List Message) (found : S) → 16 ≤ u16 im (at + 2) → Number im (at + 8) 8 address → Number im (at + 16) 8 size →
+  next-walk : (fuel at address size : ℕ) (rest sofar : List Message) (found : S) → 16 ≤ u16 im (at + 2) → Number im (at + 8) 8 address →
+      Number im (at + 16) 8 size →
       continuations visit (suc fuel) (messageAt im 0x0010 (at + 8) ∷ rest) (gathered sofar found) ≡
       blockWalk visit address size found >>= λ new. continuations visit fuel (rest ++ ofType 0x0010 (new .all)) (more sofar new)
   unfolding continuations
   next-walk fuel at address size rest sofar found l n o =
       let e : at + 8 + 0 ≡ at + 8 = omega arith in
       let f : at + 8 + 8 ≡ at + 16 = omega arith in
-      rw (fields-read im at 0 address (omega arith) (rw e n), fields-read im at 8 size (omega arith) (rw f o)) (sym (bind-assoc (enterBlock continuationBlock address size) _ _))
+      rw (fields-read im at 0 address (omega arith) (rw e n), fields-read im at 8 size (omega arith) (rw f o))
+      (sym (bind-assoc (enterBlock continuationBlock address size) _ _))
 
   none-waits : (fuel k : ℕ) (waiting : List Message) (g : Gathered S) → fuel ≡ suc k → waiting ≡ [] → continuations visit fuel waiting g ≡ ret g
   unfolding continuations
@@ -189,7 +202,8 @@ module _ {S : Type 0} (visit : Message → S → Result S) (im : List ℕ) (eof 
     at-block : Simulation im eof room w₀ n₀ ws₀
         (blockWalk visit address size found >>= λ new. continuations visit k (next .rest ++ ofType 0x0010 (new .all)) (more (f .sofar) new)) n ws
     at-block =
-        same-walk _ (one-waits visit im (f .fuel) k (c .at) address size (f .waiting) (next .rest) (f .sofar) found (fuel-left .1) (next .first) (next .long) a s) (f .come)
+        same-walk _ (one-waits visit im (f .fuel) k (c .at) address size (f .waiting) (next .rest) (f .sofar) found (fuel-left .1) (next .first) (next .long)
+        a s) (f .come)
 
     pub not-read : (x : Refusal) → Walked ws ws₁ (stopped x) (run im eof room (blockWalk visit address size found) (blocksOf n ws)) →
         Walked ws₀ ws₁ (stopped x) (run im eof room w₀ (blocksOf n₀ ws₀))
@@ -225,10 +239,13 @@ module _ {S : Type 0} (visit : Message → S → Result S) (im : List ℕ) (eof 
       }
 
 -- The loop in the lists that were lent and are now ws, a, c, m: what it has come to, for all that it may have been begun with.
-pub record Loop (im ws₀ a₀ c₀ m₀ : List ℕ) (q : Reading) (count : ℕ) (g₀ : Gathering) (k₀ : Cursor) (ws a c m : List ℕ) (n : ℕ) (g : Gathering) (k : Cursor) : Type 0 where
-  pub going : (fuel : ℕ) (waiting sofar : List Message) → blocksMost < count + fuel → Lent ws₀ count (q .room) → Sought im ws₀ count k₀ waiting → Tallied im sofar (g₀ .tally) →
+pub record Loop (im ws₀ a₀ c₀ m₀ : List ℕ) (q : Reading) (count : ℕ) (g₀ : Gathering) (k₀ : Cursor) (ws a c m : List ℕ) (n : ℕ) (g : Gathering) (k : Cursor) :
+    Type 0 where
+  pub going : (fuel : ℕ) (waiting sofar : List Message) → blocksMost < count + fuel → Lent ws₀ count (q .room) → Sought im ws₀ count k₀ waiting →
+      Tallied im sofar (g₀ .tally) →
       Following (visitMessage (q .auditing)) im (q .«end_of_file») (q .room)
-      (continuations (visitMessage (q .auditing)) fuel waiting (gathered sofar (foundOf a₀ c₀ m₀ (g₀ .objects)))) count ws₀ k (g .tally) (foundOf a c m (g .objects)) n ws
+      (continuations (visitMessage (q .auditing)) fuel waiting (gathered sofar (foundOf a₀ c₀ m₀ (g₀ .objects)))) count ws₀ k (g .tally)
+      (foundOf a c m (g .objects)) n ws
   pub counting : CountingIf (q .auditing) ws a c m (q .«end_of_file») n (g .objects) 16
   pub addressesSame : length a ≡ length a₀
   pub countsSame : length c ≡ length c₀

@@ -75,7 +75,8 @@ pub record NewBlock (im ws : List ℕ) (count address size : ℕ) (ws′ : List 
 abbrev pub GatheredIs : List ℕ → Reading → List ℕ → ℕ → Walk (Gathered Found) → List ℕ → List ℕ → List ℕ → List ℕ → Continuing → Type 0
 GatheredIs im q ws count w ws′ addresses′ counts′ marks′ (Done g n) =
     (all : List Message)
-    × Walked ws ws′ (ended (record { all = all; found = foundOf addresses′ counts′ marks′ (g .objects) }) n) (run im (q .«end_of_file») (q .room) w (blocksOf count ws))
+    × Walked ws ws′ (ended (record { all = all; found = foundOf addresses′ counts′ marks′ (g .objects) }) n)
+    (run im (q .«end_of_file») (q .room) w (blocksOf count ws))
     × Tallied im all (g .tally)
 GatheredIs im q ws count w ws′ addresses′ counts′ marks′ (Stopped r) = Walked ws ws′ (stopped r) (run im (q .«end_of_file») (q .room) w (blocksOf count ws))
 
@@ -85,10 +86,12 @@ CountingOn q ws addresses counts marks (Done g n) = CountingIf (q .auditing) ws 
 CountingOn q ws addresses counts marks (Stopped r) = Unit {0}
 
 -- a continuation was read
-pub record BlockDone (im ws addresses counts marks : List ℕ) (q : Reading) (count address size : ℕ) (g : Gathering) (ws′ addresses′ counts′ marks′ : List ℕ) (g′ : Gathering) (n : ℕ) : Type 0 where
+pub record BlockDone (im ws addresses counts marks : List ℕ) (q : Reading) (count address size : ℕ) (g : Gathering) (ws′ addresses′ counts′ marks′ : List ℕ)
+    (g′ : Gathering) (n : ℕ) : Type 0 where
   pub new : List Message
   pub walked : Walked ws ws′ (ended (record { all = new; found = foundOf addresses′ counts′ marks′ (g′ .objects) }) n)
-      (run im (q .«end_of_file») (q .room) (blockWalk (visitMessage (q .auditing)) address size (foundOf addresses counts marks (g .objects))) (blocksOf count ws))
+      (run im (q .«end_of_file») (q .room) (blockWalk (visitMessage (q .auditing)) address size (foundOf addresses counts marks (g .objects)))
+      (blocksOf count ws))
   pub block : NewBlock im ws count address size ws′ n new
   pub tally : TalliedWith im new (g .tally) (g′ .tally)
   pub counting : CountingIf (q .auditing) ws′ addresses′ counts′ marks′ (q .«end_of_file») n (g′ .objects) 16
@@ -98,4 +101,5 @@ abbrev pub BlockRead : List ℕ → List ℕ → List ℕ → List ℕ → List 
 BlockRead im ws addresses counts marks q count address size g ws′ addresses′ counts′ marks′ (Done g′ n) =
     BlockDone im ws addresses counts marks q count address size g ws′ addresses′ counts′ marks′ g′ n
 BlockRead im ws addresses counts marks q count address size g ws′ addresses′ counts′ marks′ (Stopped r) =
-    Walked ws ws′ (stopped r) (run im (q .«end_of_file») (q .room) (blockWalk (visitMessage (q .auditing)) address size (foundOf addresses counts marks (g .objects))) (blocksOf count ws))
+    Walked ws ws′ (stopped r) (run im (q .«end_of_file») (q .room) (blockWalk (visitMessage (q .auditing)) address size
+    (foundOf addresses counts marks (g .objects))) (blocksOf count ws))

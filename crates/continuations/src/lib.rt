@@ -39,7 +39,8 @@ pub struct Cursor {
 fn seek(image: &[u8], list: &[u64], count: usize, cursor: Cursor) -> Cursor
     requires { ⌜ count + count ≤ length (now list) ⌝ }
     requires { ⌜ Ready (now image) (now list) count cursor ⌝ }
-    ensures { λ r. ⌜ ((waiting : List Message) → Waiting (now (image .entry)) (now (list .entry)) count cursor waiting → Sought (now (image .entry)) (now (list .entry)) count r waiting) ⌝ }
+    ensures { λ r. ⌜ ((waiting : List Message) → Waiting (now (image .entry)) (now (list .entry)) count cursor waiting → Sought (now (image .entry))
+        (now (list .entry)) count r waiting) ⌝ }
 {
     let mut block = cursor.block;
     let mut end = cursor.end;
@@ -76,7 +77,8 @@ fn read_block(
     before: Gathering,
 ) -> Continuing
     requires { ⌜ Lending (now image) (now list) (now addresses) (now counts) (now marks) reading count (before .objects) 16 ⌝ }
-    ensures { λ r. ⌜ BlockRead (now (image .entry)) (now (list .entry)) (now (addresses .entry)) (now (counts .entry)) (now (marks .entry)) reading count address size before (now (list .exit)) (now (addresses .exit)) (now (counts .exit)) (now (marks .exit)) r ⌝ }
+    ensures { λ r. ⌜ BlockRead (now (image .entry)) (now (list .entry)) (now (addresses .entry)) (now (counts .entry)) (now (marks .entry)) reading count
+        address size before (now (list .exit)) (now (addresses .exit)) (now (counts .exit)) (now (marks .exit)) r ⌝ }
 {
     let end_of_file = reading.end_of_file;
     let room = reading.room;
@@ -120,7 +122,11 @@ pub fn follow(
     requires { ⌜ Lending (now image) (now list) (now addresses) (now counts) (now marks) reading count (before .objects) 16 ⌝ }
     requires { ⌜ Ready (now image) (now list) count cursor ⌝ }
     requires { ⌜ HasTally (now image) (before .tally) ⌝ }
-    ensures { λ r. ⌜ ((fuel : ℕ) (waiting sofar : List Message) → blocksMost < count + fuel → Waiting (now (image .entry)) (now (list .entry)) count cursor waiting → Tallied (now (image .entry)) sofar (before .tally) → GatheredIs (now (image .entry)) reading (now (list .entry)) count (continuations (visitMessage (reading .auditing)) fuel waiting (record { all = sofar; found = foundOf (now (addresses .entry)) (now (counts .entry)) (now (marks .entry)) (before .objects) })) (now (list .exit)) (now (addresses .exit)) (now (counts .exit)) (now (marks .exit)) r) ⌝ }
+    ensures { λ r. ⌜ ((fuel : ℕ) (waiting sofar : List Message) → blocksMost < count + fuel → Waiting (now (image .entry)) (now (list .entry)) count cursor
+        waiting → Tallied (now (image .entry)) sofar (before .tally) →
+        GatheredIs (now (image .entry)) reading (now (list .entry)) count (continuations (visitMessage (reading .auditing)) fuel waiting
+        (record { all = sofar; found = foundOf (now (addresses .entry)) (now (counts .entry)) (now (marks .entry)) (before .objects) })) (now (list .exit))
+        (now (addresses .exit)) (now (counts .exit)) (now (marks .exit)) r) ⌝ }
     ensures { λ r. ⌜ CountingOn reading (now (list .exit)) (now (addresses .exit)) (now (counts .exit)) (now (marks .exit)) r ⌝ }
 {
     let mut n = count;

@@ -41,7 +41,8 @@ use Rattle.scan.proofs.ScanLaws.{messages-held}
 use Rattle.image.proofs.HeaderLaws.{version-shown, field-shown, header-length, header-known, block-messages, total-equal, total-unequal, count-1, count-3, count-8, count-11, there, object-group, object-dataset, table-field}
 
 -- The body at a place.
-pub body-is : (im : List ℕ) (place size : ℕ) → size ≡ u16 im (place - 6) → Located im place → BodyAt im place (record { place = place; size = size; flags = u8 im (place - 4) })
+pub body-is : (im : List ℕ) (place size : ℕ) → size ≡ u16 im (place - 6) → Located im place →
+    BodyAt im place (record { place = place; size = size; flags = u8 im (place - 4) })
 body-is im place size e l = record { is = λ type. rw e; inside = rw e (l .body) }
 
 -- The kinds that carry something.
@@ -49,14 +50,16 @@ module _ (im : List ℕ) (at : ℕ) (ms : List Message) (t : Tally) (a : Tallied
   pub table-placed : hasCounts ms 0 0 0 1 ≡ true → Placed im 0x0011 (t .table .place)
   table-placed h = a .table .placed (there im ms 0x0011 (t .table) (a .table) (count-11 ms 0 0 0 1 h))
 
-  pub known-group : (tree heap : ℕ) → hasCounts ms 0 0 0 1 ≡ true → Number im (t .table .place) 8 tree → Number im (t .table .place + 8) 8 heap → objectOf at ms ≡ ret (group tree heap)
+  pub known-group : (tree heap : ℕ) → hasCounts ms 0 0 0 1 ≡ true → Number im (t .table .place) 8 tree → Number im (t .table .place + 8) 8 heap →
+      objectOf at ms ≡ ret (group tree heap)
   known-group tree heap h n o =
       let p = table-placed h in
       let f = a .table .first (there im ms 0x0011 (t .table) (a .table) (count-11 ms 0 0 0 1 h)) in
       let z : t .table .place + 0 ≡ t .table .place = omega arith in
       let l : 16 ≤ u16 im (t .table .place - 6) = p .long refl in
       object-group at ms h
-      ∙ ap ret (λ i. group (table-field im ms (t .table .place) 0 tree f (omega arith) (rw z n) i) (table-field im ms (t .table .place) 8 heap f (omega arith) o i))
+      ∙ ap ret (λ i. group (table-field im ms (t .table .place) 0 tree f (omega arith) (rw z n) i)
+      (table-field im ms (t .table .place) 8 heap f (omega arith) o i))
 
   module _ (h : hasCounts ms 0 1 0 0 ≡ true) where
     pub committed-placed : Placed im 0x0003 (t .datatype .place)
@@ -76,7 +79,8 @@ module _ (im : List ℕ) (at : ℕ) (ms : List Message) (t : Tally) (a : Tallied
     pub layout-placed : Placed im 0x0008 (t .layout .place)
     layout-placed = a .layout .placed (there im ms 0x0008 (t .layout) (a .layout) (count-8 ms 1 1 1 0 h))
 
-    pub known-dataset : hasCounts ms 0 0 0 1 ≡ false → (s d l : Body) → BodyAt im (t .space .place) s → BodyAt im (t .datatype .place) d → BodyAt im (t .layout .place) l →
+    pub known-dataset : hasCounts ms 0 0 0 1 ≡ false → (s d l : Body) → BodyAt im (t .space .place) s → BodyAt im (t .datatype .place) d →
+        BodyAt im (t .layout .place) l →
         objectOf at ms ≡ ret (dataset (messageOf im 0x0001 s) (messageOf im 0x0003 d) (messageOf im 0x0008 l))
     known-dataset g s d l x y z =
         object-dataset at ms g h
@@ -103,11 +107,13 @@ module _ {S : Type 0} (visit : Message → S → Result S) (im : List ℕ) (eof 
         Walked ws ws′ (ended (record { object = o; found = g .found }) n) (run im eof room (headerWith visit at found) (blocksOf count ws))
     read-known o e = returned (callee-value _ _ o e (callee-done ws′ _ _ at-messages k h))
 
-    pub read-refused : (x : Refusal) → objectOf at (g .all) ≡ refuse x → Walked ws ws′ (stopped x) (run im eof room (headerWith visit at found) (blocksOf count ws))
+    pub read-refused : (x : Refusal) → objectOf at (g .all) ≡ refuse x →
+        Walked ws ws′ (stopped x) (run im eof room (headerWith visit at found) (blocksOf count ws))
     read-refused x e = callee-refusal _ _ x e (callee-done ws′ _ _ at-messages k h)
 
   -- The header block: its prefix isn't inside, it isn't entered, or it is.
-  at-start : Simulation im eof room (headerMessages visit at found) count ws (enter headerBlock at (stored 16 (λ p. u32 p 8)) (headerContents visit at found)) count ws
+  at-start : Simulation im eof room (headerMessages visit at found) count ws (enter headerBlock at (stored 16 (λ p. u32 p 8)) (headerContents visit at found))
+      count ws
   unfolding headerMessages
   at-start = start im eof room (headerMessages visit at found) count ws l
 
@@ -116,7 +122,8 @@ module _ {S : Type 0} (visit : Message → S → Result S) (im : List ℕ) (eof 
 
   module _ (size : ℕ) (n : Number im (at + 8) 4 size) (h : at + 16 ≤ length im) (k : at + 16 ≤ eof) (ws₁ : List ℕ)
       (q : ws₁ ≡ entered (entryAnswer eof room (blocksOf count ws) at (16 + size)) ws count at (16 + size)) where
-    pub header-refused : (x : Refusal) → Refused x ≡ entering (entryAnswer eof room (blocksOf count ws) at (16 + size)) 2 at (16 + size) (blocksOf count ws) count →
+    pub header-refused : (x : Refusal) → Refused x ≡ entering (entryAnswer eof room (blocksOf count ws) at (16 + size)) 2 at (16 + size) (blocksOf count ws)
+        count →
         Walked ws ws₁ (stopped x) (run im eof room (headerMessages visit at found) (blocksOf count ws))
     header-refused x e = block-refused (16 + size) (header-length im at size h n) (header-known im eof at size h k n) ws₁ at-start q x e
 
@@ -126,8 +133,10 @@ module _ {S : Type 0} (visit : Message → S → Result S) (im : List ℕ) (eof 
 
 -- the kind, with what was found with the messages
 pub read-as : (visit : Message → Found → Result Found) (im : List ℕ) (eof room : ℕ) (ws : List ℕ) (count at : ℕ) (found : Found) → Lent ws count room →
-    (ws′ : List ℕ) (g : Gathered Found) (n : ℕ) → length ws′ ≡ length ws → Walked ws ws′ (ended g n) (run im eof room (headerMessages visit at found) (blocksOf count ws)) →
-    (e : Ended Object) → KnownAs (objectOf at (g .all)) n e → Walked ws ws′ (withFound (g .found) e) (run im eof room (headerWith visit at found) (blocksOf count ws))
+    (ws′ : List ℕ) (g : Gathered Found) (n : ℕ) → length ws′ ≡ length ws →
+    Walked ws ws′ (ended g n) (run im eof room (headerMessages visit at found) (blocksOf count ws)) →
+    (e : Ended Object) → KnownAs (objectOf at (g .all)) n e →
+    Walked ws ws′ (withFound (g .found) e) (run im eof room (headerWith visit at found) (blocksOf count ws))
 read-as visit im eof room ws count at found l ws′ g n k h (ended o m) e = rw (e .1) (read-known visit im eof room ws count at found l ws′ g n k h o (e .0))
 read-as visit im eof room ws count at found l ws′ g n k h (stopped x) e = read-refused visit im eof room ws count at found l ws′ g n k h x e
 
@@ -139,7 +148,8 @@ counting-then q ws addresses counts marks objects n w (stopped x) k h = tt
 -- the header block is one more
 pub header-counted : (eof room : ℕ) (ws : List ℕ) (count at size m : ℕ) →
     Entered m ≡ entering (entryAnswer eof room (blocksOf count ws) at (16 + size)) 2 at (16 + size) (blocksOf count ws) count → m ≡ count + 1
-header-counted eof room ws count at size m e = entered-zero 2 at (16 + size) (blocksOf count ws) (entryAnswer eof room (blocksOf count ws) at (16 + size)) count m e .1
+header-counted eof room ws count at size m e = entered-zero 2 at (16 + size) (blocksOf count ws) (entryAnswer eof room (blocksOf count ws) at (16 + size))
+    count m e .1
 
 -- a callee that gathers the messages of what is left
 pub gathered-last : (im : List ℕ) (q : Reading) (w₀ w : Walk (Gathered Found)) (n₀ n : ℕ) (ws₀ ws ws₁ a c m : List ℕ) (r : Continuing) →
@@ -167,9 +177,11 @@ module _ {S : Type 0} (visit : Message → S → Result S) (im : List ℕ) (eof 
         continuations visit blocksMost (ofType 0x0010 (first .all)) first >>= λ g.
         check (eqb (length (g .all)) (u16 b 2)) (fault 10 at) >> ret g) count ws
     unfolding headerContents
-    version-right = passed (eqb (u8 b 0) 1) (fault 3 at) _ (rw (version-shown im at (16 + size) i (omega arith)) (eq-eqb (getD im at 0) 1 e)) (start im eof room w count ws l)
+    version-right = passed (eqb (u8 b 0) 1) (fault 3 at) _ (rw (version-shown im at (16 + size) i (omega arith)) (eq-eqb (getD im at 0) 1 e))
+        (start im eof room w count ws l)
 
-    pub block-stopped : (x : Refusal) → MessagesAre visit im (at + 16) (at + 16 + size) found (refuse x) → Walked ws ws (stopped x) (run im eof room w (blocksOf count ws))
+    pub block-stopped : (x : Refusal) → MessagesAre visit im (at + 16) (at + 16 + size) found (refuse x) →
+        Walked ws ws (stopped x) (run im eof room w (blocksOf count ws))
     block-stopped x h = callee-refusal _ _ x (block-messages visit im at size found (refuse x) i h) version-right
 
     module _ (first : Gathered S) (h : MessagesAre visit im (at + 16) (at + 16 + size) found (ret first)) where
@@ -193,11 +205,13 @@ module _ {S : Type 0} (visit : Message → S → Result S) (im : List ℕ) (eof 
 
         pub total-wrong : (r ≡ t .total → ⊥) → Walked ws ws′ (stopped (fault 10 at)) (run im eof room w (blocksOf count ws))
         total-wrong z =
-            failed (eqb (length (g .all)) (u16 b 2)) (fault 10 at) _ (rw count-shown (total-unequal (length (g .all)) (t .total) r (a .total) (o .bound) z)) at-total
+            failed (eqb (length (g .all)) (u16 b 2)) (fault 10 at) _ (rw count-shown (total-unequal (length (g .all)) (t .total) r (a .total) (o .bound) z))
+            at-total
 
         pub total-right : r ≡ t .total → Walked ws ws′ (ended g n) (run im eof room w (blocksOf count ws))
         total-right z =
-            returned (passed (eqb (length (g .all)) (u16 b 2)) (fault 10 at) _ (rw count-shown (total-equal (length (g .all)) (t .total) r (a .total) (o .bound) z)) at-total)
+            returned (passed (eqb (length (g .all)) (u16 b 2)) (fault 10 at) _
+            (rw count-shown (total-equal (length (g .all)) (t .total) r (a .total) (o .bound) z)) at-total)
 
 -- the header block's messages, which may name continuations
 pub first-holds : {S : Type 0} (visit : Message → S → Result S) (im : List ℕ) (at size : ℕ) (found : S) (first : Gathered S) → at + (16 + size) ≤ length im →
@@ -224,7 +238,8 @@ module _ (ws ws′ : List ℕ) (f : Found) (e : Ended Object) where
   same-end (refused x bs) p k r = rw r (record { answer = sym (object-end f e) ∙ ap objectEnd (k .answer); held = k .held; rest = k .rest })
 
   pub kind-alone : (im : List ℕ) (eof room count at : ℕ) (f₀ : Found) →
-      Walked ws ws′ (withFound f e) (run im eof room (headerWith (visitMessage false) at f₀) (blocksOf count ws)) → Walked ws ws′ e (run im eof room (headerWalk at) (blocksOf count ws))
+      Walked ws ws′ (withFound f e) (run im eof room (headerWith (visitMessage false) at f₀) (blocksOf count ws)) →
+      Walked ws ws′ e (run im eof room (headerWalk at) (blocksOf count ws))
   unfolding visitMessage
   kind-alone im eof room count at f₀ h =
       same-end _ _ h (follows-run _ true im eof room _ _ (blocksOf count ws) (header-same (visitMessage false) at f₀ λ m x. (x, refl)))

@@ -23,7 +23,8 @@ module _ {S T : Type 0} (exact : Bool) (visit : Message → S → Result S) (vis
   abbrev Both : Gathered S → Gathered T → Type 0
   Both g g′ = (g .all ≡ g′ .all) × R (g .found) (g′ .found)
 
-  pub messages-follow : (fuel place : ℕ) (m : List ℕ) (s : S) (t : T) → R s t → Follows exact Both (messages visit fuel place m s) (messages visit′ fuel place m t)
+  pub messages-follow : (fuel place : ℕ) (m : List ℕ) (s : S) (t : T) → R s t →
+      Follows exact Both (messages visit fuel place m s) (messages visit′ fuel place m t)
   unfolding messages
   messages-follow zero place m s t r = follows-check exact Both (eqb (length m) 0) (fault 10 place) _ _ λ _. follows-ret exact Both _ _ (refl, r)
   messages-follow (suc fuel) place m s t r =
@@ -87,7 +88,8 @@ module _ {S T : Type 0} (exact : Bool) (visit : Message → S → Result S) (vis
       _ _ (headerMessages-follow at s t r)
 
 module _ {S : Type 0} (visit : Message → S → Result S) (at : ℕ) (s : S) where
-  kind-alone : (exact : Bool) → ((m : Message) (x : S) (place : ℕ) → Follows {S = S} {T = Unit {0}} exact (λ _ _. Unit {0}) (located place (visit m x)) (ret tt)) →
+  kind-alone : (exact : Bool) → ((m : Message) (x : S) (place : ℕ) → Follows {S = S} {T = Unit {0}} exact (λ _ _. Unit {0}) (located place (visit m x))
+      (ret tt)) →
       Follows exact (λ h o. h .object ≡ o) (headerWith visit at s) (headerWalk at)
   unfolding headerWalk
   kind-alone exact c =

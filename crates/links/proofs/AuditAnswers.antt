@@ -59,9 +59,11 @@ audit-numbered s = search (numbers, objects-numbered) depth 8
 -- an image that can't be opened gives 1, 2, 3 or 4
 pub not-opened-number : (im : List ℕ) (n : ℕ) → openImage im ≡ notOpened n → (1 ≤ n) × (n ≤ 4)
 unfolding openImage
-not-opened-number im n e = go (not (inRange imageLeast imageMost (length im))) (not (eqb (u64 im 0) signature)) (not (superblockRead im)) (not (superblockSound im)) e
+not-opened-number im n e = go (not (inRange imageLeast imageMost (length im))) (not (eqb (u64 im 0) signature)) (not (superblockRead im))
+    (not (superblockSound im)) e
   where
-    go : (t u v w : Bool) → (if t then notOpened 1 else if u then notOpened 2 else if v then notOpened 3 else if w then notOpened 4 else opened (superblockFields im)) ≡ notOpened n → (1 ≤ n) × (n ≤ 4)
+    go : (t u v w : Bool) → (if t then notOpened 1 else if u then notOpened 2 else if v then notOpened 3 else if w then notOpened 4 else opened
+        (superblockFields im)) ≡ notOpened n → (1 ≤ n) × (n ≤ 4)
     go true u v w q = let same : 1 ≡ n = cc in (omega arith, omega arith)
     go false true v w q = let same : 2 ≡ n = cc in (omega arith, omega arith)
     go false false true w q = let same : 3 ≡ n = cc in (omega arith, omega arith)
@@ -94,6 +96,7 @@ pub audit-zero : (im : List ℕ) (lent : ℕ) → audit im lent .number ≡ 0 �
 unfolding audit
 audit-zero im lent = go (auditRun im lent) refl
   where
-    go : (o : Outcome (List Linked)) → auditRun im lent ≡ o → auditEnd im lent o .number ≡ 0 → (os : List Linked) × (bs : List Block) × (auditRun im lent ≡ done os bs)
+    go : (o : Outcome (List Linked)) → auditRun im lent ≡ o → auditEnd im lent o .number ≡ 0 →
+        (os : List Linked) × (bs : List Block) × (auditRun im lent ≡ done os bs)
     go (done os bs) e z = (os, bs, e)
     go (refused r bs) e z = absurd (omega (arith, audit-refusal im lent r bs e .0))

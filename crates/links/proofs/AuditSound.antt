@@ -22,7 +22,8 @@ use Rattle.links.proofs.ObjectsReached.{objects-reached, reached-object
 use Rattle.links.proofs.BlocksSound.{blocks-sound}
 
 -- the walk of an audit
-pub walk-sound : (im : List ℕ) (room : ℕ) (s : Superblock) (os : List Linked) (bs : List Block) → room ≤ blocksMost → run im (s .endOfFile) room (auditWalk s) [] ≡ done os bs → Sound im s os
+pub walk-sound : (im : List ℕ) (room : ℕ) (s : Superblock) (os : List Linked) (bs : List Block) → room ≤ blocksMost →
+    run im (s .endOfFile) room (auditWalk s) [] ≡ done os bs → Sound im s os
 walk-sound im room s os bs most e =
     let c = all-counted im room s most os bs e in
     let once = each-once (s .root) (flatten (c .0)) os (c .2) in
@@ -41,7 +42,8 @@ walk-sound im room s os bs most e =
       headers = headers-inside im room s os bs e;
     }
 
-opened-done : {A : Type 0} (o : Opening) (f : Superblock → Outcome A) (a : A) (bs : List Block) → runOpened o f ≡ done a bs → (s : Superblock) × (o ≡ opened s) × (f s ≡ done a bs)
+opened-done : {A : Type 0} (o : Opening) (f : Superblock → Outcome A) (a : A) (bs : List Block) → runOpened o f ≡ done a bs →
+    (s : Superblock) × (o ≡ opened s) × (f s ≡ done a bs)
 opened-done (opened s) f a bs e = (s, refl, e)
 opened-done (notOpened n) f a bs e = let z : _≡_ {A = ℕ} 0 1 = cc in absurd (omega arith)
 

@@ -22,7 +22,8 @@ pub member-in : (os : List Linked) (o : Linked) → List·Memᴰ o os → inLedg
 member-in [] o m = absurd (List·Memᴰ·not-nil m)
 member-in (p ∷ os) o m = go (eqb (o .address) (p .address)) refl (List·Memᴰ·cases-cons m) (member-in os o)
   where
-    go : (t : Bool) → eqb (o .address) (p .address) ≡ t → (o ≡ p) ⊎ List·Memᴰ o os → (List·Memᴰ o os → inLedger (o .address) os ≡ true) → inLedger (o .address) (p ∷ os) ≡ true
+    go : (t : Bool) → eqb (o .address) (p .address) ≡ t → (o ≡ p) ⊎ List·Memᴰ o os → (List·Memᴰ o os → inLedger (o .address) os ≡ true) →
+        inLedger (o .address) (p ∷ os) ≡ true
     go true h c i = in-here (o .address) p os h
     go false h (inl same) i = in-here (o .address) p os (eq-eqb (o .address) (p .address) (ap (λ (q : Linked). q .address) same))
     go false h (inr m′) i = in-later (o .address) p os h ∙ i m′

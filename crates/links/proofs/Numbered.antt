@@ -105,7 +105,8 @@ entry-number eof room bs a n = go (leb (a + n) eof) (overlapsAny bs a n) (ltb (l
     go true false false = omega arith
     go false u v = omega arith
 
-entered-number : {A : Type 0} (g : ℕ) (f : ℕ → Refusal) (o : Outcome A) (bs : List Block) (r : Refusal) (ms : List Block) → ((m : ℕ) → answerOf (f m) ≡ m) → g ≤ 13 →
+entered-number : {A : Type 0} (g : ℕ) (f : ℕ → Refusal) (o : Outcome A) (bs : List Block) (r : Refusal) (ms : List Block) → ((m : ℕ) → answerOf (f m) ≡ m) →
+    g ≤ 13 →
     (o ≡ refused r ms → AuditNumber (answerOf r)) → ifEntered g o (λ m. refused (f m) bs) ≡ refused r ms → AuditNumber (answerOf r)
 entered-number zero f o bs r ms n l c e = c e
 entered-number (suc g) f o bs r ms n l c e =
@@ -114,13 +115,15 @@ entered-number (suc g) f o bs r ms n l c e =
     (omega arith, omega arith)
 
 -- a run of such a walk is refused with one of these numbers
-pub run-number : (im : List ℕ) (eof room : ℕ) {A : Type 0} (w : Walk A) (bs : List Block) (r : Refusal) (ms : List Block) → Numbered w → run im eof room w bs ≡ refused r ms → AuditNumber (answerOf r)
+pub run-number : (im : List ℕ) (eof room : ℕ) {A : Type 0} (w : Walk A) (bs : List Block) (r : Refusal) (ms : List Block) → Numbered w →
+    run im eof room w bs ≡ refused r ms → AuditNumber (answerOf r)
 unfolding Numbered run
 run-number im eof room (ret a) bs r ms h e = let z : _≡_ {A = ℕ} 0 1 = cc in absurd (omega arith)
 run-number im eof room (refuse q) bs r ms h e = let same : q ≡ r = cc in rw same at h
 run-number im eof room (enter v a l k) bs r ms h e =
     let b = shown v (part im a (lengthIn im v a l)) in
-    entered-number _ (λ m. notEntered m (kindNumber v) a (knownLength im eof v a l) bs) _ bs r ms (λ m. refl) (entry-number eof room bs a (lengthIn im v a l)) (run-number im eof room (k b) (bs ++ (block a (lengthIn im v a l) ∷ [])) r ms (h b)) e
+    entered-number _ (λ m. notEntered m (kindNumber v) a (knownLength im eof v a l) bs) _ bs r ms (λ m. refl) (entry-number eof room bs a (lengthIn im v a l))
+    (run-number im eof room (k b) (bs ++ (block a (lengthIn im v a l) ∷ [])) r ms (h b)) e
 
 -- the laws of such readers, and of such walks, for `search`
 pub ruleset answers = (answered-bind, answered-value, answered-answer, answered-check, answered-if, answered-text, tt, lit≤)

@@ -55,7 +55,8 @@ module _ {S : Type 0} (g : Group S) (visited : (e : Entry) (s : S) → Answered 
   unfolding symbolWalk
   symbol-numbered at bounds s = search (numbers, entries-numbered) depth 12
 
-  module _ (h : Heap) (walk : ℕ → List Bound → GroupState S → Walk (GroupState S)) (below : (at : ℕ) (bounds : List Bound) (s : GroupState S) → Numbered (walk at bounds s)) where
+  module _ (h : Heap) (walk : ℕ → List Bound → GroupState S → Walk (GroupState S))
+      (below : (at : ℕ) (bounds : List Bound) (s : GroupState S) → Numbered (walk at bounds s)) where
     children-numbered : (n : ℕ) (b : List ℕ) (bounds : List Bound) (s : GroupState S) → Numbered (children h walk n b bounds s)
     unfolding children
     children-numbered zero b bounds s = search numbers
@@ -70,14 +71,18 @@ module _ {S : Type 0} (g : Group S) (visited : (e : Entry) (s : S) → Answered 
   subtree-numbered zero at bounds s = symbol-numbered at bounds s
   subtree-numbered (suc level) at bounds s =
       numbered-bind (nodeWalk (g .internalK) at) _ (node-numbered (g .internalK) at) λ b.
-      numbered-check (eqb (u8 b 5) level) 8 at _ (omega arith) (omega arith) (numbered-check (leb 1 (u16 b 6)) 8 at _ (omega arith) (omega arith) (branches-numbered (g .heap) (subtree g level) (subtree-numbered level) at b bounds s))
+      numbered-check (eqb (u8 b 5) level) 8 at _ (omega arith) (omega arith)
+      (numbered-check (leb 1 (u16 b 6)) 8 at _ (omega arith) (omega arith)
+      (branches-numbered (g .heap) (subtree g level) (subtree-numbered level) at b bounds s))
 
   tree-numbered : (at : ℕ) (s : GroupState S) → Numbered (treeWalk g at s)
   unfolding treeWalk
   tree-numbered at s =
-      let rest : (level : ℕ) (b : List ℕ) → Numbered (branches (g .heap) (subtree g level) at b [] s) = λ level b. branches-numbered (g .heap) (subtree g level) (subtree-numbered level) at b [] s in
+      let rest : (level : ℕ) (b : List ℕ) → Numbered (branches (g .heap) (subtree g level) at b [] s) = λ level b. branches-numbered (g .heap)
+      (subtree g level) (subtree-numbered level) at b [] s in
       search (numbers, node-numbered) depth 8
 
-pub group-numbered : {S : Type 0} (leafK internalK tree heap : ℕ) (visit : Entry → S → Result S) (found : S) → ((e : Entry) (s : S) → Answered (visit e s)) → Numbered (groupWalk leafK internalK tree heap visit found)
+pub group-numbered : {S : Type 0} (leafK internalK tree heap : ℕ) (visit : Entry → S → Result S) (found : S) → ((e : Entry) (s : S) → Answered (visit e s)) →
+    Numbered (groupWalk leafK internalK tree heap visit found)
 unfolding groupWalk
 group-numbered leafK internalK tree heap visit found visited = search (numbers, heap-numbered, tree-numbered) depth 8

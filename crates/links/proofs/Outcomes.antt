@@ -11,7 +11,8 @@ use Rattle.laws.proofs.Bind.{run-bind}
 use Rattle.laws.proofs.Growth.{run-grown}
 use Rattle.walk.proofs.BlockList.{entryAnswer-zero}
 
-pub then-done : {A B : Type 0} (o : Outcome A) (f : A → List Block → Outcome B) (b : B) (ms : List Block) → andThen o f ≡ done b ms → (a : A) × (cs : List Block) × (o ≡ done a cs) × (f a cs ≡ done b ms)
+pub then-done : {A B : Type 0} (o : Outcome A) (f : A → List Block → Outcome B) (b : B) (ms : List Block) → andThen o f ≡ done b ms →
+    (a : A) × (cs : List Block) × (o ≡ done a cs) × (f a cs ≡ done b ms)
 then-done (done a cs) f b ms e = (a, cs, refl, e)
 then-done (refused n cs) f b ms e = let z : _≡_ {A = ℕ} 0 1 = cc in absurd (omega arith)
 

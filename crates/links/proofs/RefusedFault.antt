@@ -13,7 +13,8 @@ use Rattle.format.specs.Ledger.{Linked}
 use Rattle.format.specs.Audit.{auditWalk, auditRun}
 use Rattle.links.specs.Fault.{Fault, here, atEntry, later, AuditFault}
 
-entered-refused : {A : Type 0} (g : ℕ) (f : ℕ → Refusal) (o : Outcome A) (bs : List Block) (r : Refusal) (ms : List Block) → ifEntered g o (λ m. refused (f m) bs) ≡ refused r ms →
+entered-refused : {A : Type 0} (g : ℕ) (f : ℕ → Refusal) (o : Outcome A) (bs : List Block) (r : Refusal) (ms : List Block) →
+    ifEntered g o (λ m. refused (f m) bs) ≡ refused r ms →
     ((f g ≡ r) × (g ≡ 0 → ⊥) × (bs ≡ ms)) ⊎ ((g ≡ 0) × (o ≡ refused r ms))
 entered-refused zero f o bs r ms e = inr (refl, e)
 entered-refused (suc g) f o bs r ms e = inl (cc, (λ z. omega arith), cc)
@@ -39,24 +40,29 @@ module _ (im : List ℕ) (eof room : ℕ) {A : Type 0} where
       let same : notEntered (entryAnswer eof room bs a size) (kindNumber v) a (knownLength im eof v a l) bs ≡ r = h .0 in
       rw (← stay, ← same) (atEntry refl (h .1)))
       (λ h. later (h .0) (f (h .1)))
-      (entered-refused (entryAnswer eof room bs a size) (λ m. notEntered m (kindNumber v) a (knownLength im eof v a l) bs) (run im eof room (k (shown v (part im a size))) (bs ++ (block a size ∷ []))) bs r ms e)
+      (entered-refused (entryAnswer eof room bs a size) (λ m. notEntered m (kindNumber v) a (knownLength im eof v a l) bs)
+      (run im eof room (k (shown v (part im a size))) (bs ++ (block a size ∷ []))) bs r ms e)
 
   pub fault-refused : {w : Walk A} {bs : List Block} {r : Refusal} {ms : List Block} → Fault im eof room w bs r ms → run im eof room w bs ≡ refused r ms
   unfolding run
   fault-refused here = refl
-  fault-refused (atEntry {v = v} {a = a} {l = l} {k = k} {n = n} {bs = bs} g h) = rw g (not-entered n (λ m. notEntered m (kindNumber v) a (knownLength im eof v a l) bs) _ bs h)
+  fault-refused (atEntry {v = v} {a = a} {l = l} {k = k} {n = n} {bs = bs} g h) = rw g
+      (not-entered n (λ m. notEntered m (kindNumber v) a (knownLength im eof v a l) bs) _ bs h)
   fault-refused (later {v = v} {a = a} {l = l} {k = k} {r = r} {bs = bs} {ms = ms} g f) = rw g (fault-refused f)
 
   -- a run that isn't done has a fault
-  pub done-or-fault : (w : Walk A) (bs : List Block) → ((a : A) × (ms : List Block) × (run im eof room w bs ≡ done a ms)) ⊎ ((r : Refusal) × (ms : List Block) × Fault im eof room w bs r ms)
+  pub done-or-fault : (w : Walk A) (bs : List Block) →
+      ((a : A) × (ms : List Block) × (run im eof room w bs ≡ done a ms)) ⊎ ((r : Refusal) × (ms : List Block) × Fault im eof room w bs r ms)
   done-or-fault w bs = go (run im eof room w bs) refl
     where
-      go : (o : Outcome A) → run im eof room w bs ≡ o → ((a : A) × (ms : List Block) × (run im eof room w bs ≡ done a ms)) ⊎ ((r : Refusal) × (ms : List Block) × Fault im eof room w bs r ms)
+      go : (o : Outcome A) → run im eof room w bs ≡ o →
+          ((a : A) × (ms : List Block) × (run im eof room w bs ≡ done a ms)) ⊎ ((r : Refusal) × (ms : List Block) × Fault im eof room w bs r ms)
       go (done a ms) e = inl (a, ms, e)
       go (refused r ms) e = inr (r, ms, refused-fault w bs r ms e)
 
   -- one cause: two faults of one run are at one place
-  pub fault-one : {w : Walk A} {bs : List Block} {r r′ : Refusal} {ms ms′ : List Block} → Fault im eof room w bs r ms → Fault im eof room w bs r′ ms′ → (r ≡ r′) × (ms ≡ ms′)
+  pub fault-one : {w : Walk A} {bs : List Block} {r r′ : Refusal} {ms ms′ : List Block} → Fault im eof room w bs r ms → Fault im eof room w bs r′ ms′ →
+      (r ≡ r′) × (ms ≡ ms′)
   fault-one f f′ =
       let e = fault-refused f in
       let e′ = fault-refused f′ in
@@ -83,7 +89,8 @@ module _ (im : List ℕ) (lent : ℕ) (r : Refusal) (bs : List Block) where
   audit-fault-refused f = ⊎-elim (λ h. rw (h .1, h .2, h .3)) (λ h. rw (h .1) (fault-refused im (h .0 .endOfFile) (roomOf lent) (h .2))) f
 
 -- an audit is refused for one cause
-pub audit-fault-one : (im : List ℕ) (lent : ℕ) (r r′ : Refusal) (bs bs′ : List Block) → AuditFault im lent r bs → AuditFault im lent r′ bs′ → (r ≡ r′) × (bs ≡ bs′)
+pub audit-fault-one : (im : List ℕ) (lent : ℕ) (r r′ : Refusal) (bs bs′ : List Block) → AuditFault im lent r bs → AuditFault im lent r′ bs′ →
+    (r ≡ r′) × (bs ≡ bs′)
 audit-fault-one im lent r r′ bs bs′ f f′ =
     let e = audit-fault-refused im lent r bs f in
     let e′ = audit-fault-refused im lent r′ bs′ f′ in

@@ -16,12 +16,15 @@ pub data Fault (im : List ℕ) (eof room : ℕ) {A : Type 0} : Walk A → List B
   here : {r : Refusal} {bs : List Block} → Fault im eof room (refuse r) bs r bs
   -- the next block can't be entered
   atEntry : {v : Kind} {a : ℕ} {l : Length} {k : List ℕ → Walk A} {n : ℕ} {bs : List Block} →
-      entryAnswer eof room bs a (lengthIn im v a l) ≡ n → (n ≡ 0 → ⊥) → Fault im eof room (enter v a l k) bs (notEntered n (kindNumber v) a (knownLength im eof v a l) bs) bs
+      entryAnswer eof room bs a (lengthIn im v a l) ≡ n → (n ≡ 0 → ⊥) →
+      Fault im eof room (enter v a l k) bs (notEntered n (kindNumber v) a (knownLength im eof v a l) bs) bs
   -- the next block is entered, and the fault comes later
   later : {v : Kind} {a : ℕ} {l : Length} {k : List ℕ → Walk A} {r : Refusal} {bs ms : List Block} → entryAnswer eof room bs a (lengthIn im v a l) ≡ 0 →
-      Fault im eof room (k (shown v (part im a (lengthIn im v a l)))) (bs ++ (block a (lengthIn im v a l) ∷ [])) r ms → Fault im eof room (enter v a l k) bs r ms
+      Fault im eof room (k (shown v (part im a (lengthIn im v a l)))) (bs ++ (block a (lengthIn im v a l) ∷ [])) r ms →
+      Fault im eof room (enter v a l k) bs r ms
 
 -- why an audit is refused: the image can't be opened, or its walk comes to a fault
 abbrev pub AuditFault : List ℕ → ℕ → Refusal → List Block → Type 0
 AuditFault im lent r bs =
-    ((n : ℕ) × (openImage im ≡ notOpened n) × (r ≡ fault n 0) × (bs ≡ [])) ⊎ ((s : Superblock) × (openImage im ≡ opened s) × Fault im (s .endOfFile) (roomOf lent) (auditWalk s) [] r bs)
+    ((n : ℕ) × (openImage im ≡ notOpened n) × (r ≡ fault n 0) × (bs ≡ [])) ⊎
+    ((s : Superblock) × (openImage im ≡ opened s) × Fault im (s .endOfFile) (roomOf lent) (auditWalk s) [] r bs)

@@ -50,7 +50,8 @@ room-lent ws room is = rw is (lent-none ws)
 
 -- What lists keep: with more blocks, with other marks, with a link more, with less to spare.
 module _ {ws addresses counts marks : List ℕ} {eof room count objects spare : ℕ} (h : Listed ws addresses counts marks eof room count objects spare) where
-  pub listed-more : {ws₁ : List ℕ} {n : ℕ} → Lent ws₁ n room → Grown eof room (blocksOf count ws) (blocksOf n ws₁) → Listed ws₁ addresses counts marks eof room n objects spare
+  pub listed-more : {ws₁ : List ℕ} {n : ℕ} → Lent ws₁ n room → Grown eof room (blocksOf count ws) (blocksOf n ws₁) →
+      Listed ws₁ addresses counts marks eof room n objects spare
   listed-more l g = record {
     lent = l;
     counting = record {
@@ -113,7 +114,8 @@ module _ {ws addresses counts marks : List ℕ} {eof room count objects spare : 
     links = omega (arith, h .counting .links);
   }
 
-  pub ready-listed : {ws₁ addresses₁ counts₁ : List ℕ} {n objects₁ : ℕ} → Ready ws₁ addresses₁ counts₁ eof room n objects₁ → Listed ws₁ addresses₁ counts₁ marks eof room n objects₁ 0
+  pub ready-listed : {ws₁ addresses₁ counts₁ : List ℕ} {n objects₁ : ℕ} → Ready ws₁ addresses₁ counts₁ eof room n objects₁ →
+      Listed ws₁ addresses₁ counts₁ marks eof room n objects₁ 0
   ready-listed r = record {
     lent = r .lent;
     counting = record {
@@ -138,7 +140,8 @@ ledgerEnd addresses counts (Stopped r) = stopped r
 
 -- the code's visit ended, and with it the audit's own walk of the group
 audit-ended : (ws ws′ addresses counts : List ℕ) (l : lookup.Link) (r : steps.Step) (o : Outcome (List Linked)) (o′ : Outcome Both) →
-    Ran true (λ x b. (last : List ℕ) × (b ≡ record { ledger = x; link = l })) o o′ → Walked ws ws′ (groupEnd addresses counts r) o′ → Walked ws ws′ (ledgerEnd addresses counts (objectRead r)) o
+    Ran true (λ x b. (last : List ℕ) × (b ≡ record { ledger = x; link = l })) o o′ → Walked ws ws′ (groupEnd addresses counts r) o′ →
+    Walked ws ws′ (ledgerEnd addresses counts (objectRead r)) o
 unfolding Ran
 audit-ended ws ws′ addresses counts l (steps.the-variants.Done s) (done x bs) o′ n w =
     let u : Walked ws ws′ (groupEnd addresses counts (steps.the-variants.Done s)) (done (n .0) bs) = rw (n .1) at w in
@@ -180,17 +183,21 @@ module _ (im : List ℕ) (s : superblocks.Superblock) (room : ℕ) (ws addresses
         Walks (contentWalk (superblockOf s) (group tree heap)) ws₁ addresses₁ counts₁ marks (objectRead r)
     unfolding contentWalk
     group-is wanted tree heap ws₁ addresses₁ counts₁ (steps.the-variants.Done st) same h =
-        let part = audit-part im eof room (s .«leaf_k») (s .«internal_k») tree heap (blocksOf count ws) wanted lookup.absent (linkedOf objects addresses counts) in
+        let part = audit-part im eof room (s .«leaf_k») (s .«internal_k») tree heap (blocksOf count ws) wanted lookup.absent
+        (linkedOf objects addresses counts) in
         let e = audit-ended ws ws₁ addresses₁ counts₁ lookup.absent (steps.the-variants.Done st) _ _ part (h .walked) in
         record {
-          walked = returned (callee-done ws₁ (groupWalk (s .«leaf_k») (s .«internal_k») tree heap discover (f .objects)) _ (begun (contentWalk (superblockOf s) (group tree heap))) same e);
+          walked = returned (callee-done ws₁ (groupWalk (s .«leaf_k») (s .«internal_k») tree heap discover (f .objects)) _
+              (begun (contentWalk (superblockOf s) (group tree heap))) same e);
           listed = ready-listed y (h .ready);
         }
     group-is wanted tree heap ws₁ addresses₁ counts₁ (steps.the-variants.Stopped x) same h =
-        let part = audit-part im eof room (s .«leaf_k») (s .«internal_k») tree heap (blocksOf count ws) wanted lookup.absent (linkedOf objects addresses counts) in
+        let part = audit-part im eof room (s .«leaf_k») (s .«internal_k») tree heap (blocksOf count ws) wanted lookup.absent
+        (linkedOf objects addresses counts) in
         let e = audit-ended ws ws₁ addresses₁ counts₁ lookup.absent (steps.the-variants.Stopped x) _ _ part (h .walked) in
         record {
-          walked = callee-stopped ws₁ (groupWalk (s .«leaf_k») (s .«internal_k») tree heap discover (f .objects)) _ (begun (contentWalk (superblockOf s) (group tree heap))) e;
+          walked = callee-stopped ws₁ (groupWalk (s .«leaf_k») (s .«internal_k») tree heap discover (f .objects)) _
+              (begun (contentWalk (superblockOf s) (group tree heap))) e;
           listed = tt;
         }
 
@@ -200,7 +207,8 @@ module _ (im : List ℕ) (s : superblocks.Superblock) (room : ℕ) (ws addresses
       w = contentWalk (superblockOf s) (dataset space type layout)
 
       at-parts : Simulation im eof room (w f) count ws
-          (partsWalk space type >>= λ p. located (headAt type) (shareEach (sharedBy (p .type)) f) >>= λ f′. storageWalk (p .space) (p .type) layout >> ret f′) count ws
+          (partsWalk space type >>= λ p. located (headAt type) (shareEach (sharedBy (p .type)) f) >>= λ f′. storageWalk (p .space) (p .type) layout >> ret f′)
+          count ws
       unfolding contentWalk sharingDataset
       at-parts =
           same-walk _ (parts-split space type (λ d t. located (headAt type) (shareEach (sharedBy t) f) >>= λ f′. storageWalk d t layout >> ret f′)) (begun w)
@@ -246,7 +254,8 @@ module _ (im : List ℕ) (s : superblocks.Superblock) (room : ℕ) (ws addresses
           FoundWalked im ws addresses counts marks₁ s room (contentWalk (superblockOf s) o) count objects ws₂ addresses₂ counts₂ marks₂ r →
           Walks (behindHeader s i at o) ws₂ addresses₂ counts₂ marks₂ r
       not-shared k ws₂ addresses₂ counts₂ marks₂ r c =
-          let m = callee-value _ _ (foundOf addresses counts marks₁ objects) (ap (located at) (e ∙ sym (k .walk (f .objects)))) (begun (behindHeader s i at o)) in
+          let m = callee-value _ _ (foundOf addresses counts marks₁ objects) (ap (located at) (e ∙ sym (k .walk (f .objects))))
+          (begun (behindHeader s i at o)) in
           record { walked = callee-last ws₂ m (c .walked); listed = c .listed }
 
     -- the header was read
@@ -266,11 +275,13 @@ module _ (im : List ℕ) (s : superblocks.Superblock) (room : ℕ) (ws addresses
       header-stopped addresses₁ counts₁ marks₁ x h = record { walked = callee-stopped ws₁ _ _ at-header h; listed = tt }
 
       module _ (o : Object) (n : ℕ) (addresses₁ counts₁ marks₁ : List ℕ) (objects₁ : ℕ) (same : length ws₁ ≡ length ws)
-          (h : Walked ws ws₁ (ended (record { object = o; found = foundOf addresses₁ counts₁ marks₁ objects₁ }) n) (run im eof room header (blocksOf count ws))) where
+          (h : Walked ws ws₁ (ended (record { object = o; found = foundOf addresses₁ counts₁ marks₁ objects₁ }) n)
+          (run im eof room header (blocksOf count ws))) where
         at-kind : Simulation im eof room (whole f) count ws (behindHeader s i at o (foundOf addresses₁ counts₁ marks₁ objects₁)) n ws₁
         at-kind = callee-done ws₁ _ _ at-header same h
 
-        pub kind-listed : (left : ℕ) → Counting ws₁ addresses₁ counts₁ marks₁ eof n objects₁ left → Listed ws₁ addresses₁ counts₁ marks₁ eof room n objects₁ left
+        pub kind-listed : (left : ℕ) → Counting ws₁ addresses₁ counts₁ marks₁ eof n objects₁ left →
+            Listed ws₁ addresses₁ counts₁ marks₁ eof room n objects₁ left
         kind-listed left c = record { lent = at-kind .lent; counting = c }
 
         pub kind-read : (ws₂ addresses₂ counts₂ marks₂ : List ℕ) (r : ObjectRead) →
@@ -280,7 +291,8 @@ module _ (im : List ℕ) (s : superblocks.Superblock) (room : ℕ) (ws addresses
 
       -- a committed datatype has nothing behind its header
       pub committed-read : (n : ℕ) (addresses₁ counts₁ marks₁ : List ℕ) (objects₁ : ℕ) → length ws₁ ≡ length ws →
-          Walked ws ws₁ (ended (record { object = committed; found = foundOf addresses₁ counts₁ marks₁ objects₁ }) n) (run im eof room header (blocksOf count ws)) →
+          Walked ws ws₁ (ended (record { object = committed; found = foundOf addresses₁ counts₁ marks₁ objects₁ }) n)
+          (run im eof room header (blocksOf count ws)) →
           (left : ℕ) → Counting ws₁ addresses₁ counts₁ marks₁ eof n objects₁ left → Walks whole ws₁ addresses₁ counts₁ marks₁ (Done n objects₁)
       unfolding contentWalk _>>=_
       committed-read n addresses₁ counts₁ marks₁ objects₁ same h left c = record {

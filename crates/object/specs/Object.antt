@@ -39,8 +39,10 @@ ListedIf ws addresses counts marks eof room (Done count objects) = Listed ws add
 ListedIf ws addresses counts marks eof room (Stopped r) = Unit {0}
 
 -- A part w of the audit was walked, from what was found before it to what is found with it
-pub record FoundWalked (im ws addresses counts marks : List ℕ) (s : Superblock) (room : ℕ) (w : Found → Walk Found) (count objects : ℕ) (ws′ addresses′ counts′ marks′ : List ℕ) (r : ObjectRead) : Type 0 where
-  pub walked : Walked ws ws′ (objectEnd addresses′ counts′ marks′ r) (run im (s .«end_of_file») room (w (foundOf addresses counts marks objects)) (blocksOf count ws))
+pub record FoundWalked (im ws addresses counts marks : List ℕ) (s : Superblock) (room : ℕ) (w : Found → Walk Found) (count objects : ℕ)
+    (ws′ addresses′ counts′ marks′ : List ℕ) (r : ObjectRead) : Type 0 where
+  pub walked : Walked ws ws′ (objectEnd addresses′ counts′ marks′ r) (run im (s .«end_of_file») room (w (foundOf addresses counts marks objects))
+      (blocksOf count ws))
   pub listed : ListedIf ws′ addresses′ counts′ marks′ (s .«end_of_file») room r
 
 -- behind the header of the i-th object, which is at the address at: its kind is known, then its contents are walked

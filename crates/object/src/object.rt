@@ -40,7 +40,10 @@ fn read_group(
 ) -> ObjectRead
     requires { ⌜ Opened (now image) superblock room ⌝ }
     requires { ⌜ ((marks : List ℕ) × Listed (now list) (now addresses) (now counts) marks (superblock .«end_of_file») room count objects 0) ⌝ }
-    ensures { λ r. ⌜ ((marks : List ℕ) → Listed (now (list .entry)) (now (addresses .entry)) (now (counts .entry)) marks (superblock .«end_of_file») room count objects 0 → FoundWalked (now (image .entry)) (now (list .entry)) (now (addresses .entry)) (now (counts .entry)) marks superblock room (contentWalk (superblockOf superblock) (groupObject tree heap)) count objects (now (list .exit)) (now (addresses .exit)) (now (counts .exit)) marks r) ⌝ }
+    ensures { λ r. ⌜ ((marks : List ℕ) → Listed (now (list .entry)) (now (addresses .entry)) (now (counts .entry)) marks (superblock .«end_of_file») room
+        count objects 0 → FoundWalked (now (image .entry)) (now (list .entry)) (now (addresses .entry)) (now (counts .entry)) marks superblock room
+        (contentWalk (superblockOf superblock) (groupObject tree heap)) count objects (now (list .exit)) (now (addresses .exit)) (now (counts .exit)) marks r)
+        ⌝ }
 {
     let end_of_file = superblock.end_of_file;
     let leaf_k = superblock.leaf_k;
@@ -86,7 +89,9 @@ fn read_dataset(
 ) -> ObjectRead
     requires { ⌜ Listed (now list) (now addresses) (now counts) (now marks) (superblock .«end_of_file») room count objects 1 ⌝ }
     requires { ⌜ BodiesInside (now image) space datatype layout ⌝ }
-    ensures { λ r. ⌜ FoundWalked (now (image .entry)) (now (list .entry)) (now (addresses .entry)) (now (counts .entry)) (now (marks .entry)) superblock room (contentWalk (superblockOf superblock) (datasetObject (messageOf (now (image .entry)) 0x0001 space) (messageOf (now (image .entry)) 0x0003 datatype) (messageOf (now (image .entry)) 0x0008 layout))) count objects (now (list .exit)) (now (addresses .exit)) (now (counts .exit)) (now (marks .exit)) r ⌝ }
+    ensures { λ r. ⌜ FoundWalked (now (image .entry)) (now (list .entry)) (now (addresses .entry)) (now (counts .entry)) (now (marks .entry)) superblock room
+        (contentWalk (superblockOf superblock) (datasetObject (messageOf (now (image .entry)) 0x0001 space) (messageOf (now (image .entry)) 0x0003 datatype)
+        (messageOf (now (image .entry)) 0x0008 layout))) count objects (now (list .exit)) (now (addresses .exit)) (now (counts .exit)) (now (marks .exit)) r ⌝ }
 {
     match dataset::dataset::read_parts(image, space, datatype) {
         PartsRead::Refused(x) => ObjectRead::Stopped(x),
@@ -139,7 +144,9 @@ fn known_group(
     requires { ⌜ Opened (now image) superblock room ⌝ }
     requires { ⌜ Listed (now list) (now addresses) (now counts) (now marks) (superblock .«end_of_file») room count objects 0 ⌝ }
     requires { ⌜ i < objectsMost ⌝ }
-    ensures { λ r. ⌜ FoundWalked (now (image .entry)) (now (list .entry)) (now (addresses .entry)) (now (counts .entry)) (now (marks .entry)) superblock room (behindHeader superblock i at (groupObject tree heap)) count objects (now (list .exit)) (now (addresses .exit)) (now (counts .exit)) (now (marks .exit)) r ⌝ }
+    ensures { λ r. ⌜ FoundWalked (now (image .entry)) (now (list .entry)) (now (addresses .entry)) (now (counts .entry)) (now (marks .entry)) superblock room
+        (behindHeader superblock i at (groupObject tree heap)) count objects (now (list .exit)) (now (addresses .exit)) (now (counts .exit))
+        (now (marks .exit)) r ⌝ }
 {
     if !sharing::not_committed(marks, i) {
         return ObjectRead::Stopped(Refusal::Fault(10, at));
@@ -178,7 +185,9 @@ fn known_dataset(
     requires { ⌜ Listed (now list) (now addresses) (now counts) (now marks) (superblock .«end_of_file») room count objects 1 ⌝ }
     requires { ⌜ BodiesInside (now image) space datatype layout ⌝ }
     requires { ⌜ i < objectsMost ⌝ }
-    ensures { λ r. ⌜ FoundWalked (now (image .entry)) (now (list .entry)) (now (addresses .entry)) (now (counts .entry)) (now (marks .entry)) superblock room (behindHeader superblock i at (datasetObject (messageOf (now (image .entry)) 0x0001 space) (messageOf (now (image .entry)) 0x0003 datatype) (messageOf (now (image .entry)) 0x0008 layout))) count objects (now (list .exit)) (now (addresses .exit)) (now (counts .exit)) (now (marks .exit)) r ⌝ }
+    ensures { λ r. ⌜ FoundWalked (now (image .entry)) (now (list .entry)) (now (addresses .entry)) (now (counts .entry)) (now (marks .entry)) superblock room
+        (behindHeader superblock i at (datasetObject (messageOf (now (image .entry)) 0x0001 space) (messageOf (now (image .entry)) 0x0003 datatype)
+        (messageOf (now (image .entry)) 0x0008 layout))) count objects (now (list .exit)) (now (addresses .exit)) (now (counts .exit)) (now (marks .exit)) r ⌝ }
 {
     if !sharing::not_committed(marks, i) {
         return ObjectRead::Stopped(Refusal::Fault(10, at));
@@ -216,7 +225,8 @@ pub fn read(
     requires { ⌜ Opened (now image) superblock room ⌝ }
     requires { ⌜ Listed (now list) (now addresses) (now counts) (now marks) (superblock .«end_of_file») room count objects 0 ⌝ }
     requires { ⌜ i < objectsMost ⌝ }
-    ensures { λ r. ⌜ FoundWalked (now (image .entry)) (now (list .entry)) (now (addresses .entry)) (now (counts .entry)) (now (marks .entry)) superblock room (objectWalk (superblockOf superblock) i at) count objects (now (list .exit)) (now (addresses .exit)) (now (counts .exit)) (now (marks .exit)) r ⌝ }
+    ensures { λ r. ⌜ FoundWalked (now (image .entry)) (now (list .entry)) (now (addresses .entry)) (now (counts .entry)) (now (marks .entry)) superblock room
+        (objectWalk (superblockOf superblock) i at) count objects (now (list .exit)) (now (addresses .exit)) (now (counts .exit)) (now (marks .exit)) r ⌝ }
 {
     let end_of_file = superblock.end_of_file;
     let reading = Reading {

@@ -37,19 +37,23 @@ module _ (s : Superblock) (i n : ℕ) (addresses counts marks : List ℕ) (t : T
   no-object zero h = refl
   no-object (suc fuel) h = rw (drop-past n i addresses counts h)
 
-module _ (im : List ℕ) (eof room : ℕ) (s : Superblock) {w₀ : Walk Found} {n₀ : ℕ} {ws₀ : List ℕ} {entered : ℕ} {ws : List ℕ} (i n : ℕ) (addresses counts marks : List ℕ) (t : Table addresses counts n)
+module _ (im : List ℕ) (eof room : ℕ) (s : Superblock) {w₀ : Walk Found} {n₀ : ℕ} {ws₀ : List ℕ} {entered : ℕ} {ws : List ℕ} (i n : ℕ)
+    (addresses counts marks : List ℕ) (t : Table addresses counts n)
     (m : Simulation im eof room w₀ n₀ ws₀ (objectsWalk s (objectsMost - i) i (foundOf addresses counts marks n)) entered ws) where
   pub objects-done : n ≤ i → Walked ws₀ ws (ended (foundOf addresses counts marks n) entered) (run im eof room w₀ (blocksOf n₀ ws₀))
   objects-done h = returned (same-walk (ret (foundOf addresses counts marks n)) (no-object s i n addresses counts marks t (objectsMost - i) h) m)
 
   module _ (h : i < n) (ws₁ : List ℕ) where
-    abbrev at-object : Simulation im eof room w₀ n₀ ws₀ (objectWalk s i (getD addresses i 0) (foundOf addresses counts marks n) >>= objectsWalk s (objectsMost - (i + 1)) (i + 1)) entered ws
+    abbrev at-object : Simulation im eof room w₀ n₀ ws₀ (objectWalk s i (getD addresses i 0) (foundOf addresses counts marks n) >>= objectsWalk s
+        (objectsMost - (i + 1)) (i + 1)) entered ws
     at-object = same-walk _ (next-object s i n addresses counts marks t h) m
 
-    pub object-stopped : (x : Refusal) → Walked ws ws₁ (stopped x) (run im eof room (objectWalk s i (getD addresses i 0) (foundOf addresses counts marks n)) (blocksOf entered ws)) → Walked ws₀ ws₁ (stopped x) (run im eof room w₀ (blocksOf n₀ ws₀))
+    pub object-stopped : (x : Refusal) → Walked ws ws₁ (stopped x) (run im eof room (objectWalk s i (getD addresses i 0) (foundOf addresses counts marks n))
+        (blocksOf entered ws)) → Walked ws₀ ws₁ (stopped x) (run im eof room w₀ (blocksOf n₀ ws₀))
     object-stopped x r = callee-stopped ws₁ (objectWalk s i (getD addresses i 0) (foundOf addresses counts marks n)) _ at-object r
 
-    pub object-done : (g : Found) (c : ℕ) → length ws₁ ≡ length ws → Walked ws ws₁ (ended g c) (run im eof room (objectWalk s i (getD addresses i 0) (foundOf addresses counts marks n)) (blocksOf entered ws)) →
+    pub object-done : (g : Found) (c : ℕ) → length ws₁ ≡ length ws →
+        Walked ws ws₁ (ended g c) (run im eof room (objectWalk s i (getD addresses i 0) (foundOf addresses counts marks n)) (blocksOf entered ws)) →
         Simulation im eof room w₀ n₀ ws₀ (objectsWalk s (objectsMost - (i + 1)) (i + 1) g) c ws₁
     object-done g c same r = callee-done ws₁ (objectWalk s i (getD addresses i 0) (foundOf addresses counts marks n)) _ at-object same r
 

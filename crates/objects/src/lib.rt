@@ -20,7 +20,9 @@ pub fn read(
 ) -> ObjectRead
     requires { ⌜ Opened (now image) superblock room ⌝ }
     requires { ⌜ Listed (now list) (now addresses) (now counts) (now marks) (superblock .«end_of_file») room count objects 0 ⌝ }
-    ensures { λ r. ⌜ FoundWalked (now (image .entry)) (now (list .entry)) (now (addresses .entry)) (now (counts .entry)) (now (marks .entry)) superblock room (objectsWalk (superblockOf superblock) objectsMost 0) count objects (now (list .exit)) (now (addresses .exit)) (now (counts .exit)) (now (marks .exit)) r ⌝ }
+    ensures { λ r. ⌜ FoundWalked (now (image .entry)) (now (list .entry)) (now (addresses .entry)) (now (counts .entry)) (now (marks .entry)) superblock room
+        (objectsWalk (superblockOf superblock) objectsMost 0) count objects (now (list .exit)) (now (addresses .exit)) (now (counts .exit))
+        (now (marks .exit)) r ⌝ }
 {
     let mut entered = count;
     let mut found = objects;

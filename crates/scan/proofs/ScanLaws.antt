@@ -100,7 +100,8 @@ module _ {S : Type 0} (visit : Message → S → Result S) where
           read-here found′ w v r (suc fuel) h =
               messages-some fuel at m found not-empty
               ∙ rw (← e, size-there)
-              (ret-bind here _ ∙ rw (← v) (ret-bind found′ _ ∙ rw rest-there (ap (λ (x : Walk (Gathered S)). x >>= λ rest. ret (behind (here ∷ []) rest)) (r fuel (omega arith)))))
+              (ret-bind here _ ∙ rw (← v) (ret-bind found′ _ ∙ rw rest-there (ap (λ (x : Walk (Gathered S)). x >>= λ rest. ret (behind (here ∷ []) rest))
+              (r fuel (omega arith)))))
 
 -- a message that was read stands where its fields stand
 pub message-at : (im : List ℕ) (at end kind size flags : ℕ) → Fields im at end kind size flags →
@@ -116,14 +117,16 @@ placed-at im at end kind size flags l f =
     record { head = omega arith; body = rw (g, ← f .sizeThere) (omega (arith, f .inside)); long = λ k. rw (g, ← f .sizeThere) (f .long k) }
 
 -- The loop over a block: the messages read so far, from `from` to `at`, what was found with them, and the tally with them.
-pub record Scanning {S : Type 0} (visit : Message → S → Result S) (im : List ℕ) (from end : ℕ) (found : S) (t : Tally) (at : ℕ) (found′ : S) (t′ : Tally) : Type 0 where
+pub record Scanning {S : Type 0} (visit : Message → S → Result S) (im : List ℕ) (from end : ℕ) (found : S) (t : Tally) (at : ℕ) (found′ : S) (t′ : Tally) :
+    Type 0 where
   pub read : List Message
   pub before : from ≤ at
   pub inside : at ≤ end
   pub walk : (w : Walk (Gathered S)) → MessagesAre visit im at end found′ w → MessagesAre visit im from end found (w >>= λ rest. ret (behind read rest))
   pub tally : TalliedWith im read t t′
 
-pub scanning-start : {S : Type 0} (visit : Message → S → Result S) (im : List ℕ) (from end : ℕ) (found : S) (t : Tally) → from ≤ end → Scanning visit im from end found t from found t
+pub scanning-start : {S : Type 0} (visit : Message → S → Result S) (im : List ℕ) (from end : ℕ) (found : S) (t : Tally) → from ≤ end →
+    Scanning visit im from end found t from found t
 scanning-start visit im from end found t h = record {
   read = [];
   before = omega arith;
@@ -172,10 +175,12 @@ module _ {S : Type 0} (visit : Message → S → Result S) (im : List ℕ) (from
         inside = f .inside;
         walk = λ w r fuel k.
             s .walk _
-            (read-here visit im at end l found h here here-read size (f .sizeThere) (f .inside) found′ w (v ∙ ap (λ (m : Message). visit m found) is-here) r) fuel k
+            (read-here visit im at end l found h here here-read size (f .sizeThere) (f .inside) found′ w (v ∙ ap (λ (m : Message). visit m found) is-here) r)
+            fuel k
             ∙ bind-assoc w _ _
             ∙ ap (λ (g : Gathered S → Walk (Gathered S)). w >>= g)
-            (fun-ext (λ r. ret-bind (behind (here ∷ []) r) _ ∙ ap (λ (ms : List Message). ret (gathered ms (r .found))) (sym (append-assoc (s .read) (here ∷ []) (r .all)))));
+            (fun-ext (λ r. ret-bind (behind (here ∷ []) r) _ ∙ ap (λ (ms : List Message). ret (gathered ms (r .found)))
+            (sym (append-assoc (s .read) (here ∷ []) (r .all)))));
         tally = λ sofar r. rw (← append-assoc) (more (sofar ++ s .read) (placed-at im at end kind size flags l f) (s .tally sofar r));
       }
 
@@ -184,7 +189,8 @@ pub messages-held : {S : Type 0} (visit : Message → S → Result S) (im : List
     MessagesAre visit im from end found (ret g) → Holds im from end (g .all)
 unfolding Follows
 messages-held visit im from end found g o l r =
-    let p = messages-follow false visit passOver (λ _ _. Unit {0}) (λ m x y place _. follows-value _ place (visit m x) tt λ _ _. tt) (end - from) from (part im from (end - from)) found tt tt in
+    let p = messages-follow false visit passOver (λ _ _. Unit {0}) (λ m x y place _. follows-value _ place (visit m x) tt λ _ _. tt) (end - from) from
+    (part im from (end - from)) found tt tt in
     let q = rw (r (end - from) (omega arith)) at p in
     record { ordered = o; inside = l; fuel = end - from; read = q .1 ∙ ap (λ (ms : List Message). ret (gathered ms tt)) (sym (q .2 .0)) }
 
@@ -245,7 +251,8 @@ module _ (im : List ℕ) (at end : ℕ) (ms : List Message) (h : Holds im at end
       let back : at + 8 - 4 ≡ at + 4 = omega arith in
       let back2 : at + 8 - 6 ≡ at + 2 = omega arith in
       let flags : u8 here-on 4 ≡ u8 im (at + 4) = part-byte im at (end - at) 4 (omega (arith, s .head, long)) in
-      let bytes : part here-on 8 (u16 here-on 2) ≡ part im (at + 8) (u16 im (at + 2)) = rw size (part-part im at (end - at) 8 (u16 im (at + 2)) (omega arith)) in
+      let bytes : part here-on 8 (u16 here-on 2) ≡ part im (at + 8) (u16 im (at + 2)) = rw size
+      (part-part im at (end - at) 8 (u16 im (at + 2)) (omega arith)) in
       let is : here ≡ messageAt im (u16 im at) (at + 8) = s .is ∙ rw (type, flags, bytes, back, back2) in
       record {
         rest = rest;
@@ -266,8 +273,10 @@ module _ (im : List ℕ) (at end : ℕ) (ms : List Message) (h : Holds im at end
       go : (fuel : ℕ) → messages passOver fuel at here-on tt ≡ ret (gathered ms tt) → Step im at end ms
       go zero e = absurd (omega (arith, messages-out passOver at here-on tt (gathered ms tt) e, long))
       go (suc fuel) e =
-          let a = both-done (located at (readMessage at here-on)) _ (gathered ms tt) (sym (messages-some passOver fuel at here-on tt (λ z. omega (arith, long))) ∙ e) in
-          let b = both-done (messages passOver fuel (at + 8 + u16 here-on 2) (drop (8 + u16 here-on 2) here-on) tt) _ (gathered ms tt) (sym (ret-bind tt _) ∙ a .2) in
+          let a = both-done (located at (readMessage at here-on)) _ (gathered ms tt)
+          (sym (messages-some passOver fuel at here-on tt (λ z. omega (arith, long))) ∙ e) in
+          let b = both-done (messages passOver fuel (at + 8 + u16 here-on 2) (drop (8 + u16 here-on 2) here-on) tt) _ (gathered ms tt)
+          (sym (ret-bind tt _) ∙ a .2) in
           let g : a .0 ∷ b .0 .all ≡ ms = same-messages _ _ (b .2) in
           step-with fuel (a .0) (b .0 .all) (located-done (readMessage at here-on) (a .0) at (a .1)) (b .1) g
 
@@ -282,8 +291,12 @@ module _ (im : List ℕ) (from end at : ℕ) (s : Seeking im from end at) where
   pub seek-skip : at < end → (u16 im at ≡ 0x0010 → ⊥) → Seeking im from end (at + 8 + u16 im (at + 2))
   seek-skip l n ms h =
       let r = s ms h in
-      let p = holds-step im at end (r .0) (r .2) l in
-      (p .rest, r .1 ∙ ap (ofType 0x0010) (p .is) ∙ ofType-append 0x0010 (messageAt im (u16 im at) (at + 8) ∷ []) (p .rest) ∙ rw (ofType-other 0x0010 (messageAt im (u16 im at) (at + 8)) n), p .holds)
+      let p = holds-step im at end (r .0) (r .2) l in (
+        p .rest,
+        r .1 ∙ ap (ofType 0x0010) (p .is) ∙ ofType-append 0x0010 (messageAt im (u16 im at) (at + 8) ∷ []) (p .rest) ∙ rw
+            (ofType-other 0x0010 (messageAt im (u16 im at) (at + 8)) n),
+        p .holds,
+      )
 
   pub seek-found : at < end → u16 im at ≡ 0x0010 → (ms : List Message) → Holds im from end ms → Continues im end at ms
   seek-found l e ms h =
@@ -302,5 +315,6 @@ module _ (im : List ℕ) (from end at : ℕ) (s : Seeking im from end at) where
   unfolding ofType
   seek-end e ms h =
       let r = s ms h in
-      let z : r .0 ≡ [] = same-messages _ _ (sym (r .2 .read) ∙ messages-none passOver (r .2 .fuel) at _ tt (let z : end - at ≡ 0 = omega arith in ap (part im at) z)) in
+      let z : r .0 ≡ [] = same-messages _ _ (sym (r .2 .read) ∙ messages-none passOver (r .2 .fuel) at _ tt
+      (let z : end - at ≡ 0 = omega arith in ap (part im at) z)) in
       r .1 ∙ rw z

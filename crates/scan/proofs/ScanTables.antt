@@ -10,7 +10,8 @@ use Rattle.sharing.specs.Sharing.{foundOf, visitMessage, TablesIf, KeptIf}
 use Rattle.scan.proofs.ScanLaws.{Scanning}
 
 -- what was found from `from` to `at`, in the lists a₀, c₀, m₀ that were lent and are now a, c, m
-pub record Turning (im : List ℕ) (from end : ℕ) (auditing : Bool) (a₀ c₀ m₀ : List ℕ) (o₀ : ℕ) (t₀ : Tally) (at : ℕ) (a c m : List ℕ) (o : ℕ) (t : Tally) : Type 0 where
+pub record Turning (im : List ℕ) (from end : ℕ) (auditing : Bool) (a₀ c₀ m₀ : List ℕ) (o₀ : ℕ) (t₀ : Tally) (at : ℕ) (a c m : List ℕ) (o : ℕ) (t : Tally) :
+    Type 0 where
   pub scanning : Scanning (visitMessage auditing) im from end (foundOf a₀ c₀ m₀ o₀) t₀ at (foundOf a c m o) t
   pub kept : KeptIf auditing a₀ c₀ o₀ (at - from) a c m o
   pub addressesSame : length a ≡ length a₀
@@ -25,7 +26,8 @@ module _ (auditing : Bool) (a₀ c₀ : List ℕ) (o₀ : ℕ) where
     pub tables-now : (m₀ : List ℕ) (end : ℕ) → TablesIf auditing a₀ c₀ m₀ o₀ (end - from) → from ≤ at → at < end → TablesIf auditing a c m o 1
     tables-now m₀ end t h l e = record { table = k e .table; marked = k e .marked; fits = omega (arith, t e .fits, k e .links) }
 
-    pub kept-more : (size : ℕ) (a′ c′ m′ : List ℕ) (o′ : ℕ) → from ≤ at → KeptIf auditing a c o 1 a′ c′ m′ o′ → KeptIf auditing a₀ c₀ o₀ (at + 8 + size - from) a′ c′ m′ o′
+    pub kept-more : (size : ℕ) (a′ c′ m′ : List ℕ) (o′ : ℕ) → from ≤ at → KeptIf auditing a c o 1 a′ c′ m′ o′ →
+        KeptIf auditing a₀ c₀ o₀ (at + 8 + size - from) a′ c′ m′ o′
     kept-more size a′ c′ m′ o′ h j e = record { table = j e .table; marked = j e .marked; links = omega (arith, k e .links, j e .links) }
 
     pub kept-end : (end : ℕ) → at ≤ end → end ≤ at → KeptIf auditing a₀ c₀ o₀ (end - from) a c m o

@@ -35,7 +35,8 @@ TalliedWith im ms t t′ = (sofar : List Message) → Tallied im sofar t → Tal
 abbrev pub Scanned : List ℕ → ℕ → ℕ → Bool → List ℕ → List ℕ → List ℕ → Gathering → List ℕ → List ℕ → List ℕ → Scan → Type 0
 Scanned im from end auditing addresses counts marks g addresses′ counts′ marks′ (Done g′) =
     (ms : List Message)
-    × MessagesAre (visitMessage auditing) im from end (foundOf addresses counts marks (g .objects)) (ret (record { all = ms; found = foundOf addresses′ counts′ marks′ (g′ .objects) }))
+    × MessagesAre (visitMessage auditing) im from end (foundOf addresses counts marks (g .objects))
+    (ret (record { all = ms; found = foundOf addresses′ counts′ marks′ (g′ .objects) }))
     × TalliedWith im ms (g .tally) (g′ .tally)
     × KeptIf auditing addresses counts (g .objects) (end - from) addresses′ counts′ marks′ (g′ .objects)
 Scanned im from end auditing addresses counts marks g addresses′ counts′ marks′ (Stopped r) =

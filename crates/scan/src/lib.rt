@@ -35,7 +35,8 @@ pub fn scan_block(
     requires { ⌜ from ≤ end ⌝ }
     requires { ⌜ end ≤ length (now image) ⌝ }
     requires { ⌜ TablesIf auditing (now addresses) (now counts) (now marks) (before .objects) (end - from) ⌝ }
-    ensures { λ r. ⌜ Scanned (now (image .entry)) from end auditing (now (addresses .entry)) (now (counts .entry)) (now (marks .entry)) before (now (addresses .exit)) (now (counts .exit)) (now (marks .exit)) r ⌝ }
+    ensures { λ r. ⌜ Scanned (now (image .entry)) from end auditing (now (addresses .entry)) (now (counts .entry)) (now (marks .entry)) before
+        (now (addresses .exit)) (now (counts .exit)) (now (marks .exit)) r ⌝ }
 {
     let mut at = from;
     let mut sofar = before.tally;

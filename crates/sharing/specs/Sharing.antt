@@ -47,7 +47,8 @@ pub record Kept (addresses counts : List ℕ) (objects n : ℕ) (addresses′ co
   pub links : linkSum (linkedOf objects′ addresses′ counts′) ≤ linkSum (linkedOf objects addresses counts) + n
 
 abbrev pub KeptIf : (auditing : Bool) (addresses counts : List ℕ) (objects n : ℕ) (addresses′ counts′ marks′ : List ℕ) (objects′ : ℕ) → Type 0
-KeptIf auditing addresses counts objects n addresses′ counts′ marks′ objects′ = auditing ≡ true → Kept addresses counts objects n addresses′ counts′ marks′ objects′
+KeptIf auditing addresses counts objects n addresses′ counts′ marks′ objects′ = auditing ≡ true →
+    Kept addresses counts objects n addresses′ counts′ marks′ objects′
 
 -- so after a sharing that wasn't refused
 abbrev pub KeptThen : (addresses counts : List ℕ) (objects n : ℕ) (addresses′ counts′ marks′ : List ℕ) → Sharing → Type 0

@@ -37,7 +37,9 @@ read-requires c κs =
     let enter = n .before .before .before .before in
     let one = rw (n .n .given .1) at (enter .enter-superblock .ensures) in (
       opened (now (s .args .image)) (s .args .superblock) _ (length (now (s .args .list))) room (s .pre .0),
-      root-listed (now (s .args .image)) (now (s .args .list)) (s .args .superblock) _ room (enter .enter-superblock .last .1 .0) _ (enter .enter-superblock .kept .1 .0) (one (now (s .args .image))) _ _ _ _ _ (c .before .before .before .before .before .before .before .before .start .ensures) refl (s .pre .0 .4) (s .pre .0 .3),
+      root-listed (now (s .args .image)) (now (s .args .list)) (s .args .superblock) _ room (enter .enter-superblock .last .1 .0) _
+          (enter .enter-superblock .kept .1 .0) (one (now (s .args .image))) _ _ _ _ _
+          (c .before .before .before .before .before .before .before .before .start .ensures) refl (s .pre .0 .4) (s .pre .0 .3),
     )
 
 same-length : tie.Need-same-length
@@ -47,7 +49,8 @@ returns : tie.Need-returns
 returns c =
     let s = c .before .before .before .before .before .before .before .before .before .before .before .before in
     let enter = c .before .before .before .before .before in
-    superblock-stopped (now (s .args .image)) (now (s .args .list)) (s .args .superblock) _ (c .before .before .before .before .before .before .before .room .ensures) (enter .enter-superblock .last .1 .0) _ _ _
+    superblock-stopped (now (s .args .image)) (now (s .args .list)) (s .args .superblock) _
+    (c .before .before .before .before .before .before .before .room .ensures) (enter .enter-superblock .last .1 .0) _ _ _
     ((rw (c .before .x .given .1) at (enter .enter-superblock .ensures)) (now (s .args .image)))
 
 same-length-2 : tie.Need-same-length-2
@@ -62,12 +65,16 @@ same-length-4 c = search needs
 returns-2 : tie.Need-returns-2
 unfolding objectsMost
 returns-2 c =
-    let n = c .before .before .before .before .before .before .before .before .before .before .before .before .before .before .before .before .before .before .before .before in
+    let n = c .before .before .before .before .before .before .before .before .before .before .before .before .before .before .before .before .before .before
+    .before .before in
     let s = n .before .before .before .before .before .before .before .before .before .before .before in
     let room = n .before .before .before .before .before .before .room .ensures in
     let enter = n .before .before .before .before in
     let one = rw (n .n .given .1) at (enter .enter-superblock .ensures) in
-    objects-read (now (s .args .image)) (now (s .args .list)) (s .args .superblock) _ room (enter .enter-superblock .last .1 .0) _ (enter .enter-superblock .kept .1 .0) (one (now (s .args .image))) _ _ _ _ _ (c .before .before .before .before .before .before .before .before .before .before .before .before .before .before .before .before .start .ensures) refl _ _ _ _ (c .before .before .before .before .before .before .before .read .result)
+    objects-read (now (s .args .image)) (now (s .args .list)) (s .args .superblock) _ room (enter .enter-superblock .last .1 .0) _
+    (enter .enter-superblock .kept .1 .0) (one (now (s .args .image))) _ _ _ _ _
+    (c .before .before .before .before .before .before .before .before .before .before .before .before .before .before .before .before .start .ensures)
+    refl _ _ _ _ (c .before .before .before .before .before .before .before .read .result)
     (c .before .before .before .before .before .before .before .read .kept .1 .0) (c .before .before .before .before .before .before .before .read .ensures)
 
 pub walk-image-spec : {M : Type 1} → statement M

@@ -15,7 +15,8 @@ use Rattle.continuations.proofs.follow.Statement.{statement}
 use Rattle.continuations.proofs.follow.Tie as tie
 
 abbrev Inv-loop : tie.InvT-loop
-Inv-loop image list₀ addresses₀ counts₀ marks₀ reading count n₀ sofar₀ c₀ list addresses counts marks n sofar c = Loop image list₀ addresses₀ counts₀ marks₀ reading count sofar₀ c₀ list addresses counts marks n sofar c
+Inv-loop image list₀ addresses₀ counts₀ marks₀ reading count n₀ sofar₀ c₀ list addresses counts marks n sofar c = Loop image list₀ addresses₀ counts₀ marks₀
+    reading count sofar₀ c₀ list addresses counts marks n sofar c
 
 abbrev μ-loop : tie.MeasureT-loop
 μ-loop image list₀ addresses₀ counts₀ marks₀ reading count n₀ sofar₀ c₀ list addresses counts marks n sofar c = reading .room - n
@@ -72,19 +73,35 @@ enum-known-x c = search needs
 
 same-length : tie.Need-same-length Inv-loop μ-loop
 same-length c =
-    let loop = c .before .before .before .before .before .before .before .before .before .before .before .before .before .before .before .before .before .before .before .before in
+    let loop = c .before .before .before .before .before .before .before .before .before .before .before .before .before .before .before .before .before
+    .before .before .before in
     let s = loop .before .before .before .before .before .before .before .before in
     let f = loop .loop .inv .going (blocksMost + 1) _ _ (omega arith) (s .pre .0 .lent) (loop .before .seek .ensures _ (s .pre .1 .0 .1)) (s .pre .1 .1 .1) in
     omega (arith, c .before .before .before .before .before .before .before .before .before .before .before .read-block .kept .1 .0, f .come .sameLength)
 
 same-length-2 : tie.Need-same-length-2 Inv-loop μ-loop
-same-length-2 c = omega (arith, c .before .before .before .before .before .before .before .before .before .before .before .read-block .kept .1 .1 .0, c .before .before .before .before .before .before .before .before .before .before .before .before .before .before .before .before .before .before .before .before .loop .inv .addressesSame)
+same-length-2 c = omega (
+  arith,
+  c .before .before .before .before .before .before .before .before .before .before .before .read-block .kept .1 .1 .0,
+  c .before .before .before .before .before .before .before .before .before .before .before .before .before .before .before .before .before .before .before
+      .before .loop .inv .addressesSame,
+)
 
 same-length-3 : tie.Need-same-length-3 Inv-loop μ-loop
-same-length-3 c = omega (arith, c .before .before .before .before .before .before .before .before .before .before .before .read-block .kept .1 .1 .1 .0, c .before .before .before .before .before .before .before .before .before .before .before .before .before .before .before .before .before .before .before .before .loop .inv .countsSame)
+same-length-3 c = omega (
+  arith,
+  c .before .before .before .before .before .before .before .before .before .before .before .read-block .kept .1 .1 .1 .0,
+  c .before .before .before .before .before .before .before .before .before .before .before .before .before .before .before .before .before .before .before
+      .before .loop .inv .countsSame,
+)
 
 same-length-4 : tie.Need-same-length-4 Inv-loop μ-loop
-same-length-4 c = omega (arith, c .before .before .before .before .before .before .before .before .before .before .before .read-block .kept .1 .1 .1 .1 .0, c .before .before .before .before .before .before .before .before .before .before .before .before .before .before .before .before .before .before .before .before .loop .inv .marksSame)
+same-length-4 c = omega (
+  arith,
+  c .before .before .before .before .before .before .before .before .before .before .before .read-block .kept .1 .1 .1 .1 .0,
+  c .before .before .before .before .before .before .before .before .before .before .before .before .before .before .before .before .before .before .before
+      .before .loop .inv .marksSame,
+)
 
 returns : tie.Need-returns Inv-loop μ-loop
 returns c = (
@@ -93,7 +110,8 @@ returns c = (
       let loop = block .before .before .before .before .before .before .before .before .before in
       let s = loop .before .before .before .before .before .before .before .before in
       let f = loop .loop .inv .going fuel waiting sofar l (s .pre .0 .lent) (loop .before .seek .ensures waiting w) t in
-      not-read _ _ _ _ _ _ _ _ _ _ _ _ (s .pre .0 .most) f (block .before .before .before .before .before .before .before .if1 .taken) _ _ (block .before .before .before .before .before .before .u64-at .ensures) (block .before .before .before .before .before .u64-at2 .ensures) _ _
+      not-read _ _ _ _ _ _ _ _ _ _ _ _ (s .pre .0 .most) f (block .before .before .before .before .before .before .before .if1 .taken) _ _
+      (block .before .before .before .before .before .before .u64-at .ensures) (block .before .before .before .before .before .u64-at2 .ensures) _ _
       (rw (c .before .x .given .1) at (block .read-block .ensures)),
   tt,
 )
@@ -102,16 +120,47 @@ enum-known-gathering : tie.Need-enum-known-gathering Inv-loop μ-loop
 enum-known-gathering c = search needs
 
 add-next : tie.Need-add-next Inv-loop μ-loop
-add-next c = omega (arith, inside (c .before .before .before .before .before .before .before .before .before .before .before .before .before .before .before .before .before .before) .0, inside (c .before .before .before .before .before .before .before .before .before .before .before .before .before .before .before .before .before .before) .1, c .before .before .before .before .before .before .before .before .before .before .before .before .before .before .before .before .before .before .before .before .before .before .before .before .before .before .before .before .good .0 .0)
+add-next c = omega (
+  arith,
+  inside (c .before .before .before .before .before .before .before .before .before .before .before .before .before .before .before
+      .before .before .before) .0,
+  inside (c .before .before .before .before .before .before .before .before .before .before .before .before .before .before
+      .before .before .before .before) .1,
+  c .before .before .before .before .before .before .before .before .before .before .before .before .before .before
+      .before .before .before .before .before .before .before .before .before .before .before .before .before .before .good .0 .0,
+)
 
 add-u16-at : tie.Need-add-u16-at Inv-loop μ-loop
-add-u16-at c = omega (arith, inside (c .before .before .before .before .before .before .before .before .before .before .before .before .before .before .before .before .before .before) .0, inside (c .before .before .before .before .before .before .before .before .before .before .before .before .before .before .before .before .before .before) .1, c .before .before .before .before .before .before .before .before .before .before .before .before .before .before .before .before .before .before .before .before .before .before .before .before .before .before .before .before .good .0 .0)
+add-u16-at c = omega (
+  arith,
+  inside (c .before .before .before .before .before .before .before .before .before .before .before .before .before .before .before
+      .before .before .before) .0,
+  inside (c .before .before .before .before .before .before .before .before .before .before .before .before .before .before
+      .before .before .before .before) .1,
+  c .before .before .before .before .before .before .before .before .before .before .before .before .before .before
+      .before .before .before .before .before .before .before .before .before .before .before .before .before .before .good .0 .0,
+)
 
 u16-at-requires : tie.Need-u16-at-requires Inv-loop μ-loop
-u16-at-requires c κs = omega (arith, inside (c .before .before .before .before .before .before .before .before .before .before .before .before .before .before .before .before .before .before) .0, inside (c .before .before .before .before .before .before .before .before .before .before .before .before .before .before .before .before .before .before) .1)
+u16-at-requires c κs = omega (
+  arith,
+  inside (c .before .before .before .before .before .before .before .before .before .before .before .before .before .before
+      .before .before .before .before) .0,
+  inside (c .before .before .before .before .before .before .before .before .before .before .before .before .before
+      .before .before .before .before .before) .1,
+)
 
 add-next-2 : tie.Need-add-next-2 Inv-loop μ-loop
-add-next-2 c = omega (arith, inside (c .before .before .before .before .before .before .before .before .before .before .before .before .before .before .before .before .before .before .before) .0, inside (c .before .before .before .before .before .before .before .before .before .before .before .before .before .before .before .before .before .before .before) .1, c .u16-at .ensures .value, c .before .before .before .before .before .before .before .before .before .before .before .before .before .before .before .before .before .before .before .before .before .before .before .before .before .before .before .before .before .good .0 .0)
+add-next-2 c = omega (
+  arith,
+  inside (c .before .before .before .before .before .before .before .before .before .before .before .before .before .before .before
+      .before .before .before .before) .0,
+  inside (c .before .before .before .before .before .before .before .before .before .before .before .before .before
+      .before .before .before .before .before .before) .1,
+  c .u16-at .ensures .value,
+  c .before .before .before .before .before .before .before .before .before .before .before .before .before .before .before .before .before .before .before
+      .before .before .before .before .before .before .before .before .before .before .good .0 .0,
+)
 
 seek-requires-2 : tie.Need-seek-requires-2 Inv-loop μ-loop
 seek-requires-2 c κs =
@@ -120,8 +169,12 @@ seek-requires-2 c κs =
     let s = loop .before .before .before .before .before .before .before .before in
     let f = loop .loop .inv .going (blocksMost + 1) _ _ (omega arith) (s .pre .0 .lent) (loop .before .seek .ensures _ (s .pre .1 .0 .1)) (s .pre .1 .1 .1) in
     let b = rw (c .before .before .before .gathering .given .1) at (block .read-block .ensures) in
-    let l = block-lent _ _ _ _ _ _ _ _ _ _ _ _ (s .pre .0 .most) f (block .before .before .before .before .before .before .before .if1 .taken) _ _ (block .before .before .before .before .before .before .u64-at .ensures) (block .before .before .before .before .before .u64-at2 .ensures) _ _ (b .new) _ _ (block .read-block .kept .1 .0) (b .walked) (b .block) (b .tally) in
-    let w = waits _ _ _ _ _ _ _ _ _ _ _ _ (s .pre .0 .most) f (block .before .before .before .before .before .before .before .if1 .taken) _ _ (block .before .before .before .before .before .before .u64-at .ensures) (block .before .before .before .before .before .u64-at2 .ensures) _ _ (b .new) _ _ (block .read-block .kept .1 .0) (b .walked) (b .block) (b .tally) in
+    let l = block-lent _ _ _ _ _ _ _ _ _ _ _ _ (s .pre .0 .most) f (block .before .before .before .before .before .before .before .if1 .taken) _ _
+    (block .before .before .before .before .before .before .u64-at .ensures) (block .before .before .before .before .before .u64-at2 .ensures) _ _
+    (b .new) _ _ (block .read-block .kept .1 .0) (b .walked) (b .block) (b .tally) in
+    let w = waits _ _ _ _ _ _ _ _ _ _ _ _ (s .pre .0 .most) f (block .before .before .before .before .before .before .before .if1 .taken) _ _
+    (block .before .before .before .before .before .before .u64-at .ensures) (block .before .before .before .before .before .u64-at2 .ensures) _ _
+    (b .new) _ _ (block .read-block .kept .1 .0) (b .walked) (b .block) (b .tally) in
     (omega (arith, l .lent, l .counted), (_, rw (← c .before .u16-at .ensures .value) at w))
 
 loop-less : tie.Need-loop-less Inv-loop μ-loop
@@ -131,7 +184,9 @@ loop-less c =
     let s = loop .before .before .before .before .before .before .before .before in
     let f = loop .loop .inv .going (blocksMost + 1) _ _ (omega arith) (s .pre .0 .lent) (loop .before .seek .ensures _ (s .pre .1 .0 .1)) (s .pre .1 .1 .1) in
     let b = rw (c .before .before .before .before .gathering .given .1) at (block .read-block .ensures) in
-    let l = block-lent _ _ _ _ _ _ _ _ _ _ _ _ (s .pre .0 .most) f (block .before .before .before .before .before .before .before .if1 .taken) _ _ (block .before .before .before .before .before .before .u64-at .ensures) (block .before .before .before .before .before .u64-at2 .ensures) _ _ (b .new) _ _ (block .read-block .kept .1 .0) (b .walked) (b .block) (b .tally) in
+    let l = block-lent _ _ _ _ _ _ _ _ _ _ _ _ (s .pre .0 .most) f (block .before .before .before .before .before .before .before .if1 .taken) _ _
+    (block .before .before .before .before .before .before .u64-at .ensures) (block .before .before .before .before .before .u64-at2 .ensures) _ _
+    (b .new) _ _ (block .read-block .kept .1 .0) (b .walked) (b .block) (b .tally) in
     omega (arith, l .counted, b .block .counted)
 
 loop-again : tie.Need-loop-again Inv-loop μ-loop
@@ -143,8 +198,13 @@ loop-again c =
     record {
       going = λ fuel waiting sofar l k o t.
           let f = loop .loop .inv .going fuel waiting sofar l k o t in
-          followed _ _ _ _ _ _ _ _ _ _ _ _ (s .pre .0 .most) f (block .before .before .before .before .before .before .before .if1 .taken) _ _ (block .before .before .before .before .before .before .u64-at .ensures) (block .before .before .before .before .before .u64-at2 .ensures) _ _ (b .new) _ _ (block .read-block .kept .1 .0) (b .walked) (b .block) (b .tally) _
-          (c .seek2 .ensures _ (rw (c .before .before .u16-at .ensures .value) (waits _ _ _ _ _ _ _ _ _ _ _ _ (s .pre .0 .most) f (block .before .before .before .before .before .before .before .if1 .taken) _ _ (block .before .before .before .before .before .before .u64-at .ensures) (block .before .before .before .before .before .u64-at2 .ensures) _ _ (b .new) _ _ (block .read-block .kept .1 .0) (b .walked) (b .block) (b .tally))));
+          followed _ _ _ _ _ _ _ _ _ _ _ _ (s .pre .0 .most) f (block .before .before .before .before .before .before .before .if1 .taken) _ _
+          (block .before .before .before .before .before .before .u64-at .ensures) (block .before .before .before .before .before .u64-at2 .ensures) _ _
+          (b .new) _ _ (block .read-block .kept .1 .0) (b .walked) (b .block) (b .tally) _
+          (c .seek2 .ensures _ (rw (c .before .before .u16-at .ensures .value)
+          (waits _ _ _ _ _ _ _ _ _ _ _ _ (s .pre .0 .most) f (block .before .before .before .before .before .before .before .if1 .taken) _ _
+          (block .before .before .before .before .before .before .u64-at .ensures) (block .before .before .before .before .before .u64-at2 .ensures) _ _
+          (b .new) _ _ (block .read-block .kept .1 .0) (b .walked) (b .block) (b .tally))));
       counting = b .counting;
       addressesSame = omega (arith, block .read-block .kept .1 .1 .0, loop .loop .inv .addressesSame);
       countsSame = omega (arith, block .read-block .kept .1 .1 .1 .0, loop .loop .inv .countsSame);

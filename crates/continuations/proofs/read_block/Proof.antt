@@ -12,19 +12,23 @@ use Rattle.continuations.proofs.read_block.Statement.{statement}
 use Rattle.continuations.proofs.read_block.Tie as tie
 
 -- the block lies inside the end of file
-entered-inside : (c : tie.After-n) → c .before .before .before .before .before .before .before .before .before .before .before .args .address + c .before .before .before .before .before .before .before .before .before .before .before .args .size ≤ c .before .before .before .before .before .before .before .before .before .before .before .args .reading .«end_of_file»
+entered-inside : (c : tie.After-n) → c .before .before .before .before .before .before .before .before .before .before .before .args .address +
+    c .before .before .before .before .before .before .before .before .before .before .before .args .size ≤
+    c .before .before .before .before .before .before .before .before .before .before .before .args .reading .«end_of_file»
 entered-inside c = block-inside _ _ continuationBlock _ _ _ _ _ (sym (c .n .given .1) ∙ c .before .before .before .before .enter .ensures .0)
 
 -- its bytes are to spare for what is found in it
 now-spare : (c : tie.After-n) →
     let s = c .before .before .before .before .before .before .before .before .before .before .before .args in
-    CountingIf (s .reading .auditing) (c .before .before .before .before .enter .last .1 .0) (now (s .addresses)) (now (s .counts)) (now (s .marks)) (s .reading .«end_of_file») (c .n .given .0 .0)
+    CountingIf (s .reading .auditing) (c .before .before .before .before .enter .last .1 .0) (now (s .addresses)) (now (s .counts)) (now (s .marks))
+    (s .reading .«end_of_file») (c .n .given .0 .0)
     (s .before .objects) (16 + (s .address + s .size - s .address))
 now-spare c =
     let s = c .before .before .before .before .before .before .before .before .before .before .before in
     let size : s .args .address + s .args .size - s .args .address ≡ s .args .size = omega arith in
     rw size
-    (counting-entered _ _ continuationBlock _ _ _ _ _ (s .pre .lent) (c .before .before .before .before .enter .ensures .1) _ (sym (c .n .given .1) ∙ c .before .before .before .before .enter .ensures .0) _ _ _ _ _ 16 (s .pre .counting))
+    (counting-entered _ _ continuationBlock _ _ _ _ _ (s .pre .lent) (c .before .before .before .before .enter .ensures .1) _
+    (sym (c .n .given .1) ∙ c .before .before .before .before .enter .ensures .0) _ _ _ _ _ 16 (s .pre .counting))
 
 spare : (c : tie.After-n) →
     let s = c .before .before .before .before .before .before .before .before .before .before .before .args in
@@ -41,7 +45,12 @@ enum-known-n : tie.Need-enum-known-n
 enum-known-n c = search needs
 
 add-end : tie.Need-add-end
-add-end c = omega (arith, entered-inside (c .before), c .before .before .before .before .before .before .before .before .before .before .before .before .pre .file)
+add-end c = omega (
+  arith,
+  entered-inside (c .before),
+  c .before .before .before .before .before .before .before .before .before .before .before .before .pre
+      .file,
+)
 
 scan-block-requires : tie.Need-scan-block-requires
 scan-block-requires c κs =
@@ -62,7 +71,8 @@ same-length c = search needs
 returns : tie.Need-returns
 returns c =
     let s = c .before .before .before .before .before .before .before .before .before .before .before .before in
-    not-entered _ _ _ _ _ _ _ _ _ (s .pre .lent) _ (c .before .before .before .before .before .enter .ensures .1) _ (sym (c .before .x .given .1) ∙ c .before .before .before .before .before .enter .ensures .0)
+    not-entered _ _ _ _ _ _ _ _ _ (s .pre .lent) _ (c .before .before .before .before .before .enter .ensures .1) _
+    (sym (c .before .x .given .1) ∙ c .before .before .before .before .before .enter .ensures .0)
 
 same-length-2 : tie.Need-same-length-2
 same-length-2 c = search needs
@@ -80,7 +90,8 @@ returns-2 : tie.Need-returns-2
 returns-2 c =
     let n = c .before .before .before .before .before .before .before .before .before .before .before .before .before .before in
     let s = n .before .before .before .before .before .before .before .before .before .before .before in
-    not-scanned _ _ _ _ _ _ _ _ _ (s .pre .lent) _ (n .before .before .before .before .enter .ensures .1) _ (sym (n .n .given .1) ∙ n .before .before .before .before .enter .ensures .0) (s .pre .file) _
+    not-scanned _ _ _ _ _ _ _ _ _ (s .pre .lent) _ (n .before .before .before .before .enter .ensures .1) _
+    (sym (n .n .given .1) ∙ n .before .before .before .before .enter .ensures .0) (s .pre .file) _
     (rw (c .before .x2 .given .1) at (c .before .before .before .before .before .before .before .before .before .scan-block .ensures))
 
 same-length-6 : tie.Need-same-length-6

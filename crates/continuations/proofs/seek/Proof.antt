@@ -14,19 +14,24 @@ use Rattle.continuations.proofs.seek.Tie as tie
 
 abbrev Inv-loop : tie.InvT-loop
 Inv-loop image list count block₀ end₀ first at₀ block end at =
-    (block < count) × ((waiting : List Message) → Waiting image list count (cursor block₀ first end₀) waiting → Searched image list count (cursor block at end) waiting)
+    (block < count) × ((waiting : List Message) → Waiting image list count (cursor block₀ first end₀) waiting → Searched image list count
+    (cursor block at end) waiting)
 
 abbrev μ-loop : tie.MeasureT-loop
 μ-loop image list count block₀ end₀ first at₀ block end at = count - block
 
 -- the next block, with what waits from there on
 turn : (c : tie.Else1 Inv-loop μ-loop) (waiting : List Message) →
-    Waiting (now (c .before .before .before .before .before .before .args .image)) (now (c .before .before .before .before .before .before .args .list)) (c .before .before .before .before .before .before .args .count)
+    Waiting (now (c .before .before .before .before .before .before .args .image)) (now (c .before .before .before .before .before .before .args .list))
+    (c .before .before .before .before .before .before .args .count)
     (c .before .before .before .before .before .before .args .cursor) waiting →
-    Waiting (now (c .before .before .before .before .before .before .args .image)) (now (c .before .before .before .before .before .before .args .list)) (c .before .before .before .before .before .before .args .count)
-    (cursor (c .before .before .loop .block + 1) (getD (now (c .before .before .before .before .before .before .args .list)) (c .before .before .loop .block + 1 + (c .before .before .loop .block + 1)) 0)
+    Waiting (now (c .before .before .before .before .before .before .args .image)) (now (c .before .before .before .before .before .before .args .list))
+    (c .before .before .before .before .before .before .args .count)
+    (cursor (c .before .before .loop .block + 1) (getD (now (c .before .before .before .before .before .before .args .list))
+    (c .before .before .loop .block + 1 + (c .before .before .loop .block + 1)) 0)
     (getD (now (c .before .before .before .before .before .before .args .list)) (c .before .before .loop .block + 1 + (c .before .before .loop .block + 1)) 0
-    + getD (now (c .before .before .before .before .before .before .args .list)) (c .before .before .loop .block + 1 + (c .before .before .loop .block + 1) + 1) 0))
+    + getD (now (c .before .before .before .before .before .before .args .list))
+    (c .before .before .loop .block + 1 + (c .before .before .loop .block + 1) + 1) 0))
     waiting
 turn c waiting w = next-block _ _ _ _ _ _ waiting (c .before .loop-test .taken) (c .if1 .left) (c .before .before .loop .inv .1 waiting w)
 

@@ -11,7 +11,8 @@ use Rattle.objects.proofs.read.Statement.{statement}
 use Rattle.objects.proofs.read.Tie as tie
 
 abbrev Inv-loop : tie.InvT-loop
-Inv-loop image list₀ addresses₀ counts₀ marks₀ superblock room count objects entered₀ found₀ i₀ list addresses counts marks entered found i = Loop image list₀ addresses₀ counts₀ marks₀ superblock room count objects list addresses counts marks entered found i
+Inv-loop image list₀ addresses₀ counts₀ marks₀ superblock room count objects entered₀ found₀ i₀ list addresses counts marks entered found i = Loop image list₀
+    addresses₀ counts₀ marks₀ superblock room count objects list addresses counts marks entered found i
 
 abbrev μ-loop : tie.MeasureT-loop
 μ-loop image list₀ addresses₀ counts₀ marks₀ superblock room count objects entered₀ found₀ i₀ list addresses counts marks entered found i = objectsMost - i
@@ -32,28 +33,61 @@ mul-at : tie.Need-mul-at Inv-loop μ-loop
 mul-at c = search needs
 
 slice-read-at : tie.Need-slice-read-at Inv-loop μ-loop
-slice-read-at c = omega (arith, c .before .before .loop .inv .listed .counting .table .fits, c .before .before .loop .inv .listed .counting .table .addressesLong)
+slice-read-at c = omega (
+  arith,
+  c .before .before .loop .inv .listed .counting .table .fits,
+  c .before .before .loop .inv .listed .counting .table .addressesLong,
+)
 
 read-requires : tie.Need-read-requires Inv-loop μ-loop
 read-requires c κs =
     let loop = c .before .before .before .before .before .before in
-    let s = loop .before .before .before .before .before .before in
-    (s .pre .0, (loop .loop .inv .listed, omega (arith, c .before .before .before .before .before .loop-test .taken, loop .loop .inv .listed .counting .table .fits)))
+    let s = loop .before .before .before .before .before .before in (
+      s .pre .0,
+      (
+        loop .loop .inv .listed,
+        omega (
+          arith,
+          c .before .before .before .before .before .loop-test .taken,
+          loop .loop .inv .listed .counting .table .fits,
+        ),
+      ),
+    )
 
 enum-known-x : tie.Need-enum-known-x Inv-loop μ-loop
 enum-known-x c = search needs
 
 same-length : tie.Need-same-length Inv-loop μ-loop
-same-length c = omega (arith, c .before .before .before .before .before .before .before .before .before .before .before .read .kept .1 .0, c .before .before .before .before .before .before .before .before .before .before .before .before .before .before .before .before .before .before .loop .inv .come .sameLength)
+same-length c = omega (
+  arith,
+  c .before .before .before .before .before .before .before .before .before .before .before .read .kept .1 .0,
+  c .before .before .before .before .before .before .before .before .before .before .before .before .before .before .before .before .before .before .loop
+      .inv .come .sameLength,
+)
 
 same-length-2 : tie.Need-same-length-2 Inv-loop μ-loop
-same-length-2 c = omega (arith, c .before .before .before .before .before .before .before .before .before .before .before .read .kept .1 .1 .0, c .before .before .before .before .before .before .before .before .before .before .before .before .before .before .before .before .before .before .loop .inv .addressesSame)
+same-length-2 c = omega (
+  arith,
+  c .before .before .before .before .before .before .before .before .before .before .before .read .kept .1 .1 .0,
+  c .before .before .before .before .before .before .before .before .before .before .before .before .before .before .before .before .before .before .loop
+      .inv .addressesSame,
+)
 
 same-length-3 : tie.Need-same-length-3 Inv-loop μ-loop
-same-length-3 c = omega (arith, c .before .before .before .before .before .before .before .before .before .before .before .read .kept .1 .1 .1 .0, c .before .before .before .before .before .before .before .before .before .before .before .before .before .before .before .before .before .before .loop .inv .countsSame)
+same-length-3 c = omega (
+  arith,
+  c .before .before .before .before .before .before .before .before .before .before .before .read .kept .1 .1 .1 .0,
+  c .before .before .before .before .before .before .before .before .before .before .before .before .before .before .before .before .before .before .loop
+      .inv .countsSame,
+)
 
 same-length-4 : tie.Need-same-length-4 Inv-loop μ-loop
-same-length-4 c = omega (arith, c .before .before .before .before .before .before .before .before .before .before .before .read .kept .1 .1 .1 .1 .0, c .before .before .before .before .before .before .before .before .before .before .before .before .before .before .before .before .before .before .loop .inv .marksSame)
+same-length-4 c = omega (
+  arith,
+  c .before .before .before .before .before .before .before .before .before .before .before .read .kept .1 .1 .1 .1 .0,
+  c .before .before .before .before .before .before .before .before .before .before .before .before .before .before .before .before .before .before .loop
+      .inv .marksSame,
+)
 
 returns : tie.Need-returns Inv-loop μ-loop
 returns c =
@@ -62,16 +96,32 @@ returns c =
     let s = loop .before .before .before .before .before .before in
     let inv = loop .loop .inv in
     let r = rw (c .before .x .given .1) at (read .read .ensures) in
-    record { walked = object-stopped _ _ _ _ _ _ _ _ _ (inv .listed .counting .table) (inv .come) (read .before .before .before .before .before .before .loop-test .taken) _ _ (r .walked); listed = tt }
+    record {
+      walked = object-stopped _ _ _ _ _ _ _ _ _ (inv .listed .counting .table) (inv .come)
+          (read .before .before .before .before .before .before .loop-test .taken) _ _ (r .walked);
+      listed = tt;
+    }
 
 enum-known-c : tie.Need-enum-known-c Inv-loop μ-loop
 enum-known-c c = search needs
 
 add-i : tie.Need-add-i Inv-loop μ-loop
-add-i c = omega (arith, c .before .before .before .before .before .before .before .before .before .before .before .before .before .before .before .before .before .loop-test .taken, c .before .before .before .before .before .before .before .before .before .before .before .before .before .before .before .before .before .before .loop .inv .listed .counting .table .fits)
+add-i c = omega (
+  arith,
+  c .before .before .before .before .before .before .before .before .before .before .before .before .before .before .before .before
+      .before .loop-test .taken,
+  c .before .before .before .before .before .before .before .before .before .before .before .before .before .before .before
+      .before .before .before .loop .inv .listed .counting .table .fits,
+)
 
 loop-less : tie.Need-loop-less Inv-loop μ-loop
-loop-less c = omega (arith, c .before .before .before .before .before .before .before .before .before .before .before .before .before .before .before .before .before .loop-test .taken, c .before .before .before .before .before .before .before .before .before .before .before .before .before .before .before .before .before .before .loop .inv .listed .counting .table .fits)
+loop-less c = omega (
+  arith,
+  c .before .before .before .before .before .before .before .before .before .before .before .before .before .before .before .before
+      .before .loop-test .taken,
+  c .before .before .before .before .before .before .before .before .before .before .before .before .before .before .before
+      .before .before .before .loop .inv .listed .counting .table .fits,
+)
 
 loop-again : tie.Need-loop-again Inv-loop μ-loop
 loop-again c =
@@ -82,7 +132,8 @@ loop-again c =
     let r = rw (c .before .c .given .1) at (read .read .ensures) in
     record {
       listed = r .listed;
-      come = object-done _ _ _ _ _ _ _ _ _ (inv .listed .counting .table) (inv .come) (read .before .before .before .before .before .before .loop-test .taken) _ _ _ (read .read .kept .1 .0) (r .walked);
+      come = object-done _ _ _ _ _ _ _ _ _ (inv .listed .counting .table) (inv .come) (read .before .before .before .before .before .before .loop-test .taken)
+          _ _ _ (read .read .kept .1 .0) (r .walked);
       addressesSame = omega (arith, read .read .kept .1 .1 .0, inv .addressesSame);
       countsSame = omega (arith, read .read .kept .1 .1 .1 .0, inv .countsSame);
       marksSame = omega (arith, read .read .kept .1 .1 .1 .1 .0, inv .marksSame);

@@ -18,7 +18,8 @@ abbrev μ-loop : tie.MeasureT-loop
 μ-loop image from end at₀ at = end - at
 
 -- the message that stands there
-step : (c : tie.In-loop Inv-loop μ-loop) → Step (now (c .before .before .before .args .image)) (c .before .loop .at) (c .before .before .before .args .end) (c .before .loop .inv .0 .0)
+step : (c : tie.In-loop Inv-loop μ-loop) →
+    Step (now (c .before .before .before .args .image)) (c .before .loop .at) (c .before .before .before .args .end) (c .before .loop .inv .0 .0)
 step c = holds-step _ _ _ _ (c .before .loop .inv .0 .1) (c .loop-test .taken)
 
 inside : (c : tie.At-loop Inv-loop μ-loop) → c .before .before .args .end ≤ length (now (c .before .before .args .image))
@@ -36,7 +37,11 @@ u16-at-requires c κs =
 returns : tie.Need-returns Inv-loop μ-loop
 returns c =
     let loop = c .before .before .before in
-    λ ms h. inr (c .before .before .loop-test .taken, seek-found _ _ _ _ (loop .loop .inv .1) (c .before .before .loop-test .taken) (sym (c .before .u16-at .ensures .value) ∙ c .if1 .taken) ms h)
+    λ ms h. inr (
+      c .before .before .loop-test .taken,
+      seek-found _ _ _ _ (loop .loop .inv .1) (c .before .before .loop-test .taken)
+          (sym (c .before .u16-at .ensures .value) ∙ c .if1 .taken) ms h,
+    )
 
 add-at : tie.Need-add-at Inv-loop μ-loop
 add-at c =
@@ -71,8 +76,12 @@ loop-again c =
     let at = in-loop .before .loop .at in
     let s = in-loop .before .before .before .args in
     let p = step in-loop in
-    subst (λ (size : ℕ). Readable (now (s .image)) (at + 8 + size) (s .end) × Seeking (now (s .image)) (s .from) (s .end) (at + 8 + size)) (sym (c .u16-at2 .ensures .value))
-    ((p .rest, p .holds), seek-skip _ _ _ _ (in-loop .before .loop .inv .1) (in-loop .loop-test .taken) (λ e. c .before .if1 .left (c .before .before .u16-at .ensures .value ∙ e)))
+    subst (λ (size : ℕ). Readable (now (s .image)) (at + 8 + size) (s .end) × Seeking (now (s .image)) (s .from) (s .end) (at + 8 + size))
+    (sym (c .u16-at2 .ensures .value)) (
+      (p .rest, p .holds),
+      seek-skip _ _ _ _ (in-loop .before .loop .inv .1) (in-loop .loop-test .taken)
+          (λ e. c .before .if1 .left (c .before .before .u16-at .ensures .value ∙ e)),
+    )
 
 returns-2 : tie.Need-returns-2 Inv-loop μ-loop
 returns-2 c =

@@ -31,7 +31,8 @@ fields-read : (c : tie.After-kind Inv-loop μ-loop) →
     Fields (now (s .image)) (c .before .before .before .before .loop .at) (s .end) (c .kind .given .0 .0) (c .kind .given .0 .1 .0) (c .kind .given .0 .1 .1 .0)
 fields-read c =
     let s = c .before .before .before .before .before .before .before .before .before .before .args in
-    subst (λ (r : MessageRead). FieldsIf (now (s .image)) (c .before .before .before .before .loop .at) (s .end) r) (c .kind .given .1) (c .before .before .message .ensures .fields)
+    subst (λ (r : MessageRead). FieldsIf (now (s .image)) (c .before .before .before .before .loop .at) (s .end) r) (c .kind .given .1)
+    (c .before .before .message .ensures .fields)
 
 -- it was read as its reader reads it
 read-as : (c : tie.After-kind Inv-loop μ-loop) →
@@ -59,7 +60,8 @@ visited-as c r e =
 
 kept-as : (c : tie.After-visit-message Inv-loop μ-loop) (n : ℕ) → c .visit-message .result ≡ Counted n →
     let state = c .before .before .before .before .before .before .before .before .before .before .loop in
-    KeptIf (c .before .before .before .before .before .before .before .before .before .before .before .before .before .before .before .before .args .auditing) (state .addresses) (state .counts) (state .objects) 1 (c .visit-message .last .1 .1 .1 .0) (c .visit-message .last .1 .1 .1 .1 .0)
+    KeptIf (c .before .before .before .before .before .before .before .before .before .before .before .before .before .before .before .before .args .auditing)
+    (state .addresses) (state .counts) (state .objects) 1 (c .visit-message .last .1 .1 .1 .0) (c .visit-message .last .1 .1 .1 .1 .0)
     (c .visit-message .last .1 .1 .1 .1 .1 .0) n
 kept-as c n e = rw e at (c .visit-message .ensures .kept)
 
@@ -102,44 +104,84 @@ enum-known-kind : tie.Need-enum-known-kind Inv-loop μ-loop
 enum-known-kind c = search needs
 
 add-body : tie.Need-add-body Inv-loop μ-loop
-add-body c = omega (arith, fields-read (c .before) .inside, c .before .before .before .before .before .before .before .before .before .before .before .pre .1 .0)
+add-body c = omega (
+  arith,
+  fields-read (c .before) .inside,
+  c .before .before .before .before .before .before .before .before .before .before .before .pre .1
+      .0,
+)
 
 add-next : tie.Need-add-next Inv-loop μ-loop
-add-next c = omega (arith, fields-read (c .before) .inside, c .before .before .before .before .before .before .before .before .before .before .before .pre .1 .0)
+add-next c = omega (
+  arith,
+  fields-read (c .before) .inside,
+  c .before .before .before .before .before .before .before .before .before .before .before .pre .1
+      .0,
+)
 
 sub-visit-message : tie.Need-sub-visit-message Inv-loop μ-loop
-sub-visit-message c = omega (arith, fields-read (c .before) .inside, c .before .before .before .before .before .before .before .before .before .before .before .pre .1 .0)
+sub-visit-message c = omega (
+  arith,
+  fields-read (c .before) .inside,
+  c .before .before .before .before .before .before .before .before .before .before .before
+      .pre .1 .0,
+)
 
 part-visit-message-start : tie.Need-part-visit-message-start Inv-loop μ-loop
-part-visit-message-start c = omega (arith, fields-read (c .before) .inside, c .before .before .before .before .before .before .before .before .before .before .before .pre .1 .0)
+part-visit-message-start c = omega (
+  arith,
+  fields-read (c .before) .inside,
+  c .before .before .before .before .before .before .before .before .before .before .before .pre .1 .0,
+)
 
 part-visit-message-end : tie.Need-part-visit-message-end Inv-loop μ-loop
-part-visit-message-end c = omega (arith, fields-read (c .before) .inside, c .before .before .before .before .before .before .before .before .before .before .before .pre .1 .0)
+part-visit-message-end c = omega (
+  arith,
+  fields-read (c .before) .inside,
+  c .before .before .before .before .before .before .before .before .before .before .before .pre .1 .0,
+)
 
 visit-message-requires : tie.Need-visit-message-requires Inv-loop μ-loop
 visit-message-requires c κs =
     let loop = c .before .before .before .before .before .before .before .before .before in
     let s = loop .before .before .before .before .before .before in
-    tables-now _ _ _ _ _ _ _ _ _ _ (loop .loop .inv .kept) _ _ (s .pre .1 .1) (loop .loop .inv .scanning .before) (c .before .before .before .before .before .before .before .before .loop-test .taken)
+    tables-now _ _ _ _ _ _ _ _ _ _ (loop .loop .inv .kept) _ _ (s .pre .1 .1) (loop .loop .inv .scanning .before)
+    (c .before .before .before .before .before .before .before .before .loop-test .taken)
 
 enum-known-n-2 : tie.Need-enum-known-n-2 Inv-loop μ-loop
 enum-known-n-2 c = search needs
 
 same-length-4 : tie.Need-same-length-4 Inv-loop μ-loop
-same-length-4 c = omega (arith, c .before .before .before .before .before .before .before .before .before .visit-message .kept .1 .1 .1 .0, c .before .before .before .before .before .before .before .before .before .before .before .before .before .before .before .before .before .before .before .loop .inv .addressesSame)
+same-length-4 c = omega (
+  arith,
+  c .before .before .before .before .before .before .before .before .before .visit-message .kept .1 .1 .1 .0,
+  c .before .before .before .before .before .before .before .before .before .before .before .before .before .before .before .before .before .before .before
+      .loop .inv .addressesSame,
+)
 
 same-length-5 : tie.Need-same-length-5 Inv-loop μ-loop
-same-length-5 c = omega (arith, c .before .before .before .before .before .before .before .before .before .visit-message .kept .1 .1 .1 .1 .0, c .before .before .before .before .before .before .before .before .before .before .before .before .before .before .before .before .before .before .before .loop .inv .countsSame)
+same-length-5 c = omega (
+  arith,
+  c .before .before .before .before .before .before .before .before .before .visit-message .kept .1 .1 .1 .1 .0,
+  c .before .before .before .before .before .before .before .before .before .before .before .before .before .before .before .before .before .before .before
+      .loop .inv .countsSame,
+)
 
 same-length-6 : tie.Need-same-length-6 Inv-loop μ-loop
-same-length-6 c = omega (arith, c .before .before .before .before .before .before .before .before .before .visit-message .kept .1 .1 .1 .1 .1 .0, c .before .before .before .before .before .before .before .before .before .before .before .before .before .before .before .before .before .before .before .loop .inv .marksSame)
+same-length-6 c = omega (
+  arith,
+  c .before .before .before .before .before .before .before .before .before .visit-message .kept .1 .1 .1 .1 .1 .0,
+  c .before .before .before .before .before .before .before .before .before .before .before .before .before .before .before .before .before .before .before
+      .loop .inv .marksSame,
+)
 
 returns-2 : tie.Need-returns-2 Inv-loop μ-loop
 returns-2 c =
     let kind = c .before .before .before .before .before .before .before .before .before .before .before .before .before .before .before in
     let loop = kind .before .before .before .before in
     let s = loop .before .before .before .before .before .before in
-    scanning-visit-refused _ _ _ _ _ _ _ _ _ (loop .loop .inv .scanning) (s .pre .1 .0) (kind .before .before .before .loop-test .taken) _ _ _ (fields-read kind) (read-as kind) _
+    scanning-visit-refused _ _ _ _ _ _ _ _ _ (loop .loop .inv .scanning) (s .pre .1 .0) (kind .before .before .before .loop-test .taken) _ _ _
+    (fields-read kind) (read-as kind) _
     (visited-as (c .before .before .before .before .before .before .before .before .before) _ (c .before .n2 .given .1))
 
 enum-known-o : tie.Need-enum-known-o Inv-loop μ-loop
@@ -149,7 +191,11 @@ counted-requires : tie.Need-counted-requires Inv-loop μ-loop
 counted-requires c κs = search needs
 
 loop-less : tie.Need-loop-less Inv-loop μ-loop
-loop-less c = omega (arith, fields-read (c .before .before .before .before .before .before .before .before .before .before .before .before .before .before .before .before) .inside)
+loop-less c = omega (
+  arith,
+  fields-read (c .before .before .before .before .before .before .before .before .before .before .before .before .before .before
+      .before .before) .inside,
+)
 
 loop-again : tie.Need-loop-again Inv-loop μ-loop
 loop-again c =
@@ -160,7 +206,8 @@ loop-again c =
     let inv = loop .loop .inv in
     record {
       scanning =
-          scanning-read _ _ _ _ _ _ _ _ _ (inv .scanning) (s .pre .1 .0) (kind .before .before .before .loop-test .taken) _ _ _ (fields-read kind) (read-as kind) _
+          scanning-read _ _ _ _ _ _ _ _ _ (inv .scanning) (s .pre .1 .0) (kind .before .before .before .loop-test .taken) _ _ _ (fields-read kind)
+          (read-as kind) _
           (visited-as visit _ (c .before .before .o .given .1)) _ (c .counted .ensures (now (s .args .image)));
       kept = kept-more _ _ _ _ _ _ _ _ _ _ (inv .kept) _ _ _ _ _ (inv .scanning .before) (kept-as visit _ (c .before .before .o .given .1));
       addressesSame = omega (arith, visit .visit-message .kept .1 .1 .1 .0, inv .addressesSame);

@@ -67,7 +67,8 @@ returns-2 c =
     record {
       walked = read-as _ _ _ _ _ _ _ _ (s .pre .lent) _ _ _ (messages .messages .kept .1 .0) (g .1) end known;
       bodies = c .kind-of .ensures .bodies;
-      counting = counting-then (s .args .reading) _ _ _ _ _ _ (objectOf (s .args .at) (g .0)) end known (rw (c .before .before .before .gathering .given .1) at (messages .messages .ensures .1));
+      counting = counting-then (s .args .reading) _ _ _ _ _ _ (objectOf (s .args .at) (g .0)) end known
+          (rw (c .before .before .before .gathering .given .1) at (messages .messages .ensures .1));
     }
 
 pub read-with-spec : {M : Type 1} → statement M

@@ -26,8 +26,11 @@ known-dataset-requires c κs =
     let known = rw (c .before .before .before .before .before .header3 .given .1) at (read .read-with .ensures .walked) in
     let same = read .read-with .kept .1 .0 in
     let counting = rw (c .before .before .before .before .before .header3 .given .1) at (read .read-with .ensures .counting) in
-    let bodies = rw (c .before .before .before .before .before .header3 .given .1) at (read .read-with .ensures .bodies) in
-    ((listed-less (kind-listed _ (s .args .superblock) _ _ _ _ _ _ _ (s .pre .1 .0) (s .args .i) _ _ _ _ _ _ _ _ same known 16 (counting refl)) 1 (omega arith)), (record { spaceInside = bodies .0; typeInside = bodies .1; layoutInside = bodies .2 }, s .pre .1 .1))
+    let bodies = rw (c .before .before .before .before .before .header3 .given .1) at (read .read-with .ensures .bodies) in (
+      (listed-less (kind-listed _ (s .args .superblock) _ _ _ _ _ _ _ (s .pre .1 .0) (s .args .i) _ _ _ _ _ _ _ _ same known 16 (counting refl)) 1
+          (omega arith)),
+      (record { spaceInside = bodies .0; typeInside = bodies .1; layoutInside = bodies .2 }, s .pre .1 .1),
+    )
 
 enum-known-header-4 : tie.Need-enum-known-header-4
 enum-known-header-4 c = search needs
@@ -38,8 +41,14 @@ known-group-requires c κs =
     let s = read .before .before .before .before .before .before .before .before .before .before in
     let known = rw (c .before .before .before .before .before .header4 .given .1) at (read .read-with .ensures .walked) in
     let same = read .read-with .kept .1 .0 in
-    let counting = rw (c .before .before .before .before .before .header4 .given .1) at (read .read-with .ensures .counting) in
-    (s .pre .0, ((listed-less (kind-listed _ (s .args .superblock) _ _ _ _ _ _ _ (s .pre .1 .0) (s .args .i) _ _ _ _ _ _ _ _ same known 16 (counting refl)) 0 (omega arith)), s .pre .1 .1))
+    let counting = rw (c .before .before .before .before .before .header4 .given .1) at (read .read-with .ensures .counting) in (
+      s .pre .0,
+      (
+        (listed-less (kind-listed _ (s .args .superblock) _ _ _ _ _ _ _ (s .pre .1 .0) (s .args .i) _ _ _ _ _ _ _ _ same known 16 (counting refl)) 0
+            (omega arith)),
+        s .pre .1 .1,
+      ),
+    )
 
 same-length : tie.Need-same-length
 same-length c = search needs
@@ -83,7 +92,12 @@ returns-2 c =
     committed-read _ _ _ _ _ _ _ _ _ (s .pre .1 .0) _ _ _ _ _ _ _ _ same known 16 (counting refl)
 
 same-length-9 : tie.Need-same-length-9
-same-length-9 c = omega (arith, c .before .before .before .before .before .before .before .before .known-dataset .kept .1 .0, c .before .before .before .before .before .before .before .before .before .before .before .before .before .before .before .before .before .before .before .before .before .before .before .before .read-with .kept .1 .0)
+same-length-9 c = omega (
+  arith,
+  c .before .before .before .before .before .before .before .before .known-dataset .kept .1 .0,
+  c .before .before .before .before .before .before .before .before .before .before .before .before .before .before .before .before .before .before .before
+      .before .before .before .before .before .read-with .kept .1 .0,
+)
 
 same-length-10 : tie.Need-same-length-10
 same-length-10 c = search needs
@@ -96,11 +110,14 @@ same-length-12 c = search needs
 
 returns-3 : tie.Need-returns-3
 returns-3 c =
-    let read = c .before .before .before .before .before .before .before .before .before .before .before .before .before .before .before .before .before .before .before .before .before .before .before .before in
+    let read = c .before .before .before .before .before .before .before .before .before .before .before .before .before .before .before .before .before
+    .before .before .before .before .before .before .before in
     let s = read .before .before .before .before .before .before .before .before .before .before in
-    let known = rw (c .before .before .before .before .before .before .before .before .before .before .before .before .before .before .header3 .given .1) at (read .read-with .ensures .walked) in
+    let known = rw (c .before .before .before .before .before .before .before .before .before .before .before .before .before .before .header3 .given .1) at
+    (read .read-with .ensures .walked) in
     let same = read .read-with .kept .1 .0 in
-    kind-read _ _ _ _ _ _ _ _ _ (s .pre .1 .0) _ _ _ _ _ _ _ _ _ same known _ _ _ _ _ (c .before .before .before .before .before .before .before .before .known-dataset .ensures)
+    kind-read _ _ _ _ _ _ _ _ _ (s .pre .1 .0) _ _ _ _ _ _ _ _ _ same known _ _ _ _ _
+    (c .before .before .before .before .before .before .before .before .known-dataset .ensures)
 
 same-length-13 : tie.Need-same-length-13
 same-length-13 c = search needs
@@ -116,11 +133,14 @@ same-length-16 c = search needs
 
 returns-4 : tie.Need-returns-4
 returns-4 c =
-    let read = c .before .before .before .before .before .before .before .before .before .before .before .before .before .before .before .before .before .before .before .before .before .before .before .before in
+    let read = c .before .before .before .before .before .before .before .before .before .before .before .before .before .before .before .before .before
+    .before .before .before .before .before .before .before in
     let s = read .before .before .before .before .before .before .before .before .before .before in
-    let known = rw (c .before .before .before .before .before .before .before .before .before .before .before .before .before .before .header4 .given .1) at (read .read-with .ensures .walked) in
+    let known = rw (c .before .before .before .before .before .before .before .before .before .before .before .before .before .before .header4 .given .1) at
+    (read .read-with .ensures .walked) in
     let same = read .read-with .kept .1 .0 in
-    kind-read _ _ _ _ _ _ _ _ _ (s .pre .1 .0) _ _ _ _ _ _ _ _ _ same known _ _ _ _ _ (c .before .before .before .before .before .before .before .before .known-group .ensures)
+    kind-read _ _ _ _ _ _ _ _ _ (s .pre .1 .0) _ _ _ _ _ _ _ _ _ same known _ _ _ _ _
+    (c .before .before .before .before .before .before .before .before .known-group .ensures)
 
 pub read-spec : {M : Type 1} → statement M
 read-spec =

@@ -35,12 +35,15 @@ enum-known-shared c = search needs
 
 read-storage-requires : tie.Need-read-storage-requires
 read-storage-requires c κs =
-    let s = c .before .before .before .before .before .before .before .before .before .before .before .before .before .before .before .before .before .before .before .before .before .before .before in (
+    let s = c .before .before .before .before .before .before .before .before .before .before .before .before .before .before .before .before .before .before
+    .before .before .before .before .before in (
       s .pre .0 .lent,
       record {
         spaceInside = s .pre .1 .spaceInside;
         layoutInside = s .pre .1 .layoutInside;
-        shaped = rw (c .before .before .before .before .before .before .before .before .before .before .before .before .before .before .before .parts .given .1) at (c .before .before .before .before .before .before .before .before .before .before .before .before .before .before .before .before .before .read-parts .ensures .1);
+        shaped = rw (c .before .before .before .before .before .before .before .before .before .before .before .before .before .before .before .parts .given
+            .1) at (c .before .before .before .before .before .before .before .before .before .before .before .before .before .before .before .before .before
+            .read-parts .ensures .1);
       },
     )
 
@@ -66,10 +69,15 @@ same-length-3 c = search needs
 
 returns-2 : tie.Need-returns-2
 returns-2 c =
-    let s = c .before .before .before .before .before .before .before .before .before .before .before .before .before .before .before .before .before .before .before .before .before .before .before in
+    let s = c .before .before .before .before .before .before .before .before .before .before .before .before .before .before .before .before .before .before
+    .before .before .before .before .before in
     let share = c .before .before .before .before .before .before .before .before .before .before in
     rw (c .head-of .ensures)
-    (sharing-refused _ _ _ _ _ _ _ _ _ (s .pre .0) _ _ _ (partsOf (bodyOf (now (s .args .image)) (s .args .space)) (c .before .before .before .before .before .before .before .before .before .before .before .before .before .before .before .parts .given .0 .0)) (rw (c .before .before .before .before .before .before .before .before .before .before .before .before .before .before .before .parts .given .1) at (c .before .before .before .before .before .before .before .before .before .before .before .before .before .before .before .before .before .read-parts .ensures .0)) _ _ _ _
+    (sharing-refused _ _ _ _ _ _ _ _ _ (s .pre .0) _ _ _ (partsOf (bodyOf (now (s .args .image)) (s .args .space))
+    (c .before .before .before .before .before .before .before .before .before .before .before .before .before .before .before .parts .given .0 .0))
+    (rw (c .before .before .before .before .before .before .before .before .before .before .before .before .before .before .before .parts .given .1) at
+    (c .before .before .before .before .before .before .before .before .before .before .before .before .before .before .before .before .before .read-parts
+    .ensures .0)) _ _ _ _
     (rw (c .before .before .n .given .1) at (share .share-type .ensures .walk)))
 
 same-length-4 : tie.Need-same-length-4
@@ -86,10 +94,17 @@ same-length-7 c = search needs
 
 returns-3 : tie.Need-returns-3
 returns-3 c =
-    let s = c .before .before .before .before .before .before .before .before .before .before .before .before .before .before .before .before .before .before .before .before .before .before .before .before .before .before .before .before .before in
+    let s = c .before .before .before .before .before .before .before .before .before .before .before .before .before .before .before .before .before .before
+    .before .before .before .before .before .before .before .before .before .before .before in
     let share = c .before .before .before .before .before .before .before .before .before .before .before .before .before .before .before .before in
-    storage-stopped _ _ _ _ _ _ _ _ _ (s .pre .0) _ _ _ (partsOf (bodyOf (now (s .args .image)) (s .args .space)) (c .before .before .before .before .before .before .before .before .before .before .before .before .before .before .before .before .before .before .before .before .before .parts .given .0 .0)) (rw (c .before .before .before .before .before .before .before .before .before .before .before .before .before .before .before .before .before .before .before .before .before .parts .given .1) at (c .before .before .before .before .before .before .before .before .before .before .before .before .before .before .before .before .before .before .before .before .before .before .before .read-parts .ensures .0)) _ _ _ _
-    (rw (c .before .before .before .before .before .before .before .before .shared .given .1) at (share .share-type .ensures .walk)) _ _ (rw (c .before .x2 .given .1) at (c .before .before .before .before .before .read-storage .ensures .0))
+    storage-stopped _ _ _ _ _ _ _ _ _ (s .pre .0) _ _ _ (partsOf (bodyOf (now (s .args .image)) (s .args .space))
+    (c .before .before .before .before .before .before .before .before .before .before .before .before .before .before .before .before .before .before
+    .before .before .before .parts .given .0 .0)) (rw (c .before .before .before .before .before .before .before .before .before .before .before .before
+    .before .before .before .before .before .before .before .before .before .parts .given .1) at
+    (c .before .before .before .before .before .before .before .before .before .before .before .before .before .before .before .before .before .before
+    .before .before .before .before .before .read-parts .ensures .0)) _ _ _ _
+    (rw (c .before .before .before .before .before .before .before .before .shared .given .1) at (share .share-type .ensures .walk)) _ _
+    (rw (c .before .x2 .given .1) at (c .before .before .before .before .before .read-storage .ensures .0))
 
 same-length-8 : tie.Need-same-length-8
 same-length-8 c = search needs
@@ -105,11 +120,19 @@ same-length-11 c = search needs
 
 returns-4 : tie.Need-returns-4
 returns-4 c =
-    let s = c .before .before .before .before .before .before .before .before .before .before .before .before .before .before .before .before .before .before .before .before .before .before .before .before .before .before .before .before .before in
+    let s = c .before .before .before .before .before .before .before .before .before .before .before .before .before .before .before .before .before .before
+    .before .before .before .before .before .before .before .before .before .before .before in
     let share = c .before .before .before .before .before .before .before .before .before .before .before .before .before .before .before .before in
-    storage-read _ _ _ _ _ _ _ _ _ (s .pre .0) _ _ _ (partsOf (bodyOf (now (s .args .image)) (s .args .space)) (c .before .before .before .before .before .before .before .before .before .before .before .before .before .before .before .before .before .before .before .before .before .parts .given .0 .0)) (rw (c .before .before .before .before .before .before .before .before .before .before .before .before .before .before .before .before .before .before .before .before .before .parts .given .1) at (c .before .before .before .before .before .before .before .before .before .before .before .before .before .before .before .before .before .before .before .before .before .before .before .read-parts .ensures .0)) _ _ _ _
-    (rw (c .before .before .before .before .before .before .before .before .shared .given .1) at (share .share-type .ensures .walk)) _ _ _ (c .before .before .before .before .before .read-storage .kept .1 .1 .0)
-    (rw (c .before .n2 .given .1) at (c .before .before .before .before .before .read-storage .ensures .0)) (rw (c .before .before .before .before .before .before .before .before .shared .given .1) at (share .share-type .ensures .kept))
+    storage-read _ _ _ _ _ _ _ _ _ (s .pre .0) _ _ _ (partsOf (bodyOf (now (s .args .image)) (s .args .space))
+    (c .before .before .before .before .before .before .before .before .before .before .before .before .before .before .before .before .before .before
+    .before .before .before .parts .given .0 .0)) (rw (c .before .before .before .before .before .before .before .before .before .before .before .before
+    .before .before .before .before .before .before .before .before .before .parts .given .1) at
+    (c .before .before .before .before .before .before .before .before .before .before .before .before .before .before .before .before .before .before
+    .before .before .before .before .before .read-parts .ensures .0)) _ _ _ _
+    (rw (c .before .before .before .before .before .before .before .before .shared .given .1) at (share .share-type .ensures .walk)) _ _ _
+    (c .before .before .before .before .before .read-storage .kept .1 .1 .0)
+    (rw (c .before .n2 .given .1) at (c .before .before .before .before .before .read-storage .ensures .0))
+    (rw (c .before .before .before .before .before .before .before .before .shared .given .1) at (share .share-type .ensures .kept))
 
 pub read-dataset-spec : {M : Type 1} → statement M
 read-dataset-spec =
