@@ -1,5 +1,6 @@
 // The attribute message, versions 1 to 3, as far as the audit reads it: whether its datatype is shared, and from where.
 use datatype::shared_read;
+use format::answers;
 use walk::numbers::u16_at;
 use walk::numbers::u64_at;
 ghost use mathlib.Core.Bool.{not, _&&_, _||_};
@@ -65,10 +66,10 @@ fn read_shared_part(part: &[u8]) -> AttributeRead
     ensures { λ r. ⌜ attributeResult r ≡ readSharedPart (now (part .entry)) ⌝ }
 {
     if part.len() < 10 {
-        return AttributeRead::Refused(10);
+        return AttributeRead::Refused(answers::HEADER_UNSOUND);
     }
     if !shared_read(part) {
-        return AttributeRead::Refused(3);
+        return AttributeRead::Refused(answers::NOT_READ);
     }
     AttributeRead::Shares(u64_at(part, 2))
 }
@@ -78,23 +79,23 @@ pub fn read(body: &[u8]) -> AttributeRead
     ensures { λ r. ⌜ attributeResult r ≡ readAttribute (now (body .entry)) ⌝ }
 {
     if body.len() < 8 {
-        return AttributeRead::Refused(10);
+        return AttributeRead::Refused(answers::HEADER_UNSOUND);
     }
     let version = body[0];
     if version < 1 {
-        return AttributeRead::Refused(3);
+        return AttributeRead::Refused(answers::NOT_READ);
     }
     if 3 < version {
-        return AttributeRead::Refused(3);
+        return AttributeRead::Refused(answers::NOT_READ);
     }
     let flags = body[1];
     if !flags_read(version, flags) {
-        return AttributeRead::Refused(3);
+        return AttributeRead::Refused(answers::NOT_READ);
     }
     let start = name_start(version) + taken_at(body, version, 2);
     let end = start + taken_at(body, version, 4) + taken_at(body, version, 6);
     if body.len() < end {
-        return AttributeRead::Refused(10);
+        return AttributeRead::Refused(answers::HEADER_UNSOUND);
     }
     if !shares_type(version, flags) {
         return AttributeRead::Own;

@@ -35,9 +35,14 @@ run-not-opened : (im : List ℕ) (lent n : ℕ) → notOpened n ≡ openImage im
 unfolding auditRun
 run-not-opened im lent n e = rw (← e)
 
-run-opened : (im : List ℕ) (lent : ℕ) (s : definitions.Superblock) → opened s ≡ openImage im → auditRun im lent ≡ run im (s .endOfFile) (roomOf lent) (auditWalk s) []
+run-opened : (im : List ℕ) (lent : ℕ) (s : definitions.Superblock) → opened s ≡ openImage im →
+    auditRun im lent ≡ run im (s .endOfFile) (roomOf lent) (auditWalk s) []
 unfolding auditRun
 run-opened im lent s e = rw (← e)
+
+-- of no object there is nothing to read
+none-readable : (im addresses : List ℕ) → Readable im addresses 0
+none-readable im addresses = record { listed = omega arith; inside = λ k h. absurd (omega arith) }
 
 -- a refusal
 module _ (im : List ℕ) (lent : ℕ) (ws addresses stored counts : List ℕ) (zeros : ws ≡ replicate lent 0) where
@@ -46,6 +51,7 @@ module _ (im : List ℕ) (lent : ℕ) (ws addresses stored counts : List ℕ) (z
   refused-is r bs e = record {
     reply = rw (e, zeros);
     fits = omega arith;
+    readable = none-readable im addresses;
     addressesRest = λ h. absurd (omega arith);
     storedRest = λ h. absurd (omega arith);
     countsRest = λ h. absurd (omega arith);
@@ -56,8 +62,9 @@ module _ (im : List ℕ) (lent : ℕ) (ws addresses stored counts : List ℕ) (z
   not-opened-is n e = refused-is (fault n 0) [] (run-not-opened im lent n e)
 
 -- the walk was refused
-pub stopped-is : (im ws : List ℕ) (s : Superblock) (x : Refusal) (ws₁ addresses₁ counts₁ ws₂ addresses stored counts : List ℕ) → opened (superblockOf s) ≡ openImage im →
-    ImageWalked im ws s ws₁ addresses₁ counts₁ (Stopped x) → ws₂ ≡ replicate (length ws) 0 → AuditedIs im (length ws) ws₂ addresses stored counts (refusedWith x)
+pub stopped-is : (im ws : List ℕ) (s : Superblock) (x : Refusal) (ws₁ addresses₁ counts₁ ws₂ addresses stored counts : List ℕ) →
+    opened (superblockOf s) ≡ openImage im → ImageWalked im ws s ws₁ addresses₁ counts₁ (Stopped x) → ws₂ ≡ replicate (length ws) 0 →
+    AuditedIs im (length ws) ws₂ addresses stored counts (refusedWith x)
 stopped-is im ws s x ws₁ addresses₁ counts₁ ws₂ addresses stored counts e w zeros =
     let o = walked-refused ws ws₁ x _ (w .walked) in
     refused-is im (length ws) ws₂ addresses stored counts zeros x (o .0) (run-opened im (length ws) (superblockOf s) e ∙ o .1)
@@ -75,7 +82,8 @@ getD-zeros (suc n) zero = refl
 getD-zeros (suc n) (suc k) = getD-zeros n k
 
 -- the walk is done
-module _ (im ws : List ℕ) (s : Superblock) (count objects : ℕ) (ws₁ addresses counts : List ℕ) (same : length ws₁ ≡ length ws) (w : ImageWalked im ws s ws₁ addresses counts (Done count objects)) where
+module _ (im ws : List ℕ) (s : Superblock) (count objects : ℕ) (ws₁ addresses counts : List ℕ) (same : length ws₁ ≡ length ws)
+    (w : ImageWalked im ws s ws₁ addresses counts (Done count objects)) where
   abbrev os : List Linked
   os = linkedOf objects addresses counts
 
@@ -101,14 +109,17 @@ module _ (im ws : List ℕ) (s : Superblock) (count objects : ℕ) (ws₁ addres
   list-is : take (count + count) ws₁ ++ replicate (length ws₁ - (count + count)) 0 ≡ blockList (length ws) (blocksOf count ws₁)
   list-is = rw (list-cleared count ws₁ count-fits, same)
 
-  pub done-is : opened (superblockOf s) ≡ openImage im → (stored₀ stored : List ℕ) → stored₀ ≡ replicate objectsMost 0 → StoredRead im addresses objects stored₀ stored → (ws₂ : List ℕ) →
-      ws₂ ≡ take (count + count) ws₁ ++ replicate (length ws₁ - (count + count)) 0 → AuditedIs im (length ws) ws₂ addresses stored counts (record { number = 0; «block_count» = count; objects = objects })
+  pub done-is : opened (superblockOf s) ≡ openImage im → Bounded im s → (stored₀ stored : List ℕ) → stored₀ ≡ replicate objectsMost 0 →
+      StoredRead im addresses objects stored₀ stored → (ws₂ : List ℕ) →
+      ws₂ ≡ take (count + count) ws₁ ++ replicate (length ws₁ - (count + count)) 0 →
+      AuditedIs im (length ws) ws₂ addresses stored counts (record { number = 0; «block_count» = count; objects = objects })
   unfolding audit
-  done-is e stored₀ stored z r ws₂ l =
+  done-is e b stored₀ stored z r ws₂ l =
       let o = run-opened im (length ws) (superblockOf s) e ∙ ran in
       record {
         reply = rw (o, length-blocksOf, counted-law im objects addresses stored counts (r .read), l, list-is);
         fits = w .ready .table .fits;
+        readable = readable b;
         addressesRest = λ h k m. w .ready .table .addressesZero k m;
         storedRest = λ h k m. r .rest k m ∙ rw z (getD-zeros objectsMost k);
         countsRest = λ h k m. w .ready .table .countsZero k m;
@@ -131,10 +142,20 @@ module _ (im : List ℕ) (lent : ℕ) (ws addresses stored counts : List ℕ) (r
       record {
         reply = rw (empty-law l e) (rw z at p);
         fits = omega (arith, e .none);
+        readable = rw (e .none) (none-readable im (l .addresses));
         addressesRest = λ k m. rw (e .addressesZero) (getD-zeros objectsMost k);
         storedRest = λ k m. rw (e .storedZero) (getD-zeros objectsMost k);
         countsRest = λ k m. rw (e .countsZero) (getD-zeros objectsMost k);
       }
 
-  pub full-reply : 0 < r .objects → AuditIs im lent ws (record { number = r .number; «block_count» = r .«block_count»; ledger = record { objects = r .objects; addresses = addresses; stored = stored; «true_counts» = counts } })
-  full-reply z = record { reply = h .reply; fits = h .fits; addressesRest = h .addressesRest z; storedRest = h .storedRest z; countsRest = h .countsRest z }
+  pub full-reply : 0 < r .objects →
+      let l : Ledger = record { objects = r .objects; addresses = addresses; stored = stored; «true_counts» = counts } in
+      AuditIs im lent ws (record { number = r .number; «block_count» = r .«block_count»; ledger = l })
+  full-reply z = record {
+    reply = h .reply;
+    fits = h .fits;
+    readable = h .readable;
+    addressesRest = h .addressesRest z;
+    storedRest = h .storedRest z;
+    countsRest = h .countsRest z;
+  }

@@ -17,8 +17,7 @@ use Rattle.ledger.specs.Table.{linkedOf}
 use Rattle.group.specs.Group.{Ready}
 use Rattle.object.specs.declared.object.ObjectRead.{ObjectRead}
 use Rattle.object.specs.declared.object.ObjectRead.the-variants.{Done, Stopped}
-use Rattle.ledger.specs.Report.{countedPlaces, countedOf}
-use Rattle.ledger.specs.declared.report.Ledger.{Ledger}
+use Rattle.ledger.specs.Report.{countedPlaces, countedOf, Readable}
 use Rattle.audit.specs.declared.Audited.{Audited}
 use Rattle.audit.specs.declared.Reply.{Reply}
 
@@ -60,18 +59,21 @@ replyOf ws addresses stored counts r = record {
   list = ws;
 }
 
--- The reply is the definition's, and its objects have places. Where there are objects, all other places are zeros; no reply shows what a refusal leaves there.
+-- The reply is the definition's, its objects have places, and the count of each lies inside the image. Where there are objects, all other
+-- places are zeros; no reply shows what a refusal leaves there.
 pub record AuditedIs (im : List ℕ) (lent : ℕ) (ws addresses stored counts : List ℕ) (r : Audited) : Type 0 where
   pub reply : replyOf ws addresses stored counts r ≡ audit im lent
   pub fits : r .objects ≤ objectsMost
+  pub readable : Readable im addresses (r .objects)
   pub addressesRest : 0 < r .objects → ZerosFrom (r .objects) addresses
   pub storedRest : 0 < r .objects → ZerosFrom (r .objects) stored
   pub countsRest : 0 < r .objects → ZerosFrom (r .objects) counts
 
--- the reply is the definition's, its objects have places, and all other places are zeros
+-- the reply is the definition's, its objects have places, the count of each lies inside the image, and all other places are zeros
 pub record AuditIs (im : List ℕ) (lent : ℕ) (ws : List ℕ) (r : Reply) : Type 0 where
   pub reply : _≡_ {A = AuditReply} (record { number = r .number; blockCount = r .«block_count»; objects = countedOf (r .ledger); list = ws }) (audit im lent)
   pub fits : r .ledger .objects ≤ objectsMost
+  pub readable : Readable im (r .ledger .addresses) (r .ledger .objects)
   pub addressesRest : ZerosFrom (r .ledger .objects) (r .ledger .addresses)
   pub storedRest : ZerosFrom (r .ledger .objects) (r .ledger .stored)
   pub countsRest : ZerosFrom (r .ledger .objects) (r .ledger .«true_counts»)

@@ -1,6 +1,7 @@
 // The link audit: counts the hard links and sharings that reach each object of a file.
 use format::OBJECTS_MOST;
 use format::Refusal;
+use format::answers;
 use format::number_of;
 use ledger::report;
 use ledger::report::Ledger;
@@ -47,7 +48,8 @@ fn walk_image(
 ) -> ObjectRead
     requires { ⌜ Bounded (now image) superblock ⌝ }
     requires { ⌜ Table (now addresses) (now «true_counts») 0 ⌝ }
-    ensures { λ r. ⌜ ImageWalked (now (image .entry)) (now (list .entry)) superblock (now (list .exit)) (now (addresses .exit)) (now («true_counts» .exit)) r ⌝ }
+    ensures { λ r.
+        ⌜ ImageWalked (now (image .entry)) (now (list .entry)) superblock (now (list .exit)) (now (addresses .exit)) (now («true_counts» .exit)) r ⌝ }
 {
     let room = blocks::room(list.len());
     match superblock::enter_superblock(superblock, list, room) {
@@ -80,7 +82,9 @@ pub fn audit_into(
     true_counts: &mut [u32],
 ) -> Audited
     requires { ⌜ Lists (now addresses) (now stored) (now «true_counts») ⌝ }
-    ensures { λ r. ⌜ AuditedIs (now (image .entry)) (length (now (list .entry))) (now (list .exit)) (now (addresses .exit)) (now (stored .exit)) (now («true_counts» .exit)) r ⌝ }
+    ensures { λ r.
+        ⌜ AuditedIs (now (image .entry)) (length (now (list .entry))) (now (list .exit)) (now (addresses .exit)) (now (stored .exit))
+        (now («true_counts» .exit)) r ⌝ }
 {
     match superblock::open(image) {
         Opening::NotOpened(x) => refused(list, Refusal::Fault(x, 0)),
@@ -90,7 +94,7 @@ pub fn audit_into(
                 report::read_stored(image, addresses, stored, objects);
                 blocks::clear_from(list, count + count);
                 Audited {
-                    number: 0,
+                    number: answers::DONE,
                     block_count: count,
                     objects,
                 }

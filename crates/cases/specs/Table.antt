@@ -170,7 +170,7 @@ table =
     })) ∷
     -- Names "b", "a" in that order: 8.
     (audited (audit (fileH nameB nameA 2) 16) is auditRefused 8 16) ∷
-    -- true count is now hard links plus such sharings; an attribute's [address is discovered] with its header's messages (C: "t" has one name and two
+    -- "true count is now hard links plus such sharings"; an attribute's address is discovered "with its header's messages" (C: "t" has one name and two
     -- sharings, and is the second object, before "d")
     (audited (audit sharingC 16) is auditDone 8 (counted 96 1 1 ∷ counted 1256 1 3 ∷ counted 1168 1 1 ∷ []) blocksC) ∷
     -- gives the log 1260, 4294967299 (room for one entry, a write limit of 1)

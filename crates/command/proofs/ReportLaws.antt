@@ -14,15 +14,16 @@ use Rattle.ledger.specs.Report.{countedOf}
 use Rattle.audit.specs.Audit.{AuditIs}
 use Rattle.audit.specs.declared.Reply.{Reply}
 use Rattle.walk.proofs.Overwrite.{length-overwrite, part-overwrite}
-use Rattle.command.specs.Text.{firstLine, outputMost, Printed}
-use Rattle.command.proofs.OverwriteLaws.{overwrite-behind}
-use Rattle.command.proofs.LineLaws.{length-places, length-lines, lines-written}
+use Rattle.output.specs.Text.{firstLine, outputMost, Printed}
+use Rattle.output.proofs.OverwriteLaws.{overwrite-behind}
+use Rattle.output.proofs.LineLaws.{length-places, length-lines, lines-written}
 
 command-long : (input : List ℕ) → inputMost < length input → command input ≡ lines 1 []
 unfolding command
 command-long input h = rw (lt-leb (length input) inputMost h)
 
-command-short : (input : List ℕ) → length input ≤ inputMost → command input ≡ lines (audit input (2 * blocksMost) .number) (audit input (2 * blocksMost) .objects)
+command-short : (input : List ℕ) → length input ≤ inputMost →
+    command input ≡ lines (audit input (2 * blocksMost) .number) (audit input (2 * blocksMost) .objects)
 unfolding command
 command-short input h = rw (le-leb (length input) inputMost h)
 
@@ -32,7 +33,12 @@ printed : (input b : List ℕ) (n : ℕ) (os : List Counted) → command input �
 printed input b n os e h =
     let l = length-lines n os in
     rw (lines-written, ← l)
-    (record { within = rw length-overwrite (omega arith); text = part-overwrite b 0 (lines n os) (omega arith) ∙ sym e; rest = overwrite-behind b (lines n os) (omega arith) })
+    (record {
+      within = rw length-overwrite (omega arith);
+      text = part-overwrite b 0 (lines n os) (omega arith) ∙ sym e;
+      rest = overwrite-behind b (lines n os)
+          (omega arith);
+    })
 
 pub printed-long : (input b : List ℕ) → inputMost < length input → outputMost ≤ length b → Printed input b (overwrite b 0 (firstLine 1 0)) 17
 unfolding outputMost objectLines overwrite
@@ -43,7 +49,8 @@ module _ (input ws : List ℕ) (lent : ℕ) (r : Reply) (a : AuditIs input lent 
   places = let l = r .ledger in length-places (l .objects) (l .addresses) (l .stored) (l .«true_counts»)
 
   pub printed-audit : (b : List ℕ) → lent ≡ 2 * blocksMost → length input ≤ inputMost → outputMost ≤ length b →
-      Printed input b (overwrite (overwrite b 0 (firstLine (r .number) (r .ledger .objects))) 17 (objectLines (countedOf (r .ledger)))) (17 + 33 * r .ledger .objects)
+      Printed input b (overwrite (overwrite b 0 (firstLine (r .number) (r .ledger .objects))) 17 (objectLines (countedOf (r .ledger))))
+      (17 + 33 * r .ledger .objects)
   unfolding outputMost
   printed-audit b e h m =
       let is : lines (r .number) (countedOf (r .ledger)) ≡ lines (audit input lent .number) (audit input lent .objects) =

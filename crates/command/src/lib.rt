@@ -1,10 +1,10 @@
 // The audit command: what it prints for an input, and the reading and writing around that.
-mod input;
-pub mod text;
-
-ghost use Prim.Native.Nat.{_≤_};
+use format::answers;
+ghost use Prim.Native.Nat.{_≤_, _<_};
 ghost use lib.ListN.{length};
-ghost use Rattle.command.specs.Text.{outputMost, Printed};
+ghost use Rattle.format.specs.Limits.{inputMost};
+ghost use Rattle.output.specs.Text.{outputMost, Printed};
+ghost use Rattle.command.specs.Response.{Responds, TextWithin};
 use format::BLOCKS_MOST;
 use format::INPUT_MOST;
 use format::OBJECTS_MOST;
@@ -12,8 +12,8 @@ use input::Input;
 use libc::STDERR_FILENO;
 use libc::STDIN_FILENO;
 use libc::STDOUT_FILENO;
-use text::FIRST_LINE;
-use text::OBJECT_LINE;
+use output::FIRST_LINE;
+use output::OBJECT_LINE;
 
 // The first line, and one for each of the most objects.
 pub const OUTPUT_MOST: usize = FIRST_LINE + OBJECT_LINE * OBJECTS_MOST;
@@ -30,31 +30,46 @@ pub fn report(input: &[u8], out: &mut [u8]) -> usize
 {
     let limits = format::the_limits();
     if limits.input_most < input.len() {
-        text::put_first(out, 1, 0);
+        output::put_first(out, answers::LENGTH_OUT_OF_RANGE, 0);
         return FIRST_LINE;
     }
     let mut list = [0u64; LIST_WORDS];
     let reply = audit::audit(input, &mut list);
     let ledger = reply.ledger;
-    text::put_first(out, reply.number, ledger.objects);
-    text::put_objects(out, FIRST_LINE, ledger)
+    output::put_first(out, reply.number, ledger.objects);
+    output::put_objects(out, FIRST_LINE, ledger)
 }
 
-// Answers on standard output.
-fn answer(input: &[u8]) {
-    let mut out = [0u8; OUTPUT_MOST];
-    let n = report(input, &mut out);
-    if !io::write_all(STDOUT_FILENO, &out[..n]) {
-        os::fail(b"standard output");
+// How many bytes are printed, or that the input couldn't be read.
+pub enum Response {
+    Text(usize),
+    Failed,
+}
+
+// Reads the input to its end, and writes what is printed for it.
+pub fn respond(fd: i32, buffer: &mut [u8], out: &mut [u8]) -> Response
+    requires { ⌜ inputMost < length (now buffer) ⌝ }
+    requires { ⌜ outputMost ≤ length (now out) ⌝ }
+    ensures { λ r. ⌜ Responds (now (buffer .entry)) (now (buffer .exit)) (now (out .entry)) (now (out .exit)) r ⌝ }
+    ensures { λ r. ⌜ TextWithin (length (now (out .exit))) r ⌝ }
+{
+    match input::read_to_end(fd, buffer) {
+        Input::Failed => Response::Failed,
+        Input::Read { length, last: _ } => Response::Text(report(&buffer[..length], out)),
     }
 }
 
-// Reads the input to its end, and answers. An input that can't be read is named on standard error.
+// Answers on standard output. An input that can't be read is named on standard error.
 fn run(fd: i32, name: &[u8]) {
     let mut buffer = [0u8; BUFFER];
-    match input::read_input(fd, &mut buffer) {
-        Input::Read(n) => answer(&buffer[..n]),
-        Input::Failed => os::fail(name),
+    let mut out = [0u8; OUTPUT_MOST];
+    match respond(fd, &mut buffer, &mut out) {
+        Response::Failed => os::fail(name),
+        Response::Text(n) => {
+            if !io::write_all(STDOUT_FILENO, &out[..n]) {
+                os::fail(b"standard output");
+            }
+        }
     }
 }
 

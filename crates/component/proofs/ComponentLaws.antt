@@ -38,7 +38,8 @@ use Rattle.component.specs.declared.Target.the-variants.{Object, Symboli
 
 -- the code's visit is done, and with it the lookup's own walk of the group; the ledger stays as it was
 lookup-done : (ws ws′ addresses counts : List ℕ) (os : List Linked) (s : State) (o : Outcome lookup.Link) (o′ : Outcome Both) →
-    Ran true (λ x b. (last : List ℕ) × (b ≡ record { ledger = os; link = x })) o o′ → Walked ws ws′ (groupEnd addresses counts (steps.the-variants.Done s)) o′ →
+    Ran true (λ x b. (last : List ℕ) × (b ≡ record { ledger = os; link = x })) o o′ →
+    Walked ws ws′ (groupEnd addresses counts (steps.the-variants.Done s)) o′ →
     (bs : List Block) × (o ≡ done (linkOf (s .link)) bs) × (linkedOf (s .objects) addresses counts ≡ os)
 unfolding Ran
 lookup-done ws ws′ addresses counts os s (done x bs) o′ n w =
@@ -52,7 +53,8 @@ lookup-done ws ws′ addresses counts os s (refused m bs) o′ n w =
     absurd (omega arith)
 
 lookup-refused : (ws ws′ addresses counts : List ℕ) (os : List Linked) (r : Refusal) (o : Outcome lookup.Link) (o′ : Outcome Both) →
-    Ran true (λ x b. (last : List ℕ) × (b ≡ record { ledger = os; link = x })) o o′ → Walked ws ws′ (groupEnd addresses counts (steps.the-variants.Stopped r)) o′ →
+    Ran true (λ x b. (last : List ℕ) × (b ≡ record { ledger = os; link = x })) o o′ →
+    Walked ws ws′ (groupEnd addresses counts (steps.the-variants.Stopped r)) o′ →
     (bs : List Block) × (o ≡ refused r bs)
 unfolding Ran
 lookup-refused ws ws′ addresses counts os r (done x bs) o′ n w =
@@ -83,38 +85,50 @@ module _ (im name ws addresses counts : List ℕ) (s : Superblock) (room tree he
   abbrev w : Walk lookup.Link
   w = groupWalk (s .«leaf_k») (s .«internal_k») tree heap (compareName name) lookup.absent
 
-  abbrev part : Ran true (λ x b. (last : List ℕ) × (b ≡ record { ledger = linkedOf 0 addresses counts; link = x })) (run im eof room w (blocksOf count ws)) (run im eof room (groupWalk (s .«leaf_k») (s .«internal_k») tree heap (visitBoth false name) (bothOf addresses counts 0 Absent)) (blocksOf count ws))
+  abbrev part : Ran true (λ x b. (last : List ℕ) × (b ≡ record { ledger = linkedOf 0 addresses counts; link = x })) (run im eof room w (blocksOf count ws))
+      (run im eof room (groupWalk (s .«leaf_k») (s .«internal_k») tree heap (visitBoth false name) (bothOf addresses counts 0 Absent)) (blocksOf count ws))
   part = lookup-part im eof room (s .«leaf_k») (s .«internal_k») tree heap (blocksOf count ws) name lookup.absent (linkedOf 0 addresses counts)
 
   -- what follows the group's walk
-  bound : {o : Outcome lookup.Link} → run im eof room w (blocksOf count ws) ≡ o → run im eof room (w >>= targetWalk last) (blocksOf count ws) ≡ andThen o (λ l cs. run im eof room (targetWalk last l) cs)
-  bound e = run-bind im eof room w (targetWalk last) (blocksOf count ws) ∙ ap (λ (x : Outcome lookup.Link). andThen x (λ l cs. run im eof room (targetWalk last l) cs)) e
+  bound : {o : Outcome lookup.Link} → run im eof room w (blocksOf count ws) ≡ o →
+      run im eof room (w >>= targetWalk last) (blocksOf count ws) ≡ andThen o (λ l cs. run im eof room (targetWalk last l) cs)
+  bound e =
+      run-bind im eof room w (targetWalk last) (blocksOf count ws) ∙ ap
+      (λ (x : Outcome lookup.Link). andThen x (λ l cs. run im eof room (targetWalk last l) cs)) e
 
   -- the group is not sound
-  pub group-stopped : (x : Refusal) → GroupIs im name ws addresses counts eof room (s .«leaf_k») (s .«internal_k») false tree heap count 0 ws₁ addresses₁ counts₁ (steps.the-variants.Stopped x) →
+  pub group-stopped : (x : Refusal) → GroupIs im name ws addresses counts eof room (s .«leaf_k») (s .«internal_k») false tree heap count 0 ws₁ addresses₁
+      counts₁ (steps.the-variants.Stopped x) →
       FoundIs im name ws s room tree heap count last addresses₁ counts₁ (Stopped x)
   group-stopped x g =
       let o = lookup-refused ws ws₁ addresses₁ counts₁ (linkedOf 0 addresses counts) x _ _ part (g .walked) in
       record { found = (o .0, bound (o .1)); table = tt }
 
   -- it is sound, and its entries say where the name leads
-  pub group-found : (st : State) (r : Target) → GroupIs im name ws addresses counts eof room (s .«leaf_k») (s .«internal_k») false tree heap count 0 ws₁ addresses₁ counts₁ (steps.the-variants.Done st) →
+  pub group-found : (st : State) (r : Target) → GroupIs im name ws addresses counts eof room (s .«leaf_k») (s .«internal_k») false tree heap count 0 ws₁
+      addresses₁ counts₁ (steps.the-variants.Done st) →
       targetOf r ≡ targetWalk last (linkOf (st .link)) → FoundIs im name ws s room tree heap count last addresses₁ counts₁ r
   unfolding linkedOf
   group-found st r g e =
       let o = lookup-done ws ws₁ addresses₁ counts₁ (linkedOf 0 addresses counts) st _ _ part (g .walked) in
       let z : st .objects ≡ 0 = sym (length-linkedOf (st .objects) addresses₁ counts₁) ∙ ap (length {A = Linked}) (o .2) in
-      let q : run im eof room (w >>= targetWalk last) (blocksOf count ws) ≡ run im eof room (targetOf r) (o .0) = bound (o .1) ∙ ap (λ (v : Walk lookup.Target). run im eof room v (o .0)) (sym e) in
+      let q : run im eof room (w >>= targetWalk last) (blocksOf count ws) ≡ run im eof room (targetOf r) (o .0) = bound (o .1) ∙ ap
+      (λ (v : Walk lookup.Target). run im eof room v (o .0)) (sym e) in
       record { found = subst (EndsAs r) (sym q) (ends-as im eof room r (o .0)); table = table-if addresses₁ counts₁ r (rw z at (g .ready .table)) }
 
 module _ (im name ws : List ℕ) (s : Superblock) (room at : ℕ) (last : Bool) (l : Lent ws 0 room) (ws₁ : List ℕ) where
   abbrev whole : Walk lookup.Target
   whole = componentWalk (superblockOf s) name last at
 
-  pub superblock-stopped : (addresses counts : List ℕ) (x : Refusal) → Walked ws ws₁ (stopped x) (run im (s .«end_of_file») room (superblockWalk (superblockOf s)) []) → ComponentIs im name s room at last addresses counts (Stopped x)
+  pub superblock-stopped : (addresses counts : List ℕ) (x : Refusal) →
+      Walked ws ws₁ (stopped x) (run im (s .«end_of_file») room (superblockWalk (superblockOf s)) []) →
+      ComponentIs im name s room at last addresses counts (Stopped x)
   unfolding componentWalk blocksOf
   superblock-stopped addresses counts x h =
-      record { found = walked-refused ws ws₁ x _ (callee-stopped ws₁ (superblockWalk (superblockOf s)) _ (start im (s .«end_of_file») room whole 0 ws l) h); table = tt }
+      record {
+        found = walked-refused ws ws₁ x _ (callee-stopped ws₁ (superblockWalk (superblockOf s)) _ (start im (s .«end_of_file») room whole 0 ws l) h);
+        table = tt;
+      }
 
   module _ (n : ℕ) (same : length ws₁ ≡ length ws) (h : Walked ws ws₁ (ended tt n) (run im (s .«end_of_file») room (superblockWalk (superblockOf s)) [])) where
     pub at-header : Simulation im (s .«end_of_file») room whole 0 ws (headerWalk at >>= λ o. findWalk (superblockOf s) name o >>= targetWalk last) n ws₁
@@ -122,30 +136,38 @@ module _ (im name ws : List ℕ) (s : Superblock) (room at : ℕ) (last : Bool) 
     at-header = callee-done ws₁ (superblockWalk (superblockOf s)) _ (start im (s .«end_of_file») room whole 0 ws l) same h
 
     module _ (ws₂ : List ℕ) where
-      pub header-stopped : (addresses counts : List ℕ) (x : Refusal) → Walked ws₁ ws₂ (stopped x) (run im (s .«end_of_file») room (headerWalk at) (blocksOf n ws₁)) → ComponentIs im name s room at last addresses counts (Stopped x)
+      pub header-stopped : (addresses counts : List ℕ) (x : Refusal) →
+          Walked ws₁ ws₂ (stopped x) (run im (s .«end_of_file») room (headerWalk at) (blocksOf n ws₁)) →
+          ComponentIs im name s room at last addresses counts (Stopped x)
       unfolding blocksOf
       header-stopped addresses counts x k = record { found = walked-refused ws ws₂ x _ (callee-stopped ws₂ (headerWalk at) _ at-header k); table = tt }
 
-      module _ (o : headers.Object) (m : ℕ) (same₂ : length ws₂ ≡ length ws₁) (k : Walked ws₁ ws₂ (ended o m) (run im (s .«end_of_file») room (headerWalk at) (blocksOf n ws₁))) where
+      module _ (o : headers.Object) (m : ℕ) (same₂ : length ws₂ ≡ length ws₁)
+          (k : Walked ws₁ ws₂ (ended o m) (run im (s .«end_of_file») room (headerWalk at) (blocksOf n ws₁))) where
         pub at-kind : Simulation im (s .«end_of_file») room whole 0 ws (findWalk (superblockOf s) name o >>= targetWalk last) m ws₂
         at-kind = callee-done ws₂ (headerWalk at) _ at-header same₂ k
 
         -- it is no group
-        not-a-group : (addresses counts : List ℕ) → findWalk (superblockOf s) name o ≡ refuse (fault 17 0) → ComponentIs im name s room at last addresses counts (Stopped (fault 17 0))
+        not-a-group : (addresses counts : List ℕ) → findWalk (superblockOf s) name o ≡ refuse (fault 17 0) →
+            ComponentIs im name s room at last addresses counts (Stopped (fault 17 0))
         unfolding blocksOf run _>>=_
         not-a-group addresses counts e = record { found = (blocksOf m ws₂, at-kind .sameRun ∙ rw e refl); table = tt }
 
       module _ (m : ℕ) (same₂ : length ws₂ ≡ length ws₁) where
-        pub committed-found : (addresses counts : List ℕ) → Walked ws₁ ws₂ (ended headers.committed m) (run im (s .«end_of_file») room (headerWalk at) (blocksOf n ws₁)) → ComponentIs im name s room at last addresses counts (Stopped (fault 17 0))
+        pub committed-found : (addresses counts : List ℕ) →
+            Walked ws₁ ws₂ (ended headers.committed m) (run im (s .«end_of_file») room (headerWalk at) (blocksOf n ws₁)) →
+            ComponentIs im name s room at last addresses counts (Stopped (fault 17 0))
         unfolding findWalk
         committed-found addresses counts k = not-a-group headers.committed m same₂ k addresses counts refl
 
-        pub dataset-found : (addresses counts : List ℕ) (space type layout : Message) → Walked ws₁ ws₂ (ended (headers.dataset space type layout) m) (run im (s .«end_of_file») room (headerWalk at) (blocksOf n ws₁)) →
+        pub dataset-found : (addresses counts : List ℕ) (space type layout : Message) →
+            Walked ws₁ ws₂ (ended (headers.dataset space type layout) m) (run im (s .«end_of_file») room (headerWalk at) (blocksOf n ws₁)) →
             ComponentIs im name s room at last addresses counts (Stopped (fault 17 0))
         unfolding findWalk
         dataset-found addresses counts space type layout k = not-a-group (headers.dataset space type layout) m same₂ k addresses counts refl
 
-        module _ (tree heap : ℕ) (k : Walked ws₁ ws₂ (ended (headers.group tree heap) m) (run im (s .«end_of_file») room (headerWalk at) (blocksOf n ws₁))) where
+        module _ (tree heap : ℕ)
+            (k : Walked ws₁ ws₂ (ended (headers.group tree heap) m) (run im (s .«end_of_file») room (headerWalk at) (blocksOf n ws₁))) where
           -- the lists for the group, with empty tables
           pub group-ready : (addresses counts : List ℕ) → Table addresses counts 0 → Ready ws₂ addresses counts (s .«end_of_file») room m 0
           unfolding linkedOf linkSum blocksOf
@@ -153,6 +175,10 @@ module _ (im name ws : List ℕ) (s : Superblock) (room at : ℕ) (last : Bool) 
               let a = at-kind (headers.group tree heap) m same₂ k in
               record { lent = a .lent; table = t; apart = grown-apart (a .blocks) tt; inside = grown-inside (a .blocks) tt; links = omega arith }
 
-          pub group-is : (addresses counts : List ℕ) (r : Target) → FoundIs im name ws₂ s room tree heap m last addresses counts r → ComponentIs im name s room at last addresses counts r
+          pub group-is : (addresses counts : List ℕ) (r : Target) → FoundIs im name ws₂ s room tree heap m last addresses counts r →
+              ComponentIs im name s room at last addresses counts r
           unfolding findWalk blocksOf
-          group-is addresses counts r f = record { found = subst (EndsAs r) (sym (at-kind (headers.group tree heap) m same₂ k .sameRun)) (f .found); table = f .table }
+          group-is addresses counts r f = record {
+            found = subst (EndsAs r) (sym (at-kind (headers.group tree heap) m same₂ k .sameRun)) (f .found);
+            table = f .table;
+          }

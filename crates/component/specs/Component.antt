@@ -34,7 +34,8 @@ TableIf addresses counts (Stopped r) = Unit {0}
 
 -- a name was looked up in a group as its walk does
 pub record FoundIs (im name ws : List ℕ) (s : Superblock) (room tree heap count : ℕ) (last : Bool) (addresses′ counts′ : List ℕ) (r : Target) : Type 0 where
-  pub found : EndsAs r (run im (s .«end_of_file») room (groupWalk (s .«leaf_k») (s .«internal_k») tree heap (compareName name) absent >>= targetWalk last) (blocksOf count ws))
+  pub found : EndsAs r (run im (s .«end_of_file») room (groupWalk (s .«leaf_k») (s .«internal_k») tree heap (compareName name) absent >>= targetWalk last)
+      (blocksOf count ws))
   pub table : TableIf addresses′ counts′ r
 
 -- a component was looked up as its walk does

@@ -1,8 +1,9 @@
 // One component of a path, looked up in the object at an address, on a block list of its own.
 use format::NO_PLACE;
 use format::Refusal;
+use format::answers;
 use image::header;
-use image::header::HeaderRead;
+use kind::HeaderRead;
 use superblock::Superblock;
 use symbol::entry::State;
 use symbol::entry::Step;
@@ -24,26 +25,19 @@ pub enum Target {
     Stopped(Refusal),
 }
 
-// The answers of document 01 to a name that leads nowhere.
-const ABSENT: u8 = 15;
-
-const SYMBOLIC_BEFORE_LAST: u8 = 16;
-
-const NOT_A_GROUP: u8 = 17;
-
 // Where the entries of a sound group lead.
 fn target_of(state: State, last: bool) -> Target
     ensures { λ r. ⌜ targetOf r ≡ targetWalk last (linkOf (state .link)) ⌝ }
 {
     let link = state.link;
     match link {
-        Link::Absent => Target::Stopped(Refusal::Fault(ABSENT, NO_PLACE)),
+        Link::Absent => Target::Stopped(Refusal::Fault(answers::NAME_ABSENT, NO_PLACE)),
         Link::Hard(a) => Target::Object(a),
         Link::Soft => {
             if last {
                 return Target::Symbolic;
             }
-            Target::Stopped(Refusal::Fault(SYMBOLIC_BEFORE_LAST, NO_PLACE))
+            Target::Stopped(Refusal::Fault(answers::SYMBOLIC_BEFORE_LAST, NO_PLACE))
         }
     }
 }
@@ -64,22 +58,27 @@ fn find(
 ) -> Target
     requires { ⌜ Opened (now image) superblock room ⌝ }
     requires { ⌜ Ready (now list) (now addresses) (now counts) (superblock .«end_of_file») room count 0 ⌝ }
-    ensures { λ r. ⌜ FoundIs (now (image .entry)) (now (name .entry)) (now (list .entry)) superblock room tree heap count last (now (addresses .exit)) (now (counts .exit)) r ⌝ }
+    ensures { λ r. ⌜ FoundIs (now (image .entry)) (now (name .entry)) (now (list .entry)) superblock room tree heap count last (now (addresses .exit))
+        (now (counts .exit)) r ⌝ }
 {
     let end_of_file = superblock.end_of_file;
     let leaf_k = superblock.leaf_k;
     let internal_k = superblock.internal_k;
+    let auditing = false;
+    let reading = group::group::Reading {
+        end_of_file,
+        room,
+        leaf_k,
+        internal_k,
+        auditing,
+    };
     match group::group::read(
         image,
         name,
         list,
         addresses,
         counts,
-        end_of_file,
-        room,
-        leaf_k,
-        internal_k,
-        false,
+        reading,
         tree,
         heap,
         count,
@@ -113,13 +112,16 @@ pub fn component(
             let end_of_file = superblock.end_of_file;
             match header::read(image, end_of_file, list, n, room, at) {
                 HeaderRead::Stopped(x) => Target::Stopped(x),
-                HeaderRead::Committed(_) => Target::Stopped(Refusal::Fault(NOT_A_GROUP, NO_PLACE)),
+                HeaderRead::Committed(_) => Target::Stopped(Refusal::Fault(
+                    answers::NOT_A_GROUP,
+                    NO_PLACE,
+                )),
                 HeaderRead::Dataset {
                     space: _,
                     datatype: _,
                     layout: _,
                     count: _,
-                } => Target::Stopped(Refusal::Fault(NOT_A_GROUP, NO_PLACE)),
+                } => Target::Stopped(Refusal::Fault(answers::NOT_A_GROUP, NO_PLACE)),
                 HeaderRead::Group { tree, heap, count } => find(
                     image,
                     name,

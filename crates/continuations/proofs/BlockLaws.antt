@@ -59,7 +59,8 @@ module _ (eof room : ℕ) (v : Kind) (a m n : ℕ) (ws ws₁ : List ℕ) (l : Le
 
 module _ (auditing : Bool) (eof : ℕ) (ws : List ℕ) (n : ℕ) (addresses counts marks : List ℕ) (objects : ℕ) where
   -- what is to spare fits 32 bits
-  pub counting-tables : (spare : ℕ) → CountingIf auditing ws addresses counts marks eof n objects spare → TablesIf auditing addresses counts marks objects spare
+  pub counting-tables : (spare : ℕ) → CountingIf auditing ws addresses counts marks eof n objects spare →
+      TablesIf auditing addresses counts marks objects spare
   counting-tables spare h e = record {
     table = h e .table;
     marked = h e .marked;

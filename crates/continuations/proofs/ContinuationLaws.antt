@@ -7,7 +7,7 @@ use native.Mathlib.Omega.{arith}
 use lib.ListN.{length, getD, drop, set, length-drop}
 use lib.Seq.{drop-set-add}
 use Rattle.format.specs.Limits.{blocksMost}
-use Rattle.format.specs.Bytes.{part, littleEndian, u16, u64}
+use Rattle.format.specs.Bytes.{littleEndian, u16, u64}
 use Rattle.format.specs.Blocks.{Block, block}
 use Rattle.format.specs.declared.Refusal.{Refusal}
 use Rattle.format.specs.Result.{Result}
@@ -22,7 +22,7 @@ use Rattle.laws.proofs.Bind.{bind-assoc}
 use Rattle.laws.proofs.Simulation.{Simulation, same-walk, returned, callee-stopped, callee-done}
 use Rattle.tally.specs.Tally.{messageAt, Tallied}
 use Rattle.sharing.specs.Sharing.{foundOf, visitMessage}
-use Rattle.scan.specs.Scan.{Holds, TalliedWith, Continues, NextIs}
+use Rattle.scan.specs.Scan.{Holds, TalliedWith, NextIs}
 use Rattle.continuations.specs.Continuations.{Later, blocksFrom, blockWalk, NewBlock, Waiting, Next, Sought}
 use Rattle.continuations.specs.Counting.{CountingIf}
 use Rattle.tally.specs.declared.Tally.{Tally}
@@ -218,9 +218,6 @@ module _ {S : Type 0} (visit : Message → S → Result S) (im : List ℕ) (eof 
       -- the list may be lent on, with one block more
       pub block-lent : Lent ws₁ m room
       block-lent = behind-block .lent
-
-      pub block-same : length ws₁ ≡ length ws₀
-      block-same = behind-block .sameLength
 
       pub waits : Waiting im ws₁ m (cursor (c .block) (c .at + 8 + u16 im (c .at + 2)) (c .end)) (next .rest ++ ofType 0x0010 new)
       waits =

@@ -4,7 +4,7 @@ use mathlib.Core.List.{List, [], _∷_, _++_}
 use mathlib.Core.Logic.{_⊎_}
 use mathlib.Core.Path.{_≡_}
 use lib.ListN.{length, drop, set}
-use Rattle.format.specs.Bytes.{part, littleEndian, u16}
+use Rattle.format.specs.Bytes.{u16}
 use Rattle.format.specs.Blocks.{Block}
 use Rattle.format.specs.Result.{Result}
 use Rattle.format.specs.Walk.{Walk, enterBlock, continuationBlock, run, _>>=_}
@@ -16,7 +16,6 @@ use Rattle.tally.specs.Tally.{messageAt, Tallied}
 use Rattle.sharing.specs.Sharing.{foundOf, visitMessage}
 use Rattle.scan.specs.Scan.{Holds, TalliedWith}
 use Rattle.continuations.specs.Counting.{CountingIf}
-use Rattle.tally.specs.declared.Tally.{Tally}
 use Rattle.scan.specs.declared.Gathering.{Gathering}
 use Rattle.continuations.specs.declared.Reading.{Reading}
 use Rattle.continuations.specs.declared.Cursor.{Cursor}
@@ -44,10 +43,6 @@ pub record Waiting (im ws : List ℕ) (count : ℕ) (c : Cursor) (waiting : List
 
 abbrev pub Ready : List ℕ → List ℕ → ℕ → Cursor → Type 0
 Ready im ws count c = (waiting : List Message) × Waiting im ws count c waiting
-
--- the tally is one of some messages
-abbrev pub HasTally : List ℕ → Tally → Type 0
-HasTally im t = (sofar : List Message) × Tallied im sofar t
 
 -- the cursor stands at the first of those that wait
 pub record Next (im ws : List ℕ) (count : ℕ) (c : Cursor) (waiting : List Message) : Type 0 where

@@ -6,8 +6,7 @@ use mathlib.Core.Path.{_≡_}
 use lib.ListN.{length}
 use Rattle.format.specs.Limits.{objectsMost, blocksMost}
 use Rattle.walk.specs.Lent.{blocksOf, lengthSum, Lent}
-use Rattle.laws.proofs.Disjoint.{Fresh}
-use Rattle.laws.proofs.Growth.{Inside}
+use Rattle.laws.specs.Blocks.{Fresh, Inside}
 use Rattle.ledger.specs.Links.{linkSum}
 use Rattle.ledger.specs.Table.{linkedOf, Table}
 use Rattle.continuations.specs.declared.Reading.{Reading}

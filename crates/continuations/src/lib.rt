@@ -15,10 +15,10 @@ ghost use lib.ListN.{length};
 ghost use Rattle.format.specs.Limits.{blocksMost};
 ghost use Rattle.format.specs.Message.{Message};
 ghost use Rattle.format.specs.Header.{continuations};
-ghost use Rattle.tally.specs.Tally.{Tallied};
+ghost use Rattle.tally.specs.Tally.{Tallied, HasTally};
 ghost use Rattle.sharing.specs.Sharing.{foundOf, visitMessage};
 ghost use Rattle.continuations.specs.Counting.{Lending};
-ghost use Rattle.continuations.specs.Continuations.{Waiting, Ready, HasTally, Sought, BlockRead, GatheredIs, CountingOn};
+ghost use Rattle.continuations.specs.Continuations.{Waiting, Ready, Sought, BlockRead, GatheredIs, CountingOn};
 
 // What stays the same while a header is read: the file, the room for blocks, and whether what its messages share is
 // discovered.

@@ -3,6 +3,7 @@ use dataspace::DataspaceRead;
 use datatype::Datatype;
 use datatype::DatatypeRead;
 use format::Refusal;
+use format::answers;
 use layout::Layout;
 use layout::LayoutRead;
 use message::Body;
@@ -177,7 +178,10 @@ fn messages(image: &[u8], space: Body, parts: Parts, layout: Body) -> MessagesRe
                 layout: l,
             };
             if !filled(image, space, dataset) {
-                return MessagesRead::Refused(Refusal::Fault(11, head_of(layout)));
+                return MessagesRead::Refused(Refusal::Fault(
+                    answers::DATASET_UNSOUND,
+                    head_of(layout),
+                ));
             }
             MessagesRead::Read(dataset)
         }
@@ -194,7 +198,8 @@ fn enter_data(
     layout: Layout,
 ) -> Entry
     requires { ⌜ Lent (now blocks) count room ⌝ }
-    ensures { λ r. ⌜ ((im : List ℕ) → Walked (now (blocks .entry)) (now (blocks .exit)) (entryEnd r) (run im «end_of_file» room (dataWalk (layoutOf layout)) (blocksOf count (now (blocks .entry))))) ⌝ }
+    ensures { λ r. ⌜ ((im : List ℕ) → Walked (now (blocks .entry)) (now (blocks .exit)) (entryEnd r)
+        (run im «end_of_file» room (dataWalk (layoutOf layout)) (blocksOf count (now (blocks .entry))))) ⌝ }
 {
     match layout {
         Layout::Compact {
@@ -255,7 +260,9 @@ pub fn read(
 ) -> DatasetRead
     requires { ⌜ Lent (now blocks) count room ⌝ }
     requires { ⌜ BodiesInside (now image) space datatype layout ⌝ }
-    ensures { λ r. ⌜ Walked (now (blocks .entry)) (now (blocks .exit)) (datasetEnd (bodyOf (now (image .entry)) space) r) (run (now (image .entry)) «end_of_file» room (datasetWalk (messageOf (now (image .entry)) 0x0001 space) (messageOf (now (image .entry)) 0x0003 datatype) (messageOf (now (image .entry)) 0x0008 layout)) (blocksOf count (now (blocks .entry)))) ⌝ }
+    ensures { λ r. ⌜ Walked (now (blocks .entry)) (now (blocks .exit)) (datasetEnd (bodyOf (now (image .entry)) space) r)
+        (run (now (image .entry)) «end_of_file» room (datasetWalk (messageOf (now (image .entry)) 0x0001 space)
+        (messageOf (now (image .entry)) 0x0003 datatype) (messageOf (now (image .entry)) 0x0008 layout)) (blocksOf count (now (blocks .entry)))) ⌝ }
     ensures { λ r. ⌜ DatasetShaped (bodyOf (now (image .entry)) space) r ⌝ }
 {
     match read_parts(image, space, datatype) {

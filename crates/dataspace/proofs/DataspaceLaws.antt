@@ -120,7 +120,8 @@ pub record Turn (b : List ℕ) (rank i whole sofar stored s : ℕ) : Type 0 wher
   pub above : stored / s < sofar → false ≡ eqb whole stored
 
 -- The product, before the ith size: the whole is what stands so far, times the sizes that are left.
-module _ (b : List ℕ) (rank i : ℕ) (whole sofar stored : ℕ) (z : contains 0 (wordsFrom b 8 rank i) ≡ false) (e : whole ≡ sofar * product (wordsFrom b 8 rank i)) where
+module _ (b : List ℕ) (rank i : ℕ) (whole sofar stored : ℕ) (z : contains 0 (wordsFrom b 8 rank i) ≡ false)
+    (e : whole ≡ sofar * product (wordsFrom b 8 rank i)) where
   pub product-end : rank ≤ i → eqb sofar stored ≡ eqb whole stored
   unfolding product
   product-end h = rw (e, words-end b 8 rank i h, mul-one)

@@ -1,4 +1,5 @@
 // The dataspace message, version 1. A reader sees the body alone.
+use format::answers;
 use walk::numbers::u64_at;
 ghost use mathlib.Core.Path.{_≡_};
 ghost use Prim.Native.Nat.{_+_, _*_, _≤_};
@@ -44,22 +45,22 @@ pub fn read(body: &[u8]) -> DataspaceRead
 {
     let limits = format::the_limits();
     if body.len() < 8 {
-        return DataspaceRead::Refused(11);
+        return DataspaceRead::Refused(answers::DATASET_UNSOUND);
     }
     if body[0] != 1 {
-        return DataspaceRead::Refused(3);
+        return DataspaceRead::Refused(answers::NOT_READ);
     }
     let rank = wide(body[1]);
     if limits.rank_most < rank {
-        return DataspaceRead::Refused(11);
+        return DataspaceRead::Refused(answers::DATASET_UNSOUND);
     }
     let flags = body[2];
     if 1 < flags {
-        return DataspaceRead::Refused(3);
+        return DataspaceRead::Refused(answers::NOT_READ);
     }
     let maxima = 8 + 8 * rank;
     if body.len() < maxima {
-        return DataspaceRead::Refused(11);
+        return DataspaceRead::Refused(answers::DATASET_UNSOUND);
     }
     if flags != 1 {
         return DataspaceRead::Read {
@@ -68,10 +69,10 @@ pub fn read(body: &[u8]) -> DataspaceRead
         };
     }
     if body.len() < maxima + 8 * rank {
-        return DataspaceRead::Refused(11);
+        return DataspaceRead::Refused(answers::DATASET_UNSOUND);
     }
     if !at_most(body, 8, maxima, rank) {
-        return DataspaceRead::Refused(11);
+        return DataspaceRead::Refused(answers::DATASET_UNSOUND);
     }
     DataspaceRead::Read {
         rank: rank,

@@ -52,7 +52,8 @@ both false p q n w = refl
 -- the size was read as s, and t says whether the bits are sound
 module _ (b : List ℕ) {s : ℕ} {t : Bool} (size : Number b 4 4 s) (e : t ≡ (hasBits (classOf b) implies bitsSound b s)) where
   joined : (check (hasBits (classOf b) implies bitsSound b s) 11 >> value (own (classOf b) (versionOf b) (littleEndian (part b 1 3)) s)) ≡ afterExtent b
-  joined = rw (← size .value) (both (hasBits (classOf b)) (leb 1 (u16 b 10)) (leb (u16 b 8 + u16 b 10) (8 * s)) 11 (value (own (classOf b) (versionOf b) (littleEndian (part b 1 3)) s)))
+  joined = rw (← size .value) (both (hasBits (classOf b)) (leb 1 (u16 b 10)) (leb (u16 b 8 + u16 b 10) (8 * s)) 11
+      (value (own (classOf b) (versionOf b) (littleEndian (part b 1 3)) s)))
 
   pub unsound-bits : t ≡ false → answer 11 ≡ afterExtent b
   unsound-bits f = fails 11 _ (sym e ∙ f) ∙ joined

@@ -1,4 +1,5 @@
 // The datatype message, versions 1 to 3, and the shared message that may stand in its place.
+use format::answers;
 use walk::numbers::u16_at;
 use walk::numbers::u32_at;
 use walk::numbers::u64_at;
@@ -105,28 +106,28 @@ pub fn read(body: &[u8]) -> DatatypeRead
     ensures { λ r. ⌜ typeResult r ≡ readDatatype (now (body .entry)) ⌝ }
 {
     if body.len() < 8 {
-        return DatatypeRead::Refused(11);
+        return DatatypeRead::Refused(answers::DATASET_UNSOUND);
     }
     let version = body[0] / 16;
     if version < 1 {
-        return DatatypeRead::Refused(3);
+        return DatatypeRead::Refused(answers::NOT_READ);
     }
     if 3 < version {
-        return DatatypeRead::Refused(3);
+        return DatatypeRead::Refused(answers::NOT_READ);
     }
     let class = body[0] % 16;
     if !class_read(class) {
-        return DatatypeRead::Refused(3);
+        return DatatypeRead::Refused(answers::NOT_READ);
     }
     let size = u32_at(body, 4);
     if size < 1 {
-        return DatatypeRead::Refused(11);
+        return DatatypeRead::Refused(answers::DATASET_UNSOUND);
     }
     if body.len() < needed(class) {
-        return DatatypeRead::Refused(11);
+        return DatatypeRead::Refused(answers::DATASET_UNSOUND);
     }
     if !sound(body, class, size) {
-        return DatatypeRead::Refused(11);
+        return DatatypeRead::Refused(answers::DATASET_UNSOUND);
     }
     let datatype = Datatype::Own {
         class: class,
@@ -156,13 +157,13 @@ pub fn read_shared(body: &[u8]) -> DatatypeRead
     ensures { λ r. ⌜ typeResult r ≡ readShared (now (body .entry)) ⌝ }
 {
     if body.len() < 8 {
-        return DatatypeRead::Refused(11);
+        return DatatypeRead::Refused(answers::DATASET_UNSOUND);
     }
     if !shared_read(body) {
-        return DatatypeRead::Refused(3);
+        return DatatypeRead::Refused(answers::NOT_READ);
     }
     if body.len() < 10 {
-        return DatatypeRead::Refused(11);
+        return DatatypeRead::Refused(answers::DATASET_UNSOUND);
     }
     let datatype = Datatype::Shared(u64_at(body, 2));
     DatatypeRead::Read(datatype)

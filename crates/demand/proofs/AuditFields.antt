@@ -16,7 +16,7 @@ use Rattle.ledger.specs.Links.{addressesOf}
 use Rattle.links.specs.Sound.{Sound}
 use Rattle.links.proofs.AuditSound.{audit-sound}
 use Rattle.links.proofs.LedgerIn.{member-in}
-use Rattle.found.proofs.WholeApart.{Beside}
+use Rattle.found.specs.Beside.{Beside}
 use Rattle.found.proofs.Replayed.{audit-walked}
 use Rattle.found.proofs.LedgerSpared.{behind-superblock}
 use Rattle.found.proofs.OpenedSame.{opened-size}
@@ -33,7 +33,8 @@ place : (os : List Linked) (o : Linked) → List·Memᴰ o os → (k : ℕ) × (
 unfolding addressesOf
 place [] o m = absurd (List·Memᴰ·not-nil m)
 place (p ∷ os) o m =
-    ⊎-elim (λ same. (0, omega arith, ap (λ (x : Linked). x .address) (sym same))) (λ i. let r = place os o i in (suc (r .0), omega (arith, r .1), r .2)) (List·Memᴰ·cases-cons m)
+    ⊎-elim (λ same. (0, omega arith, ap (λ (x : Linked). x .address) (sym same)))
+    (λ i. let r = place os o i in (suc (r .0), omega (arith, r .1), r .2)) (List·Memᴰ·cases-cons m)
 
 same-object : (o q : Linked) → o .address ≡ q .address → o .links ≡ q .links → o ≡ q
 same-object o q a l =
@@ -65,7 +66,8 @@ module _ (im : List ℕ) (lent : ℕ) (s : Superblock) (os : List Linked) (bs : 
       inr (headers-apart im s (roomOf lent) os bs walked (o .address) (q .address) (member-in os o m) (member-in os q n))
 
   -- the object that a correction mends
-  pub mended : (c : Change) → List·Memᴰ c (corrections (countedIn im os)) → (o : Linked) × List·Memᴰ o os × (c ≡ changeOf (countedOf im o)) × (c .old ≡ c .new → ⊥)
+  pub mended : (c : Change) → List·Memᴰ c (corrections (countedIn im os)) →
+      (o : Linked) × List·Memᴰ o os × (c ≡ changeOf (countedOf im o)) × (c .old ≡ c .new → ⊥)
   mended c m =
       let r = correction-from (countedIn im os) c m in
       let q = counted-from im os (r .0) (r .1 .member) in

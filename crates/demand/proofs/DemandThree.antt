@@ -28,7 +28,7 @@ use Rattle.demand.proofs.AuditFields.{audit-fields, audit-small}
 use Rattle.demand.proofs.Differences.{state-only, wrong-known}
 use Rattle.demand.proofs.States.{state-first, state-written}
 use Rattle.demand.proofs.Among.{take-among}
-use Rattle.demand.proofs.UndoStates.{undo-state, undo-full}
+use Rattle.demand.proofs.UndoStates.{undo-reply, undo-state, undo-full}
 use Rattle.demand.proofs.FullMend.{audit-reply, mended-clean}
 use Rattle.demand.proofs.MendDone.{mend-done}
 
@@ -70,6 +70,8 @@ module _ (im : List ℕ) (lent : ℕ) (s : Superblock) (os : List Linked) (bs : 
           fields = rw reply only;
           lookups = λ path words. sym (lookup-spared im lent s os bs p e Headers (wrong-known im os) im′ (only .only) path words);
           descriptions = λ path words. sym (describe-spared im lent s os bs p e Headers (wrong-known im os) im′ (only .only) path words);
+          partly = λ e′ limit l. rw reply (undo-reply im eof cs fields small logLent room im′ st (opened-range im′ s open′) (opened-first im′ s open′) e′
+              limit l);
           back = λ limit l. undo-full im eof cs fields small logLent room im′ st (opened-range im′ s open′) (opened-first im′ s open′) b limit l;
         }
 
@@ -88,11 +90,16 @@ module _ (im : List ℕ) (lent : ℕ) (s : Superblock) (os : List Linked) (bs : 
   full-clean m l =
       let all : take m cs ≡ cs = take-all m cs l in
       let st = state-written im eof cs fields im (state-first im eof cs fields b) cs (λ d i. i) in
-      let same = audit-spared im lent s os bs p e Headers (wrong-known im os) (written im cs) (only (written im cs) st .only) lent in
-      rw all (mended-clean im lent s os bs p e b (sym same))
+      let same = audit-spared im lent s os bs p e Headers (wrong-known im os) (written im cs) (only (written im cs) st .only) in
+      rw all (mended-clean im lent s os bs p e b (λ words. sym (same words)))
 
   done-mended : (n : ℕ) → Demand3 im lent n (mendedBy im logLent (auditEnd im lent (done os bs)) cs (min n (length cs)))
-  done-mended n = record { kept = all-kept (min n (length cs)); clean = λ l. full-clean (min n (length cs)) (omega arith) }
+  done-mended n = record {
+    first = rw (audit-reply im lent os bs e);
+    kept = all-kept (min n (length cs));
+    clean = λ l. full-clean (min n (length cs))
+        (omega arith);
+  }
 
 pub demand-three : (im : List ℕ) (lent logLent n : ℕ) → IsBytes im → mend im lent logLent n .number ≡ 0 → Demand3 im lent n (mend im lent logLent n)
 demand-three im lent logLent n b z =

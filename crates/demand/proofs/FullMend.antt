@@ -12,16 +12,16 @@ use Rattle.format.specs.Blocks.{Block}
 use Rattle.format.specs.Walk.{done}
 use Rattle.format.specs.Superblock.{Superblock, opened, openImage}
 use Rattle.format.specs.Ledger.{Linked}
-use Rattle.format.specs.Audit.{Counted, countedIn, auditRun}
+use Rattle.format.specs.Audit.{countedIn, auditRun}
 use Rattle.format.specs.Log.{Change, putCount, written}
 use Rattle.format.specs.Mend.{corrections}
-use Rattle.format.specs.Answers.{AuditReply, auditEnd, audit}
-use Rattle.found.proofs.WholeApart.{Beside}
+use Rattle.format.specs.Answers.{auditEnd, audit}
+use Rattle.found.specs.Beside.{Beside}
 use Rattle.demand.specs.Bytes.{IsBytes}
 use Rattle.demand.specs.Counts.{Wrong}
-use Rattle.demand.specs.Demand3.{Clean}
+use Rattle.demand.specs.Demand3.{corrected, Clean}
 use Rattle.demand.proofs.Puts.{put-beside, count-read}
-use Rattle.demand.proofs.Corrections.{changeOf, countedOf, correction-of, no-correction, counted-from, counted-member}
+use Rattle.demand.proofs.Corrections.{changeOf, countedOf, correction-of, counted-member}
 use Rattle.demand.proofs.AuditFields.{objects-apart, mended, audit-fields}
 use Rattle.demand.proofs.AuditCounts.{counts-small}
 use Rattle.demand.proofs.States.{state-first}
@@ -31,6 +31,15 @@ use Rattle.demand.proofs.NewHeld.{new-held}
 pub audit-reply : (im : List ℕ) (lent : ℕ) (os : List Linked) (bs : List Block) → auditRun im lent ≡ done os bs → audit im lent ≡ auditEnd im lent (done os bs)
 unfolding audit
 audit-reply im lent os bs e = ap (auditEnd im lent) e
+
+-- objects read from an image that holds the true count of each
+true-stored : (im im′ : List ℕ) (os : List Linked) → ((o : Linked) → List·Memᴰ o os → u32 im′ (o .address + 4) ≡ o .links) →
+    countedIn im′ os ≡ corrected (countedIn im os)
+unfolding countedIn corrected
+true-stored im im′ [] h = refl
+true-stored im im′ (o ∷ os) h =
+    let here = h o (List·Memᴰ·head refl) in
+    rw (here, true-stored im im′ os (λ p i. h p (List·Memᴰ·tail i)))
 
 -- four bytes beside all fields that are written
 written-beside : (im : List ℕ) (a : ℕ) (ds : List Change) → ((d : Change) → List·Memᴰ d ds → Beside a 4 (d .field) 4) → part (written im ds) a 4 ≡ part im a 4
@@ -66,26 +75,15 @@ module _ (im : List ℕ) (lent : ℕ) (s : Superblock) (os : List Linked) (bs : 
           ap littleEndian (written-beside im (o .address + 4) cs (right-beside o m right)) ∙ right
       go false k =
           let f = audit-fields im lent s os bs p e in
-          let w : Wrong (countedIn im os) (countedOf im o) = record { member = counted-member im os o m; differ = eqb-false (u32 im (o .address + 4)) (o .links) k } in
+          let differ = eqb-false (u32 im (o .address + 4)) (o .links) k in
+          let w : Wrong (countedIn im os) (countedOf im o) = record { member = counted-member im os o m; differ = differ } in
           let i = correction-of (countedIn im os) (countedOf im o) w in
           count-read (written im cs) (o .address + 4) (o .links)
-          (new-held im (s .endOfFile) cs f im (state-first im (s .endOfFile) cs f b) cs (λ d j. j) (changeOf (countedOf im o)) i) (counts-small im lent s os bs p e o m)
+          (new-held im (s .endOfFile) cs f im (state-first im (s .endOfFile) cs f b) cs (λ d j. j) (changeOf (countedOf im o)) i)
+          (counts-small im lent s os bs p e o m)
 
-  pub mended-none : corrections (countedIn (written im cs) os) ≡ []
-  mended-none =
-      no-correction (countedIn (written im cs) os)
-      (λ q i.
-      let r = counted-from (written im cs) os q i in
-      ap (λ (x : Counted). x .storedCount) (r .2) ∙ true-held (r .0) (r .1) ∙ ap (λ (x : Counted). x .trueCount) (sym (r .2)))
-
-  pub mended-clean : auditRun (written im cs) lent ≡ auditRun im lent → Clean im lent (written im cs)
+  pub mended-clean : ((words : ℕ) → auditRun (written im cs) words ≡ auditRun im words) → Clean im lent (written im cs)
   mended-clean same =
       let before = audit-reply im lent os bs e in
-      let after = audit-reply (written im cs) lent os bs (same ∙ e) in
-      record {
-        number = ap (λ (r : AuditReply). r .number) after;
-        blockCount = ap (λ (r : AuditReply). r .blockCount) after ∙ ap (λ (r : AuditReply). r .blockCount) (sym before);
-        list = ap (λ (r : AuditReply). r .list) after ∙ ap (λ (r : AuditReply). r .list) (sym before);
-        run = same;
-        none = ap (λ (r : AuditReply). corrections (r .objects)) after ∙ mended-none;
-      }
+      let after = audit-reply (written im cs) lent os bs (same lent ∙ e) in
+      record { reply = rw (after, before, true-stored im (written im cs) os true-held); run = same }

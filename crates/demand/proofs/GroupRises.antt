@@ -68,7 +68,8 @@ module _ (im : List ℕ) (eof room : ℕ) {S : Type 0} (μ : S → ℕ) where
     children-rise h walk r zero b bounds s = rises-ret im eof room found s _ (omega arith)
     children-rise h walk r (suc n) b bounds s =
         let own : List Bound = record { low = stringAt (h .segment) (u64 b 0); high = stringAt (h .segment) (u64 b 16) } ∷ bounds in
-        rises-on im eof room found found (walk (u64 b 8) own s) (λ s′. children h walk n (drop 16 b) bounds s′) (μ (s .found)) (r (u64 b 8) own s) (λ s′. children-rise h walk r n (drop 16 b) bounds s′)
+        rises-on im eof room found found (walk (u64 b 8) own s) (λ s′. children h walk n (drop 16 b) bounds s′) (μ (s .found)) (r (u64 b 8) own s)
+        (λ s′. children-rise h walk r n (drop 16 b) bounds s′)
 
     branches-rise : (h : Heap) (walk : ℕ → List Bound → GroupState S → Walk (GroupState S)) →
         ((at : ℕ) (bounds : List Bound) (s : GroupState S) → Rises im eof room found (walk at bounds s) (μ (s .found))) →
@@ -89,17 +90,23 @@ module _ (im : List ℕ) (eof room : ℕ) {S : Type 0} (μ : S → ℕ) where
     unfolding treeWalk
     tree-rises at s = rises-after im eof room found _ _ _ (λ b. go b (eqb (u16 b 6) 0))
       where
-        go : (b : List ℕ) (t : Bool) → Rises im eof room found (if t then check (eqb (u8 b 5) 0) (fault 8 at) >> ret s else branches (g .heap) (subtree g (u8 b 5)) at b [] s) (μ (s .found))
+        go : (b : List ℕ) (t : Bool) →
+            Rises im eof room found (if t then check (eqb (u8 b 5) 0) (fault 8 at) >> ret s else branches (g .heap) (subtree g (u8 b 5)) at b [] s)
+            (μ (s .found))
         go b true = rises-after im eof room found _ _ _ (λ _. rises-ret im eof room found s _ (omega arith))
         go b false = branches-rise (g .heap) (subtree g (u8 b 5)) (subtree-rises (u8 b 5)) at b [] s
 
-  pub group-rises : (visit : Entry → S → Result S) → ((e : Entry) (s s′ : S) → visit e s ≡ value s′ → μ s′ ≤ μ s + 1) → (leafK internalK tree heap : ℕ) (s : S) →
+  pub group-rises : (visit : Entry → S → Result S) → ((e : Entry) (s s′ : S) → visit e s ≡ value s′ → μ s′ ≤ μ s + 1) →
+      (leafK internalK tree heap : ℕ) (s : S) →
       Rises im eof room μ (groupWalk leafK internalK tree heap visit s) (μ s)
   unfolding groupWalk
   group-rises visit r leafK internalK tree heap s = rises-after im eof room μ _ _ _ (λ h. go h)
     where
-      go : (h : Heap) → Rises im eof room μ (treeWalk (record { leafK = leafK; internalK = internalK; heap = h; visit = visit }) tree (record { last = []; found = s }) >>= λ t. ret (t .found)) (μ s)
+      go : (h : Heap) →
+          let g : Group S = record { leafK = leafK; internalK = internalK; heap = h; visit = visit } in
+          Rises im eof room μ (treeWalk g tree (record { last = []; found = s }) >>= λ t. ret (t .found)) (μ s)
       go h =
           let g : Group S = record { leafK = leafK; internalK = internalK; heap = h; visit = visit } in
-          rises-on im eof room found μ (treeWalk g tree (record { last = []; found = s })) (λ t. ret (t .found)) (μ s) (tree-rises g r tree (record { last = []; found = s }))
+          rises-on im eof room found μ (treeWalk g tree (record { last = []; found = s })) (λ t. ret (t .found)) (μ s)
+          (tree-rises g r tree (record { last = []; found = s }))
           (λ t. rises-ret im eof room μ (t .found) (μ (t .found)) (omega arith))

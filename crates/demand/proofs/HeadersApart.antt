@@ -11,7 +11,8 @@ use Rattle.format.specs.Superblock.{Superblock}
 use Rattle.format.specs.Ledger.{Linked, inLedger}
 use Rattle.format.specs.Audit.{auditWalk}
 use Rattle.found.proofs.Whole.{whole}
-use Rattle.found.proofs.WholeApart.{Beside, blocks-beside}
+use Rattle.found.specs.Beside.{Beside}
+use Rattle.found.proofs.WholeApart.{blocks-beside}
 use Rattle.found.proofs.AuditReads.{audit-reads}
 use Rattle.found.proofs.LedgerSpared.{headerSize, header-member}
 
@@ -22,4 +23,5 @@ headers-apart im s room os bs e g h i j =
     let total = whole im (s .endOfFile) (auditWalk s) in
     let reads = audit-reads im room s os bs e in
     ⊎-elim (λ same. inl (cc)) (⊎-elim (λ l. inr (inl (omega arith))) (λ l. inr (inr (omega arith))))
-    (blocks-beside im (s .endOfFile) (auditWalk s) room [] os bs e headerBlock headerBlock g (headerSize im g) h (headerSize im h) (header-member im s total g (reads g i)) (header-member im s total h (reads h j)))
+    (blocks-beside im (s .endOfFile) (auditWalk s) room [] os bs e headerBlock headerBlock g (headerSize im g) h (headerSize im h)
+    (header-member im s room total g (reads g i)) (header-member im s room total h (reads h j)))

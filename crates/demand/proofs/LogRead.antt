@@ -53,7 +53,7 @@ or-same false e = e
 abbrev zeros : ℕ → List ℕ
 zeros n = replicate n 0
 
-zero-at : (n k : ℕ) → getD (zeros n) k 0 ≡ 0
+pub zero-at : (n k : ℕ) → getD (zeros n) k 0 ≡ 0
 zero-at zero k = refl
 zero-at (suc n) zero = refl
 zero-at (suc n) (suc k) = zero-at n k

@@ -39,12 +39,15 @@ module _ (im : List ℕ) (lent logLent n : ℕ) where
   unfolding mend
   mend-refused = go (audit im lent .number)
     where
-      go : (k : ℕ) → (mendAfter im lent logLent n k (audit im lent) .number ≡ 0 → ⊥) → mendAfter im lent logLent n k (audit im lent) ≡ notMended im lent logLent (mendAfter im lent logLent n k (audit im lent) .number)
+      go : (k : ℕ) → (mendAfter im lent logLent n k (audit im lent) .number ≡ 0 → ⊥) →
+          mendAfter im lent logLent n k (audit im lent) ≡ notMended im lent logLent (mendAfter im lent logLent n k (audit im lent) .number)
       go zero z = fits (leb (2 * length wrongs) logLent) z
         where
-          fits : (t : Bool) → ((if t then mendedBy im logLent (audit im lent) wrongs (min n (length wrongs)) else notMended im lent logLent 18) .number ≡ 0 → ⊥) →
+          fits : (t : Bool) →
+              ((if t then mendedBy im logLent (audit im lent) wrongs (min n (length wrongs)) else notMended im lent logLent 18) .number ≡ 0 → ⊥) →
               (if t then mendedBy im logLent (audit im lent) wrongs (min n (length wrongs)) else notMended im lent logLent 18) ≡
-              notMended im lent logLent ((if t then mendedBy im logLent (audit im lent) wrongs (min n (length wrongs)) else notMended im lent logLent 18) .number)
+              notMended im lent logLent
+              ((if t then mendedBy im logLent (audit im lent) wrongs (min n (length wrongs)) else notMended im lent logLent 18) .number)
           fits true q = absurd (q refl)
           fits false q = refl
       go (suc k) z = refl

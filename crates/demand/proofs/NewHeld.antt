@@ -15,7 +15,8 @@ use Rattle.demand.proofs.States.{put-field, state-put}
 
 module _ (im : List ℕ) (eof : ℕ) (cs : List Change) (f : Fields im eof cs) where
   -- a field that holds the new count, while further new counts are written
-  new-kept : (im′ : List ℕ) → State im cs im′ → (c : Change) → List·Memᴰ c cs → (ds : List Change) → Among ds cs → HoldsCount im′ (c .field) (c .new) → HoldsCount (written im′ ds) (c .field) (c .new)
+  new-kept : (im′ : List ℕ) → State im cs im′ → (c : Change) → List·Memᴰ c cs → (ds : List Change) → Among ds cs → HoldsCount im′ (c .field) (c .new) →
+      HoldsCount (written im′ ds) (c .field) (c .new)
   unfolding written
   new-kept im′ s c m [] a h = h
   new-kept im′ s c m (d ∷ ds) a h =
@@ -24,7 +25,8 @@ module _ (im : List ℕ) (eof : ℕ) (cs : List Change) (f : Fields im eof cs) w
       (⊎-elim (λ here. here .1 ∙ ap (λ (y : Change). toBytes 4 (y .new)) (sym (here .0))) (λ same. same ∙ h) (put-field im eof cs f im′ s c d m n (d .new)))
 
   -- the fields of all changes written hold the new counts
-  pub new-held : (im′ : List ℕ) → State im cs im′ → (ds : List Change) → Among ds cs → (c : Change) → List·Memᴰ c ds → HoldsCount (written im′ ds) (c .field) (c .new)
+  pub new-held : (im′ : List ℕ) → State im cs im′ → (ds : List Change) → Among ds cs → (c : Change) → List·Memᴰ c ds →
+      HoldsCount (written im′ ds) (c .field) (c .new)
   unfolding written
   new-held im′ s [] a c m = absurd (List·Memᴰ·not-nil m)
   new-held im′ s (d ∷ ds) a c m =

@@ -15,7 +15,8 @@ use Rattle.demand.proofs.States.{put-field, state-restored}
 
 module _ (im : List ℕ) (eof : ℕ) (cs : List Change) (f : Fields im eof cs) where
   -- the fields of all changes undone hold the old counts
-  pub old-held : (im′ : List ℕ) → State im cs im′ → (ds : List Change) → Among ds cs → (c : Change) → List·Memᴰ c ds → HoldsCount (restored im′ ds) (c .field) (c .old)
+  pub old-held : (im′ : List ℕ) → State im cs im′ → (ds : List Change) → Among ds cs → (c : Change) → List·Memᴰ c ds →
+      HoldsCount (restored im′ ds) (c .field) (c .old)
   unfolding restored
   old-held im′ s [] a c m = absurd (List·Memᴰ·not-nil m)
   old-held im′ s (d ∷ ds) a c m =

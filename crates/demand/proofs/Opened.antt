@@ -1,48 +1,29 @@
 -- What is known of an image that can be opened: its length, its first bytes, and where its file ends.
 use Prim.Native.Nat.{ℕ, _+_, _*_, _^_, _≤_}
-use mathlib.Core.Bool.{Bool, true, false, not}
+use mathlib.Core.Bool.{true}
 use mathlib.Core.List.{List}
-use mathlib.Core.Path.{_≡_, refl, ap, _∙_}
+use mathlib.Core.Path.{_≡_, ap, _∙_}
 use native.Mathlib.Omega.{arith}
 use borrow.Author.Tests.{eqb-true, leb-true}
 use lib.ListN.{length, drop, take}
-use lib.Dec.{eqb, leb}
+use lib.Dec.{leb}
 use lib.Seq.{take-add}
 use Rattle.format.specs.Limits.{imageLeast, imageMost}
-use Rattle.format.specs.Bytes.{if_then_else_, inRange, littleEndian, part, u32, u64}
-use Rattle.format.specs.Superblock.{Superblock, opened, notOpened, signature, versionShift, superblockRead, superblockSound, superblockFields, openImage}
+use Rattle.format.specs.Bytes.{inRange, littleEndian, part, u32, u64}
+use Rattle.format.specs.Superblock.{Superblock, opened, signature, versionShift, superblockSound, superblockFields, openImage}
 use Rattle.walk.proofs.LittleEndian.{littleEndian-append}
 use Rattle.walk.proofs.Parts.{part-length}
 use Rattle.walk.proofs.Tests.{all-held}
-
--- what its opening has tested
-record Tested (im : List ℕ) (s : Superblock) : Type 0 where
-  ranged : inRange imageLeast imageMost (length im) ≡ true
-  signed : eqb (u64 im 0) signature ≡ true
-  sound : superblockSound im ≡ true
-  fields : superblockFields im ≡ s
-
-tested : (im : List ℕ) (s : Superblock) → openImage im ≡ opened s → Tested im s
-unfolding openImage
-tested im s e =
-    go (inRange imageLeast imageMost (length im)) (eqb (u64 im 0) signature) (not (superblockRead im)) (superblockSound im) refl refl refl e
-  where
-    go : (t u v w : Bool) → inRange imageLeast imageMost (length im) ≡ t → eqb (u64 im 0) signature ≡ u → superblockSound im ≡ w →
-        (if not t then notOpened 1 else if not u then notOpened 2 else if v then notOpened 3 else if not w then notOpened 4 else opened (superblockFields im)) ≡ opened s → Tested im s
-    go false u v w a b c q = let z : _≡_ {A = ℕ} 0 1 = cc in absurd (omega arith)
-    go true false v w a b c q = let z : _≡_ {A = ℕ} 0 1 = cc in absurd (omega arith)
-    go true true true w a b c q = let z : _≡_ {A = ℕ} 0 1 = cc in absurd (omega arith)
-    go true true false false a b c q = let z : _≡_ {A = ℕ} 0 1 = cc in absurd (omega arith)
-    go true true false true a b c q = record { ranged = a; signed = b; sound = c; fields = cc }
+use Rattle.laws.proofs.Opening.{opened-tested}
 
 module _ (im : List ℕ) (s : Superblock) (p : openImage im ≡ opened s) where
   pub opened-range : inRange imageLeast imageMost (length im) ≡ true
-  opened-range = tested im s p .ranged
+  opened-range = opened-tested im s p .0 .ranged
 
   end-most : leb (u64 im (40 + versionShift im)) (length im) ≡ true
   unfolding superblockSound
   end-most =
-      let one = all-held _ _ (tested im s p .sound) in
+      let one = all-held _ _ (opened-tested im s p .0 .sound) in
       let two = all-held _ _ (one .1) in
       let three = all-held _ _ (two .1) in
       let four = all-held _ _ (three .1) in
@@ -51,16 +32,16 @@ module _ (im : List ℕ) (s : Superblock) (p : openImage im ≡ opened s) where
   -- the end of file is inside the image
   pub opened-end : s .endOfFile ≤ length im
   unfolding superblockFields
-  opened-end = omega (arith, leb-true (u64 im (40 + versionShift im)) (length im) end-most, ap (λ (t : Superblock). t .endOfFile) (tested im s p .fields))
+  opened-end = omega (arith, leb-true (u64 im (40 + versionShift im)) (length im) end-most, ap (λ (t : Superblock). t .endOfFile) (opened-tested im s p .1))
 
   pub opened-size : 1 ≤ s .size
   unfolding superblockFields
-  opened-size = omega (arith, ap (λ (t : Superblock). t .size) (tested im s p .fields))
+  opened-size = omega (arith, ap (λ (t : Superblock). t .size) (opened-tested im s p .1))
 
   pub opened-long : 96 ≤ length im
   unfolding superblockSound
   opened-long =
-      let first : leb (96 + versionShift im) (length im) ≡ true = all-held _ _ (tested im s p .sound) .0 in
+      let first : leb (96 + versionShift im) (length im) ≡ true = all-held _ _ (opened-tested im s p .0 .sound) .0 in
       omega (arith, leb-true (96 + versionShift im) (length im) first)
 
   -- the first four bytes are the signature's, which aren't zeros
@@ -71,5 +52,5 @@ module _ (im : List ℕ) (s : Superblock) (p : openImage im ≡ opened s) where
       ap littleEndian (take-add 4 4 (drop 0 im)) ∙ littleEndian-append (part im 0 4) (take 4 (drop 4 (drop 0 im))) in
       let long : length (part im 0 4) ≡ 4 = part-length im 0 4 (omega (arith, opened-long)) in
       let split : u64 im 0 ≡ u32 im 0 + 256 ^ 4 * littleEndian (take 4 (drop 4 (drop 0 im))) = rw long at whole in
-      let is : u64 im 0 ≡ signature = eqb-true (u64 im 0) signature (tested im s p .signed) in
+      let is : u64 im 0 ≡ signature = eqb-true (u64 im 0) signature (opened-tested im s p .0 .signed) in
       omega arith

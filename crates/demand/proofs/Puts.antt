@@ -12,7 +12,7 @@ use Rattle.format.specs.Bytes.{toBytes, part, littleEndian, u32}
 use Rattle.format.specs.Log.{putCount}
 use Rattle.walk.proofs.Overwrite.{length-overwrite, overwrite-outside, part-overwrite, part-overwrite-outside}
 use Rattle.walk.proofs.LittleEndian.{length-toBytes, littleEndian-toBytes}
-use Rattle.found.proofs.WholeApart.{Beside}
+use Rattle.found.specs.Beside.{Beside}
 use Rattle.demand.specs.Bytes.{HoldsCount}
 
 -- a field that holds a count below 2^32 is read as this count

@@ -32,12 +32,15 @@ module _ (im : List ℕ) (eof : ℕ) (cs : List Change) (f : Fields im eof cs) w
       (f .apart c d m n)
 
   -- the old or the new count of a change is written
-  pub state-put : (im′ : List ℕ) → State im cs im′ → (d : Change) → List·Memᴰ d cs → (x : ℕ) → (x ≡ d .old) ⊎ (x ≡ d .new) → State im cs (putCount im′ (d .field) x)
+  pub state-put : (im′ : List ℕ) → State im cs im′ → (d : Change) → List·Memᴰ d cs → (x : ℕ) → (x ≡ d .old) ⊎ (x ≡ d .new) →
+      State im cs (putCount im′ (d .field) x)
   state-put im′ s d n x which = record {
     sameLength = s .sameLength ∙ sym (put-length im′ (d .field) x);
     held = λ c m.
         ⊎-elim
-        (λ here. ⊎-elim (λ e. inl (here .1 ∙ ap (toBytes 4) (e ∙ ap (λ (y : Change). y .old) (sym (here .0))))) (λ e. inr (here .1 ∙ ap (toBytes 4) (e ∙ ap (λ (y : Change). y .new) (sym (here .0))))) which)
+        (λ here.
+        ⊎-elim (λ e. inl (here .1 ∙ ap (toBytes 4) (e ∙ ap (λ (y : Change). y .old) (sym (here .0)))))
+        (λ e. inr (here .1 ∙ ap (toBytes 4) (e ∙ ap (λ (y : Change). y .new) (sym (here .0))))) which)
         (λ same. ⊎-elim (λ h. inl (same ∙ h)) (λ h. inr (same ∙ h)) (s .held c m))
         (put-field im′ s c d m n x);
     elsewhere = λ i o. s .elsewhere i o ∙ sym (put-elsewhere im′ (d .field) x i (o d n));

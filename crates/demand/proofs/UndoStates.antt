@@ -32,12 +32,14 @@ or-right true u e = refl
 or-right false u e = e
 
 -- an undo that is done
-zero-number : (im log : List ℕ) (e : ℕ) → inRange imageLeast imageMost (length im) ≡ true → 2 * e ≤ length log → allFit im (changes e log) ≡ true → undoNumber im log e ≡ 0
+zero-number : (im log : List ℕ) (e : ℕ) → inRange imageLeast imageMost (length im) ≡ true → 2 * e ≤ length log → allFit im (changes e log) ≡ true →
+    undoNumber im log e ≡ 0
 unfolding undoNumber
 zero-number im log e range enough fit = rw (range, le-leb (2 * e) (length log) enough, fit)
 
 -- an undo whose entries don't all fit
-refused-number : (im log : List ℕ) (e : ℕ) → inRange imageLeast imageMost (length im) ≡ true → (allFit im (changes e log) ≡ true → ⊥) → undoNumber im log e ≡ (if leb (2 * e) (length log) then 19 else 18)
+refused-number : (im log : List ℕ) (e : ℕ) → inRange imageLeast imageMost (length im) ≡ true → (allFit im (changes e log) ≡ true → ⊥) →
+    undoNumber im log e ≡ (if leb (2 * e) (length log) then 19 else 18)
 unfolding undoNumber
 refused-number im log e range none = rw range (go (leb (2 * e) (length log)) (allFit im (changes e log)) refl)
   where
@@ -61,7 +63,8 @@ module _ (im : List ℕ) (eof : ℕ) (cs : List Change) (f : Fields im eof cs) (
       let inside : leb (c .field + 4) (length im′) ≡ true = le-leb (c .field + 4) (length im′) (omega (arith, f .image c m, s .sameLength)) in
       rw inside
       (⊎-elim (λ h. or-left _ _ (eq-eqb (u32 im′ (c .field)) (c .old) (count-read im′ (c .field) (c .old) h (small .old c m))))
-      (λ h. or-right (eqb (u32 im′ (c .field)) (c .old)) _ (eq-eqb (u32 im′ (c .field)) (c .new) (count-read im′ (c .field) (c .new) h (small .new c m)))) (s .held c m))
+      (λ h. or-right (eqb (u32 im′ (c .field)) (c .old)) _ (eq-eqb (u32 im′ (c .field)) (c .new) (count-read im′ (c .field) (c .new) h (small .new c m))))
+      (s .held c m))
 
   fit-all : (im′ : List ℕ) → State im cs im′ → (ds : List Change) → Among ds cs → allFit im′ ds ≡ true
   unfolding allFit
@@ -71,10 +74,12 @@ module _ (im : List ℕ) (eof : ℕ) (cs : List Change) (f : Fields im eof cs) (
   module _ (im′ : List ℕ) (s : State im cs im′) (range : inRange imageLeast imageMost (length im′) ≡ true) (first : u32 im′ 0 ≡ 0 → ⊥) where
     undo-number : (e : ℕ) → e ≤ length cs → undoNumber im′ log e ≡ 0
     undo-number e l =
-        zero-number im′ log e range (omega (arith, padded-length logLent cs room)) (rw (log-first logLent cs small e l) (fit-all im′ s (take e cs) (take-among e cs)))
+        zero-number im′ log e range (omega (arith, padded-length logLent cs room))
+        (rw (log-first logLent cs small e l) (fit-all im′ s (take e cs) (take-among e cs)))
 
     -- an undo of no more entries than the log has is done: it writes the old counts of the last n of these
-    pub undo-reply : (e n : ℕ) → e ≤ length cs → undo im′ log e n ≡ record { number = 0; writes = min n e; image = restored im′ (drop (e - min n e) (take e cs)) }
+    pub undo-reply : (e n : ℕ) → e ≤ length cs →
+        undo im′ log e n ≡ record { number = 0; writes = min n e; image = restored im′ (drop (e - min n e) (take e cs)) }
     unfolding undone
     undo-reply e n l = undo-by im′ log e n 0 (undo-number e l) ∙ rw (log-first logLent cs small e l)
 
@@ -82,7 +87,8 @@ module _ (im : List ℕ) (eof : ℕ) (cs : List Change) (f : Fields im eof cs) (
     pub undo-refused : (e n : ℕ) → length cs < e → undo im′ log e n ≡ record { number = if leb (2 * e) logLent then 19 else 18; writes = 0; image = im′ }
     undo-refused e n l =
         let none : allFit im′ (changes e log) ≡ true → ⊥ = λ h. omega (arith, log-fits im′ first cs (logLent - length (logWords cs)) e h) in
-        let number : undoNumber im′ log e ≡ (if leb (2 * e) logLent then 19 else 18) = rw (padded-length logLent cs room) at (refused-number im′ log e range none) in
+        let number : undoNumber im′ log e ≡ (if leb (2 * e) logLent then 19 else 18) =
+        rw (padded-length logLent cs room) at (refused-number im′ log e range none) in
         undo-by im′ log e n (if leb (2 * e) logLent then 19 else 18) number ∙ go (leb (2 * e) logLent)
       where
         go : (t : Bool) → undoEnd im′ log e n (if t then 19 else 18) ≡ record { number = if t then 19 else 18; writes = 0; image = im′ }

@@ -4,7 +4,7 @@ use mathlib.Core.List.{List, List·Memᴰ}
 use mathlib.Core.Logic.{_⊎_}
 use mathlib.Core.Path.{_≡_}
 use Rattle.format.specs.Audit.{Counted}
-use Rattle.laws.proofs.CountFields.{OnlyCounts}
+use Rattle.laws.specs.CountFields.{OnlyCounts}
 use Rattle.demand.specs.Bytes.{HoldsCount}
 
 -- an object of the audit whose count is wrong

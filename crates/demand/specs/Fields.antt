@@ -6,7 +6,7 @@ use mathlib.Core.Path.{_≡_}
 use lib.ListN.{length}
 use Rattle.format.specs.Bytes.{u32}
 use Rattle.format.specs.Log.{Change}
-use Rattle.found.proofs.WholeApart.{Beside}
+use Rattle.found.specs.Beside.{Beside}
 
 -- the corrections cs of an image that ends at eof
 pub record Fields (im : List ℕ) (eof : ℕ) (cs : List Change) : Type 0 where

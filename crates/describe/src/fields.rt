@@ -11,7 +11,7 @@ ghost use Rattle.format.specs.Limits.{rankMost};
 ghost use Rattle.format.specs.Bytes.{toWords, padded};
 ghost use Rattle.dataspace.specs.Dataspace.{spaceOf};
 ghost use Rattle.dataset.specs.Dataset.{Inside, bodyOf};
-ghost use Rattle.describe.specs.Reader.{Readable};
+ghost use Rattle.dataset_at.specs.Reader.{Readable};
 ghost use Rattle.describe.specs.Fields.{TypeIs, LayoutIs};
 
 // A datatype's own fields, or the address of a shared one; those not given are 0.

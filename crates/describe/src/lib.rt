@@ -1,16 +1,17 @@
 // The description of the dataset that a path leads to.
 mod fields;
-pub mod reader;
 
 use component::Target;
 use dataset::dataset::Dataset;
+use dataset_at::DatasetAt;
+use dataset_at::dataset_at;
+use follow;
 use format::NO_PLACE;
 use format::RANK_MOST;
 use format::Refusal;
+use format::answers;
 use format::number_of;
-use lookup::follow;
 use message::Body;
-use reader::DatasetAt;
 use superblock::Opening;
 use superblock::Superblock;
 use walk::blocks;
@@ -27,7 +28,7 @@ ghost use Rattle.superblock.specs.Superblock.{superblockOf};
 ghost use Rattle.path.specs.Form.{componentsOf};
 ghost use Rattle.dataset.specs.Dataset.{bodyOf, datasetOf};
 ghost use Rattle.object.specs.Object.{Bounded};
-ghost use Rattle.describe.specs.Reader.{datasetAtWalk, Readable};
+ghost use Rattle.dataset_at.specs.Reader.{datasetAtWalk, Readable};
 ghost use Rattle.describe.specs.Describe.{replyOf};
 
 // The answer, the number of blocks entered, and the dataset's fields; zeros where the answer isn't 0.
@@ -46,9 +47,6 @@ pub struct Description {
     pub data_address: u64,
     pub data_size: u64,
 }
-
-// The answer of document 01 to a path of no right form.
-const BAD_PATH: u8 = 14;
 
 // A refusal: the list is all zeros, and so are the fields but for the answer.
 fn refused(list: &mut [u64], refusal: Refusal) -> Description
@@ -77,7 +75,8 @@ fn refused(list: &mut [u64], refusal: Refusal) -> Description
 // The description of a dataset whose messages were read, with so many blocks entered.
 fn described(image: &[u8], space: Body, dataset: Dataset, count: usize) -> Description
     requires { ⌜ Readable (now image) space dataset ⌝ }
-    ensures { λ r. ⌜ ((lent : ℕ) (bs : List Block) → length bs ≡ count → replyOf (blockList lent bs) r ≡ describeEnd lent (done (datasetOf (bodyOf (now (image .entry)) space) dataset) bs)) ⌝ }
+    ensures { λ r. ⌜ ((lent : ℕ) (bs : List Block) → length bs ≡ count → replyOf (blockList lent bs) r ≡ describeEnd lent
+        (done (datasetOf (bodyOf (now (image .entry)) space) dataset) bs)) ⌝ }
 {
     let rank = dataset.rank;
     let datatype = dataset.datatype;
@@ -87,7 +86,7 @@ fn described(image: &[u8], space: Body, dataset: Dataset, count: usize) -> Descr
     let types = fields::type_fields(datatype);
     let layouts = fields::layout_fields(layout);
     Description {
-        number: 0,
+        number: answers::DONE,
         block_count: count,
         rank,
         sizes,
@@ -106,10 +105,11 @@ fn described(image: &[u8], space: Body, dataset: Dataset, count: usize) -> Descr
 // The description of the object at `at`. The list begins anew, and ends as the dataset's blocks.
 fn describe_object(image: &[u8], list: &mut [u64], superblock: Superblock, at: u64) -> Description
     requires { ⌜ Bounded (now image) superblock ⌝ }
-    ensures { λ r. ⌜ replyOf (now (list .exit)) r ≡ describeEnd (length (now (list .entry))) (run (now (image .entry)) (superblock .«end_of_file») (roomOf (length (now (list .entry)))) (datasetAtWalk (superblockOf superblock) at) []) ⌝ }
+    ensures { λ r. ⌜ replyOf (now (list .exit)) r ≡ describeEnd (length (now (list .entry)))
+        (run (now (image .entry)) (superblock .«end_of_file») (roomOf (length (now (list .entry)))) (datasetAtWalk (superblockOf superblock) at) []) ⌝ }
 {
     let room = blocks::room(list.len());
-    match reader::dataset_at(image, list, superblock, room, at) {
+    match dataset_at(image, list, superblock, room, at) {
         DatasetAt::Stopped(x) => refused(list, x),
         DatasetAt::Read {
             dataset,
@@ -126,11 +126,13 @@ fn describe_object(image: &[u8], list: &mut [u64], superblock: Superblock, at: u
 fn describe_path(image: &[u8], path: &[u8], list: &mut [u64], superblock: Superblock) -> Description
     requires { ⌜ Bounded (now image) superblock ⌝ }
     requires { ⌜ 1 ≤ length (now path) ⌝ }
-    ensures { λ r. ⌜ replyOf (now (list .exit)) r ≡ describeEnd (length (now (list .entry))) (followRun (now (image .entry)) (superblockOf superblock) (roomOf (length (now (list .entry)))) describeWalk (refusedRun (fault 20 noPlace) []) (componentsOf (now (path .entry))) (superblock .root)) ⌝ }
+    ensures { λ r. ⌜ replyOf (now (list .exit)) r ≡ describeEnd (length (now (list .entry)))
+        (followRun (now (image .entry)) (superblockOf superblock) (roomOf (length (now (list .entry)))) describeWalk (refusedRun (fault 20 noPlace) [])
+        (componentsOf (now (path .entry))) (superblock .root)) ⌝ }
 {
     match follow::find_object(image, path, list, superblock) {
         Target::Stopped(x) => refused(list, x),
-        Target::Symbolic => refused(list, Refusal::Fault(reader::NOT_A_DATASET, NO_PLACE)),
+        Target::Symbolic => refused(list, Refusal::Fault(answers::NOT_A_DATASET, NO_PLACE)),
         Target::Object(a) => describe_object(image, list, superblock, a),
     }
 }
@@ -140,7 +142,7 @@ pub fn describe(image: &[u8], path: &[u8], list: &mut [u64]) -> Description
     ensures { λ r. ⌜ replyOf (now (list .exit)) r ≡ describeReply (now (image .entry)) (now (path .entry)) (length (now (list .entry))) ⌝ }
 {
     if !path::is_sound(path) {
-        return refused(list, Refusal::Fault(BAD_PATH, NO_PLACE));
+        return refused(list, Refusal::Fault(answers::BAD_PATH, NO_PLACE));
     }
     match superblock::open(image) {
         Opening::NotOpened(x) => refused(list, Refusal::Fault(x, 0)),

@@ -3,11 +3,21 @@
 ghost use mathlib.Core.Path.{_≡_};
 ghost use lib.ListN.{length};
 ghost use Rattle.format.specs.Front.{CReply, CMend, CUndo, cAudit, cLookup, cDescribe, cMend, cUndo};
+ghost use Rattle.ebikwotula.specs.Version.{version};
+
+// The version of the calls, for a program to hold against its header.
+#[no_mangle]
+pub extern "C" fn ebikwotula_version() -> u32
+    ensures { λ r. ⌜ r ≡ version ⌝ }
+{
+    2
+}
 
 // The audit of an image. `blocks` gets the block list, `reply` the other fields; the number is returned.
 #[no_mangle]
 pub extern "C" fn ebikwotula_audit(image: &[u8], blocks: &mut [u8], reply: &mut [u8]) -> u32
-    ensures { λ r. ⌜ _≡_ {A = CReply} (record { number = r; list = now (blocks .exit); reply = now (reply .exit) }) (cAudit (now (image .entry)) (length (now (blocks .entry))) (length (now (reply .entry)))) ⌝ }
+    ensures { λ r. ⌜ _≡_ {A = CReply} (record { number = r; list = now (blocks .exit); reply = now (reply .exit) })
+        (cAudit (now (image .entry)) (length (now (blocks .entry))) (length (now (reply .entry)))) ⌝ }
 {
     front_audit::audit_bytes(image, blocks, reply)
 }
@@ -20,7 +30,8 @@ pub extern "C" fn ebikwotula_lookup(
     blocks: &mut [u8],
     reply: &mut [u8],
 ) -> u32
-    ensures { λ r. ⌜ _≡_ {A = CReply} (record { number = r; list = now (blocks .exit); reply = now (reply .exit) }) (cLookup (now (image .entry)) (now (path .entry)) (length (now (blocks .entry))) (length (now (reply .entry)))) ⌝ }
+    ensures { λ r. ⌜ _≡_ {A = CReply} (record { number = r; list = now (blocks .exit); reply = now (reply .exit) })
+        (cLookup (now (image .entry)) (now (path .entry)) (length (now (blocks .entry))) (length (now (reply .entry)))) ⌝ }
 {
     front_lookup::lookup_bytes(image, path, blocks, reply)
 }
@@ -33,7 +44,8 @@ pub extern "C" fn ebikwotula_describe(
     blocks: &mut [u8],
     reply: &mut [u8],
 ) -> u32
-    ensures { λ r. ⌜ _≡_ {A = CReply} (record { number = r; list = now (blocks .exit); reply = now (reply .exit) }) (cDescribe (now (image .entry)) (now (path .entry)) (length (now (blocks .entry))) (length (now (reply .entry)))) ⌝ }
+    ensures { λ r. ⌜ _≡_ {A = CReply} (record { number = r; list = now (blocks .exit); reply = now (reply .exit) })
+        (cDescribe (now (image .entry)) (now (path .entry)) (length (now (blocks .entry))) (length (now (reply .entry)))) ⌝ }
 {
     front_describe::describe_bytes(image, path, blocks, reply)
 }
@@ -48,7 +60,14 @@ pub extern "C" fn ebikwotula_mend(
     reply: &mut [u8],
     limit: u64,
 ) -> u32
-    ensures { λ r. ⌜ _≡_ {A = CMend} (record { number = r; list = now (blocks .exit); log = now (log .exit); reply = now (reply .exit); image = now (image .exit) }) (cMend (now (image .entry)) (length (now (blocks .entry))) (length (now (log .entry))) (length (now (reply .entry))) limit) ⌝ }
+    ensures { λ r. ⌜ _≡_ {A = CMend} (record {
+      number = r;
+      list = now (blocks .exit);
+      log = now (log .exit);
+      reply = now (reply .exit);
+      image = now
+          (image .exit);
+    }) (cMend (now (image .entry)) (length (now (blocks .entry))) (length (now (log .entry))) (length (now (reply .entry))) limit) ⌝ }
 {
     front_mend::mend_bytes(image, blocks, log, reply, limit)
 }
@@ -62,7 +81,8 @@ pub extern "C" fn ebikwotula_undo(
     entries: u64,
     limit: u64,
 ) -> u32
-    ensures { λ r. ⌜ _≡_ {A = CUndo} (record { number = r; reply = now (reply .exit); image = now (image .exit) }) (cUndo (now (image .entry)) (now (log .entry)) (length (now (reply .entry))) entries limit) ⌝ }
+    ensures { λ r. ⌜ _≡_ {A = CUndo} (record { number = r; reply = now (reply .exit); image = now (image .exit) })
+        (cUndo (now (image .entry)) (now (log .entry)) (length (now (reply .entry))) entries limit) ⌝ }
 {
     front_undo::undo_bytes(image, log, reply, entries, limit)
 }

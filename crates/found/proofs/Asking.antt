@@ -13,11 +13,14 @@ use Rattle.found.specs.Found.{Asked}
 
 module _ (im path : List ℕ) (lent : ℕ) {A : Type 0} (last : ℕ → Walk A) (x : Outcome A) where
   -- the path is followed from the root
-  pub asked-follow : (ps : List (List ℕ)) (s : Superblock) → Asked im path ps s → followPath im (parsePath path) lent last x ≡ follow im s (roomOf lent) last x ps (s .root)
+  pub asked-follow : (ps : List (List ℕ)) (s : Superblock) → Asked im path ps s →
+      followPath im (parsePath path) lent last x ≡ follow im s (roomOf lent) last x ps (s .root)
   asked-follow ps s a = rw (a .parsed, a .walkable)
 
   abbrev pub Walks : Type 0
-  Walks = (ps : List (List ℕ)) × (s : Superblock) × Asked im path ps s × (followPath im (parsePath path) lent last x ≡ follow im s (roomOf lent) last x ps (s .root))
+  Walks =
+      (ps : List (List ℕ)) × (s : Superblock) × Asked im path ps
+      s × (followPath im (parsePath path) lent last x ≡ follow im s (roomOf lent) last x ps (s .root))
 
   -- 14, or the answer to an image that can't be opened
   abbrev pub Rests : Type 0

@@ -1,10 +1,10 @@
--- Every object of an audit that is done can be read whole on a list that begins with the superblock, and is then shown only what the audit was shown.
+-- Every object of an audit that is done can be read whole behind the superblock with the audit's room, and is then shown only what the audit was shown.
 use Prim.Native.Nat.{ℕ, zero, suc, _+_, _≤_}
 use mathlib.Core.Bool.{true, false}
 use mathlib.Core.List.{List, [], _∷_, _++_, append-assoc, append-nil, Memᴰ·append-left, Memᴰ·append-right}
 use mathlib.Core.Path.{_≡_, refl, ap, sym, _∙_}
 use native.Mathlib.Omega.{arith}
-use lib.ListN.{length, drop, drop-of-length-le}
+use lib.ListN.{length, length-append, drop, drop-of-length-le}
 use Rattle.format.specs.Limits.{objectsMost}
 use Rattle.format.specs.Bytes.{withFirst}
 use Rattle.format.specs.Blocks.{Block}
@@ -16,11 +16,11 @@ use Rattle.format.specs.Object.{objectWalk}
 use Rattle.format.specs.Audit.{objectsWalk, rootFound, auditWalk}
 use Rattle.walk.specs.Lent.{left}
 use Rattle.laws.proofs.Bind.{run-bind}
-use Rattle.laws.proofs.Disjoint.{Apart, fresh-apart, apart-first, apart-none}
+use Rattle.laws.proofs.Disjoint.{Apart, fresh-apart, apart-first}
 use Rattle.laws.proofs.Growth.{run-grown}
 use Rattle.laws.proofs.Plan.{plan, blocks}
 use Rattle.laws.proofs.Restart.{run-done, restart}
-use Rattle.laws.proofs.Agreement.{Shown}
+use Rattle.laws.specs.Shown.{Shown}
 use Rattle.links.specs.Reached.{Reference, referencesAt}
 use Rattle.links.specs.Trace.{Trace, ended, next}
 use Rattle.links.proofs.Outcomes.{bind-done, done-fits}
@@ -40,37 +40,36 @@ module _ (im : List ℕ) (room : ℕ) (s : Superblock) (ss : List Shown) (sb : L
   Begins bs = (rest : List Block) × (bs ≡ sb ++ rest)
 
   -- an object that was read whole after others, the superblock first of all
-  read-behind : (at : ℕ) (rs : List Reference) (bs ms : List Block) → Begins bs → run im eof room (referencesAt s at) bs ≡ done rs ms →
-      Sub (whole im eof (referencesAt s at)) ss → ReadWhole im s ss at
-  read-behind at rs bs ms g e among =
+  read-behind : (at : ℕ) (rs : List Reference) (bs ms : List Block) → length bs ≤ room → Begins bs → run im eof room (referencesAt s at) bs ≡ done rs ms →
+      Sub (whole im eof (referencesAt s at)) ss → ReadWhole im s room ss at
+  read-behind at rs bs ms l g e among =
       let own = blocks (plan im eof (referencesAt s at)) in
       let d = run-done im eof (referencesAt s at) room bs ms rs e in
-      let u = run-done im eof (superblockWalk s) room [] sb tt sup in
       let fresh = rw (g .1) at (d .fresh) in
       let apart : Apart sb own = apart-first sb (g .0) own (fresh-apart (sb ++ g .0) own fresh) in
-      let big = length sb + length own in
-      let first : run im eof big (superblockWalk s) [] ≡ done tt sb =
-      restart im eof (superblockWalk s) room [] sb tt sup big [] (apart-none (blocks (plan im eof (superblockWalk s)))) (omega (arith, ap length (u .all))) ∙ ap (done tt) (sym (u .all)) in
-      let second : run im eof big (referencesAt s at) sb ≡ done rs (sb ++ own) =
-      restart im eof (referencesAt s at) room bs ms rs e big sb apart (omega arith) in
+      let fits = done-fits im eof room (referencesAt s at) bs rs ms l e in
+      let all : length ms ≡ length bs + length own = ap length (d .all) ∙ length-append bs own in
+      let front : length bs ≡ length sb + length (g .0) = ap length (g .1) ∙ length-append sb (g .0) in
+      let second : run im eof room (referencesAt s at) sb ≡ done rs (sb ++ own) =
+      restart im eof (referencesAt s at) room bs ms rs e room sb apart (omega arith) in
       record {
-        room = big;
         references = rs;
         left = sb ++ own;
-        ran = run-bind im eof big (superblockWalk s) (λ _. referencesAt s at) [] ∙ rw first second;
+        ran = run-bind im eof room (superblockWalk s) (λ _. referencesAt s at) [] ∙ rw sup second;
         among = λ x m.
             sub-append (whole im eof (superblockWalk s)) (whole im eof (referencesAt s at)) ss supAmong among x
             (rw (whole-then im eof (superblockWalk s) (λ _. referencesAt s at) room [] tt sb sup) at m);
       }
 
-  begins-more : {A : Type 0} (w : Walk A) (bs : List Block) (x : A) (ms : List Block) → length bs ≤ room → run im eof room w bs ≡ done x ms → Begins bs → Begins ms
+  begins-more : {A : Type 0} (w : Walk A) (bs : List Block) (x : A) (ms : List Block) → length bs ≤ room → run im eof room w bs ≡ done x ms → Begins bs →
+      Begins ms
   begins-more w bs x ms l e g =
       let r = run-grown im eof room w bs l in
       let all : ms ≡ bs ++ r .new = ap left (sym e) ∙ r .all in
       (g .0 ++ r .new, all ∙ ap (λ (cs : List Block). cs ++ r .new) (g .1) ∙ append-assoc sb (g .0) (r .new))
 
   abbrev Reads : ℕ → Found → Found → Type 0
-  Reads i f last = Trace (λ at rs. ReadWhole im s ss at) i (f .objects) (last .objects)
+  Reads i f last = Trace (λ at rs. ReadWhole im s room ss at) i (f .objects) (last .objects)
 
   reads-end : (i : ℕ) (f last : Found) → f ≡ last → drop i (f .objects) ≡ [] → Reads i f last
   reads-end i f last same d = rw (← same) (ended d)
@@ -105,7 +104,7 @@ module _ (im : List ℕ) (room : ℕ) (s : Superblock) (ss : List Shown) (sb : L
           let later = whole im eof (objectsWalk s fuel (i + 1) (b .0)) in
           let here : Sub (whole im eof own) ss = λ x q. h x (rw both (Memᴰ·append-left later (rw same at q))) in
           let there : Sub later ss = λ x q. h x (rw both (Memᴰ·append-right (whole im eof w) q)) in
-          next d (read-behind (o .address) (c .0) bs (b .1) g (c .1) here) (c .2 .counted)
+          next d (read-behind (o .address) (c .0) bs (b .1) l g (c .1) here) (c .2 .counted)
           (more (b .0) (b .1) (c .2 .fits) fits (begins-more w bs (b .0) (b .1) l (b .2) g) (b .3) there)
 
 module _ (im : List ℕ) (room : ℕ) (s : Superblock) (os : List Linked) (bs : List Block) (e : run im (s .endOfFile) room (auditWalk s) [] ≡ done os bs) where
@@ -128,7 +127,7 @@ module _ (im : List ℕ) (room : ℕ) (s : Superblock) (os : List Linked) (bs : 
       let c = bind-done im (s .endOfFile) room objects (λ f. ret (f .objects)) (b .1) os bs (b .3) in
       (b .1, c .0, c .1, b .2, c .2, cc (c .3))
 
-  pub audit-reads : (at : ℕ) → inLedger at os ≡ true → ReadWhole im s (whole im (s .endOfFile) (auditWalk s)) at
+  pub audit-reads : (at : ℕ) → inLedger at os ≡ true → ReadWhole im s room (whole im (s .endOfFile) (auditWalk s)) at
   audit-reads at h =
       let total = whole im (s .endOfFile) (auditWalk s) in
       let b = audit-done in
@@ -138,5 +137,5 @@ module _ (im : List ℕ) (room : ℕ) (s : Superblock) (os : List Linked) (bs : 
       let second : Sub (whole im (s .endOfFile) objects) total = λ x q. rw both (Memᴰ·append-right (whole im (s .endOfFile) (superblockWalk s)) q) in
       let t = objects-read im room s total (b .0) (b .3) first objectsMost 0 (rootFound s) (b .0) (b .1) (b .2) (omega arith)
       (root-fits im room s) fits ([], sym (append-nil (b .0))) (b .4) second in
-      let r = trace-references (λ a rs. ReadWhole im s total a) t in
-      each-find (λ a rs. ReadWhole im s total a) at (b .1 .objects) (r .0) (rw (b .5) h) (r .1) .1
+      let r = trace-references (λ a rs. ReadWhole im s room total a) t in
+      each-find (λ a rs. ReadWhole im s room total a) at (b .1 .objects) (r .0) (rw (b .5) h) (r .1) .1

@@ -24,7 +24,8 @@ use Rattle.found.proofs.IndexLaws.{index-rising, index-number}
 
 module _ (im : List ℕ) (eof room : ℕ) where
   -- what the index says, put as the end of the component
-  index-then : (s : Superblock) (name : List ℕ) (isLast : Bool) (at : ℕ) (es : List Entry) (bs : List Block) (l : Link) → run im eof room (indexWalk s at) [] ≡ done es bs → remembered name es absent ≡ l →
+  index-then : (s : Superblock) (name : List ℕ) (isLast : Bool) (at : ℕ) (es : List Entry) (bs : List Block) (l : Link) →
+      run im eof room (indexWalk s at) [] ≡ done es bs → remembered name es absent ≡ l →
       run im eof room (componentWalk s name isLast at) [] ≡ run im eof room (targetWalk isLast l) bs
   index-then s name isLast at es bs l i r = component-run s name im eof room isLast at ∙ rw (i, r)
 
@@ -39,13 +40,15 @@ module _ (im : List ℕ) (s : Superblock) (room : ℕ) (name : List ℕ) (isLast
   entry-link e bs h = says-entry name (h .entries) (index-rising im s room at (h .entries) bs (h .index)) e (h .member) (h .named)
 
   -- it leads to the object at a exactly if the sound index holds it as a hard link to a
-  pub component-found : (a : ℕ) (bs : List Block) → (component ≡ done (object a) bs) ↔ ((e : Entry) × Holds im s room at name e bs × (isHard e ≡ true) × (e .header ≡ a))
+  pub component-found : (a : ℕ) (bs : List Block) →
+      (component ≡ done (object a) bs) ↔ ((e : Entry) × Holds im s room at name e bs × (isHard e ≡ true) × (e .header ≡ a))
   unfolding targetWalk run
   component-found a bs = (forth, back)
     where
       forth : component ≡ done (object a) bs → (e : Entry) × Holds im s room at name e bs × (isHard e ≡ true) × (e .header ≡ a)
       forth c =
-          let b = then-done (run im (s .endOfFile) room (indexWalk s at) []) ending (object a) bs (sym (component-run s name im (s .endOfFile) room isLast at) ∙ c) in
+          let b = then-done (run im (s .endOfFile) room (indexWalk s at) []) ending (object a) bs
+          (sym (component-run s name im (s .endOfFile) room isLast at) ∙ c) in
           let t = target-object im (s .endOfFile) room isLast (remembered name (b .0) absent) (b .1) a bs (b .3) in
           let i : IndexIs im s room at (b .0) bs = rw (t .1) at (b .2) in
           let h = says-hard name (b .0) (index-rising im s room at (b .0) bs i) a (t .0) in
@@ -57,13 +60,15 @@ module _ (im : List ℕ) (s : Superblock) (room : ℕ) (name : List ℕ) (isLast
           index-then im (s .endOfFile) room s name isLast at (h .1 .entries) bs (hard a) (h .1 .index) l
 
   -- it leads to a symbolic link exactly if the sound index holds it as one and it is the last
-  pub component-symbolic : (bs : List Block) → (component ≡ done symbolic bs) ↔ ((e : Entry) × Holds im s room at name e bs × (isHard e ≡ false) × (isLast ≡ true))
+  pub component-symbolic : (bs : List Block) →
+      (component ≡ done symbolic bs) ↔ ((e : Entry) × Holds im s room at name e bs × (isHard e ≡ false) × (isLast ≡ true))
   unfolding targetWalk run
   component-symbolic bs = (forth, back)
     where
       forth : component ≡ done symbolic bs → (e : Entry) × Holds im s room at name e bs × (isHard e ≡ false) × (isLast ≡ true)
       forth c =
-          let b = then-done (run im (s .endOfFile) room (indexWalk s at) []) ending symbolic bs (sym (component-run s name im (s .endOfFile) room isLast at) ∙ c) in
+          let b = then-done (run im (s .endOfFile) room (indexWalk s at) []) ending symbolic bs
+          (sym (component-run s name im (s .endOfFile) room isLast at) ∙ c) in
           let t = target-symbolic im (s .endOfFile) room isLast (remembered name (b .0) absent) (b .1) bs (b .3) in
           let i : IndexIs im s room at (b .0) bs = rw (t .2) at (b .2) in
           let h = says-soft name (b .0) (index-rising im s room at (b .0) bs i) (t .0) in
@@ -89,7 +94,12 @@ module _ (im : List ℕ) (s : Superblock) (room : ℕ) (name : List ℕ) (isLast
           (then-refused (run im (s .endOfFile) room (indexWalk s at) []) ending (c .0) bs (sym (component-run s name im (s .endOfFile) room isLast at) ∙ c .1))
 
       back : Lacks im s room at name bs → RefusedWith component 15 bs
-      back h = (fault 15 0, index-then im (s .endOfFile) room s name isLast at (h .entries) bs absent (h .index) (not-remembered name (h .entries) absent (h .none)), refl)
+      back h = (
+        fault 15 0,
+        index-then im (s .endOfFile) room s name isLast at (h .entries) bs absent (h .index)
+            (not-remembered name (h .entries) absent (h .none)),
+        refl,
+      )
 
   -- it is a symbolic link before the last component exactly if the sound index holds it as one and it isn't the last
   pub component-early : (bs : List Block) → RefusedWith component 16 bs ↔ ((e : Entry) × Holds im s room at name e bs × (isHard e ≡ false) × (isLast ≡ false))

@@ -47,13 +47,15 @@ module _ (s : Superblock) (name : List ℕ) where
       ∙ sym (bind-assoc (superblockWalk s) (λ _. headerWalk at >>= findWalk s name) (targetWalk isLast))
 
   module _ (im : List ℕ) (eof room : ℕ) where
-    said : (o : Outcome (List Entry)) (p : Outcome Link) (f : Link → List Block → Outcome Target) → Ran true (Says name) o p → andThen p f ≡ andThen o (λ es bs. f (remembered name es absent) bs)
+    said : (o : Outcome (List Entry)) (p : Outcome Link) (f : Link → List Block → Outcome Target) → Ran true (Says name) o p →
+        andThen p f ≡ andThen o (λ es bs. f (remembered name es absent) bs)
     unfolding Ran
     said (done es bs) p f r = rw (r .1, r .2 .1)
     said (refused n bs) p f r = rw r
 
     pub component-run : (isLast : Bool) (at : ℕ) →
-        run im eof room (componentWalk s name isLast at) [] ≡ andThen (run im eof room (indexWalk s at) []) (λ es bs. run im eof room (targetWalk isLast (remembered name es absent)) bs)
+        run im eof room (componentWalk s name isLast at) [] ≡ andThen (run im eof room (indexWalk s at) [])
+        (λ es bs. run im eof room (targetWalk isLast (remembered name es absent)) bs)
     component-run isLast at =
         ap (λ (w : Walk Target). run im eof room w []) (component-link isLast at)
         ∙ run-bind im eof room (linkWalk at) (targetWalk isLast) []

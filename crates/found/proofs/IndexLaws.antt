@@ -2,46 +2,37 @@
 use Prim.Native.Nat.{ℕ, _≤_}
 use mathlib.Core.Bool.{false}
 use mathlib.Core.List.{List, []}
-use mathlib.Core.Logic.{_⊎_, inl, inr, ⊎-elim}
-use mathlib.Core.Path.{_≡_, ap, sym}
+use mathlib.Core.Logic.{_⊎_, inl, inr}
+use mathlib.Core.Path.{_≡_, refl}
 use native.Mathlib.Omega.{arith}
 use Rattle.format.specs.Blocks.{Block}
 use Rattle.format.specs.declared.Refusal.{Refusal}
-use Rattle.format.specs.Walk.{fault, answerOf, _>>=_, Outcome, done, refused, run}
+use Rattle.format.specs.Walk.{answerOf, _>>=_, Outcome, done, refused, run}
 use Rattle.format.specs.Superblock.{Superblock, superblockWalk}
 use Rattle.format.specs.Header.{Object, group, dataset, committed, headerWalk}
 use Rattle.format.specs.Entry.{Entry}
 use Rattle.laws.proofs.Follows.{Ran}
-use Rattle.group.specs.Entries.{keepEntry, entriesWalk, Rising}
+use Rattle.group.specs.Entries.{entriesWalk, Rising}
 use Rattle.group.proofs.Entries.{entries-rise}
 use Rattle.links.proofs.Outcomes.{bind-done}
-use Rattle.links.proofs.Numbered.{Answered, Numbered, answers, numbers, run-number}
-use Rattle.links.proofs.NumberedHeader.{header-numbered}
-use Rattle.links.proofs.NumberedGroup.{group-numbered}
+use Rattle.links.proofs.Numbered.{run-number}
 use Rattle.found.specs.Leads.{indexOf, indexWalk, IndexIs}
-use Rattle.found.proofs.Outcomes.{bind-refused}
-
-keep-answered : (e : Entry) (es : List Entry) → Answered (keepEntry e es)
-unfolding keepEntry
-keep-answered e es = search answers
-
-entries-numbered : (leafK internalK tree heap : ℕ) → Numbered (entriesWalk leafK internalK tree heap)
-unfolding entriesWalk
-entries-numbered leafK internalK tree heap = group-numbered leafK internalK tree heap keepEntry [] keep-answered
-
-pub superblock-numbered : (s : Superblock) → Numbered (superblockWalk s)
-unfolding superblockWalk
-superblock-numbered s = search numbers depth 8
+use Rattle.found.proofs.NumberedLookup.{index-numbered}
 
 ran-value : {S T : Type 0} (R : S → T → Type 0) (o : Outcome S) (p : Outcome T) (x : S) (ms : List Block) → o ≡ done x ms → Ran false R o p → (t : T) × R x t
 unfolding Ran
 ran-value R o p x ms e h = let r = rw e at h in (r .0, r .2)
 
+-- the numbers with which an index is refused
+abbrev IndexNumber : ℕ → Type 0
+IndexNumber n = (n ≤ 13) ⊎ (n ≡ 17)
+
 module _ (im : List ℕ) (s : Superblock) (room : ℕ) where
   entries-rising : (o : Object) (bs : List Block) (es : List Entry) (ms : List Block) → run im (s .endOfFile) room (indexOf s o) bs ≡ done es ms → Rising es
   unfolding indexOf run
   entries-rising (group tree heap) bs es ms e =
-      let r = ran-value _ (run im (s .endOfFile) room (entriesWalk (s .leafK) (s .internalK) tree heap) bs) (run im (s .endOfFile) room (entriesWalk (s .leafK) (s .internalK) tree heap) bs) es ms e
+      let o = run im (s .endOfFile) room (entriesWalk (s .leafK) (s .internalK) tree heap) bs in
+      let r = ran-value _ o o es ms e
       (entries-rise im (s .endOfFile) room (s .leafK) (s .internalK) tree heap bs) in
       r .1 .1 .0
   entries-rising (dataset space type layout) bs es ms e = let z : _≡_ {A = ℕ} 0 1 = cc in absurd (omega arith)
@@ -49,7 +40,8 @@ module _ (im : List ℕ) (s : Superblock) (room : ℕ) where
 
   -- a sound index is that of a group
   pub index-object : (at : ℕ) (es : List Entry) (bs : List Block) → IndexIs im s room at es bs →
-      (o : Object) × (cs ds : List Block) × (run im (s .endOfFile) room (superblockWalk s) [] ≡ done tt cs) × (run im (s .endOfFile) room (headerWalk at) cs ≡ done o ds) ×
+      (o : Object) × (cs ds : List Block) × (run im (s .endOfFile) room (superblockWalk s) [] ≡ done tt cs) ×
+      (run im (s .endOfFile) room (headerWalk at) cs ≡ done o ds) ×
       (run im (s .endOfFile) room (indexOf s o) ds ≡ done es bs)
   unfolding indexWalk
   index-object at es bs i =
@@ -60,18 +52,10 @@ module _ (im : List ℕ) (s : Superblock) (room : ℕ) where
   pub index-rising : (at : ℕ) (es : List Entry) (bs : List Block) → IndexIs im s room at es bs → Rising es
   index-rising at es bs i = let h = index-object at es bs i in entries-rising (h .0) (h .2) es bs (h .5)
 
-  of-number : (o : Object) (bs : List Block) (r : Refusal) (ms : List Block) → run im (s .endOfFile) room (indexOf s o) bs ≡ refused r ms → (answerOf r ≤ 13) ⊎ (answerOf r ≡ 17)
-  unfolding indexOf run
-  of-number (group tree heap) bs r ms e = inl (run-number im (s .endOfFile) room (entriesWalk (s .leafK) (s .internalK) tree heap) bs r ms (entries-numbered (s .leafK) (s .internalK) tree heap) e .1)
-  of-number (dataset space type layout) bs r ms e = let same : fault 17 0 ≡ r = cc in inr (ap answerOf (sym same))
-  of-number committed bs r ms e = let same : fault 17 0 ≡ r = cc in inr (ap answerOf (sym same))
-
   -- no step of the index refuses with 15 or 16
-  pub index-number : (at : ℕ) (r : Refusal) (ms : List Block) → run im (s .endOfFile) room (indexWalk s at) [] ≡ refused r ms → (answerOf r ≤ 13) ⊎ (answerOf r ≡ 17)
-  unfolding indexWalk
+  pub index-number : (at : ℕ) (r : Refusal) (ms : List Block) → run im (s .endOfFile) room (indexWalk s at) [] ≡ refused r ms →
+      (answerOf r ≤ 13) ⊎ (answerOf r ≡ 17)
   index-number at r ms e =
-      ⊎-elim (λ q. inl (run-number im (s .endOfFile) room (superblockWalk s) [] r ms (superblock-numbered s) q .1))
-      (λ b.
-      ⊎-elim (λ q. inl (run-number im (s .endOfFile) room (headerWalk at) (b .1) r ms (header-numbered at) q .1)) (λ h. of-number (h .0) (h .1) r ms (h .3))
-      (bind-refused im (s .endOfFile) room (headerWalk at) (indexOf s) (b .1) r ms (b .3)))
-      (bind-refused im (s .endOfFile) room (superblockWalk s) (λ _. headerWalk at >>= indexOf s) [] r ms e)
+      run-number IndexNumber (inl (omega arith)) (inl (omega arith)) (inl (omega arith)) im (s .endOfFile) room (indexWalk s at) [] r ms
+      (index-numbered IndexNumber (inl (omega arith)) (inl (omega arith)) (inl (omega arith)) (inl (omega arith)) (inl (omega arith)) (inl (omega arith))
+      (inr refl) s at) e

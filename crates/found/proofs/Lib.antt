@@ -1,12 +1,14 @@
 pub mod Outcomes
 pub mod Index
 pub mod Names
+pub mod NumberedLookup
 pub mod IndexLaws
 pub mod TargetEnds
 pub mod ComponentFound
 pub mod Following
 pub mod Asking
 pub mod PathFound
+pub mod PathRefused
 pub mod LookupFound
 pub mod DescribeFound
 pub mod Whole
@@ -17,6 +19,7 @@ pub mod AuditReads
 pub mod ObjectAgain
 pub mod Replayed
 pub mod LedgerClosed
+pub mod PathReplayed
 pub mod LedgerSpared
 pub mod OpenedSame
 pub mod LookupSpared

@@ -59,7 +59,8 @@ module _ (name : List ℕ) (es : List Entry) (r : Rising es) where
       rw (← n, split) (remembered-entry (p .0) (p .1) e absent (rw split at r))
 
   -- an entry of this name, with what is remembered; or there is none, and nothing is
-  says : ((e : Entry) × List·Memᴰ e es × (e .name ≡ name) × (remembered name es absent ≡ linkTo e)) ⊎ (NoneNamed name es × (remembered name es absent ≡ absent))
+  says : ((e : Entry) × List·Memᴰ e es × (e .name ≡ name) × (remembered name es absent ≡ linkTo e)) ⊎ (NoneNamed name
+      es × (remembered name es absent ≡ absent))
   says = ⊎-elim (λ h. inl (h .0, h .1, h .2, says-entry (h .0) (h .1) (h .2))) (λ h. inr (h, not-remembered name es absent h)) (named-or-none name es)
 
   pub says-hard : (a : ℕ) → remembered name es absent ≡ hard a → (e : Entry) × List·Memᴰ e es × (e .name ≡ name) × (isHard e ≡ true) × (e .header ≡ a)

@@ -12,7 +12,7 @@ use Rattle.format.specs.Sharing.{sharedBy}
 use Rattle.format.specs.Lookup.{Link, absent, hard, soft, findWalk, targetWalk, componentWalk, locateWalk}
 use Rattle.format.specs.Describe.{datasetOf, describeWalk}
 use Rattle.laws.proofs.Bind.{bind-ret}
-use Rattle.laws.proofs.Agreement.{Shown}
+use Rattle.laws.specs.Shown.{Shown}
 use Rattle.laws.proofs.HeaderVisits.{header-plain}
 use Rattle.links.specs.Reached.{Reference, hardLinksOf, sharingsOf, keepSharing, contentReferences, referencesAt}
 use Rattle.links.proofs.Outcomes.{bind-done}
@@ -67,30 +67,31 @@ read-steps im s room at rs ms e =
       content = rw left at (c .2);
     }
 
-module _ (im : List ℕ) (s : Superblock) (ss : List Shown) (at : ℕ) (r : ReadWhole im s ss at) where
+module _ (im : List ℕ) (s : Superblock) (room : ℕ) (ss : List Shown) (at : ℕ) (r : ReadWhole im s room ss at) where
   abbrev eof : ℕ
   eof = s .endOfFile
 
-  steps : Steps im s (r .room) at (r .left)
-  steps = read-steps im s (r .room) at (r .references) (r .left) (r .ran)
+  steps : Steps im s room at (r .left)
+  steps = read-steps im s room at (r .references) (r .left) (r .ran)
 
   -- the superblock and the header, then what comes behind them
   whole-object : {B : Type 0} (f : Object → Walk B) →
-      whole im eof (superblockWalk s >>= λ _. headerWalk at >>= f) ≡ whole im eof (superblockWalk s) ++ (whole im eof (headerWalk at) ++ whole im eof (f (steps .object)))
+      whole im eof (superblockWalk s >>= λ _. headerWalk at >>= f) ≡
+      whole im eof (superblockWalk s) ++ (whole im eof (headerWalk at) ++ whole im eof (f (steps .object)))
   whole-object f =
-      whole-then im eof (superblockWalk s) (λ _. headerWalk at >>= f) (r .room) [] tt (steps .first) (steps .superblock)
+      whole-then im eof (superblockWalk s) (λ _. headerWalk at >>= f) room [] tt (steps .first) (steps .superblock)
       ∙ ap (λ (ts : List Shown). whole im eof (superblockWalk s) ++ ts)
-      (whole-then im eof (headerWalk at) f (r .room) (steps .first) (steps .object) (steps .second) (steps .header))
+      (whole-then im eof (headerWalk at) f room (steps .first) (steps .object) (steps .second) (steps .header))
 
   -- the header for its sharings is shown what the header for its kind is
   read-whole : whole im eof (referencesAt s at) ≡ whole im eof (headerWalk at) ++ whole im eof (contentReferences s (steps .object))
   unfolding referencesAt whole
   read-whole =
-      whole-then im eof (headerWith keepSharing at []) (λ h. contentReferences s (h .object) >>= λ rs. ret (sharingsOf (h .found) ++ rs)) (r .room)
+      whole-then im eof (headerWith keepSharing at []) (λ h. contentReferences s (h .object) >>= λ rs. ret (sharingsOf (h .found) ++ rs)) room
       (steps .first) (record { object = steps .object; found = steps .shared }) (steps .second) (steps .kept)
       ∙ ap (λ (ts : List Shown). ts ++ whole im eof (contentReferences s (steps .object) >>= λ rs. ret (sharingsOf (steps .shared) ++ rs)))
       (sym
-      (whole-followed im eof false _ (headerWith keepSharing at []) (headerWalk at) (r .room) (steps .first) _ (steps .second) (steps .kept)
+      (whole-followed im eof false _ (headerWith keepSharing at []) (headerWalk at) room (steps .first) _ (steps .second) (steps .kept)
       (header-plain keepSharing at [])))
       ∙ ap (λ (ts : List Shown). whole im eof (headerWalk at) ++ ts)
       (whole-quiet im eof (contentReferences s (steps .object)) (λ rs. ret (sharingsOf (steps .shared) ++ rs)) (λ rs. refl))
@@ -98,7 +99,7 @@ module _ (im : List ℕ) (s : Superblock) (ss : List Shown) (at : ℕ) (r : Read
   read-object : whole im eof (superblockWalk s >> referencesAt s at) ≡
       whole im eof (superblockWalk s) ++ (whole im eof (headerWalk at) ++ whole im eof (contentReferences s (steps .object)))
   read-object =
-      whole-then im eof (superblockWalk s) (λ _. referencesAt s at) (r .room) [] tt (steps .first) (steps .superblock)
+      whole-then im eof (superblockWalk s) (λ _. referencesAt s at) room [] tt (steps .first) (steps .superblock)
       ∙ ap (λ (ts : List Shown). whole im eof (superblockWalk s) ++ ts) read-whole
 
   object-among : {B : Type 0} (f : Object → Walk B) → Sub (whole im eof (f (steps .object))) (whole im eof (contentReferences s (steps .object))) →
@@ -123,13 +124,13 @@ module _ (im : List ℕ) (s : Superblock) (ss : List Shown) (at : ℕ) (r : Read
   locate-among = object-among _ (sub-none [] _ refl)
 
   find-sub : (name : List ℕ) (o : Object) (cs : List Block) (rs : List Reference) (ms : List Block) →
-      run im eof (r .room) (contentReferences s o) cs ≡ done rs ms → Sub (whole im eof (findWalk s name o)) (whole im eof (contentReferences s o))
+      run im eof room (contentReferences s o) cs ≡ done rs ms → Sub (whole im eof (findWalk s name o)) (whole im eof (contentReferences s o))
   unfolding contentReferences indexOf findWalk whole
   find-sub name (group tree heap) cs rs ms e =
       let index = indexOf s (group tree heap) in
-      let b = bind-done im eof (r .room) index (λ es. ret (hardLinksOf es)) cs rs ms e in
+      let b = bind-done im eof room index (λ es. ret (hardLinksOf es)) cs rs ms e in
       sub-same _ _
-      (whole-followed im eof true (Says name) index (findWalk s name (group tree heap)) (r .room) cs (b .0) (b .1) (b .2)
+      (whole-followed im eof true (Says name) index (findWalk s name (group tree heap)) room cs (b .0) (b .1) (b .2)
       (find-follows s name (group tree heap))
       ∙ sym (whole-quiet im eof index (λ es. ret (hardLinksOf es)) (λ es. refl)))
   find-sub name (dataset space type layout) cs rs ms e = sub-none [] _ refl

@@ -1,34 +1,24 @@
 -- An image opens the same where it differs only behind the superblock.
 use Prim.Native.Nat.{ℕ, _+_, _≤_, _<_}
-use mathlib.Core.Bool.{Bool, true, false, not}
+use mathlib.Core.Bool.{Bool, true, false}
 use mathlib.Core.List.{List}
 use mathlib.Core.Logic.{inr}
 use mathlib.Core.Path.{_≡_, ap, _∙_}
 use native.Mathlib.Omega.{arith}
-use lib.ListN.{length, getD}
+use lib.ListN.{getD}
 use lib.Dec.{eqb}
-use Rattle.format.specs.Limits.{imageLeast, imageMost}
-use Rattle.format.specs.Bytes.{if_then_else_, inRange, part, u8, u64}
+use Rattle.format.specs.Bytes.{if_then_else_, part, u8}
 use Rattle.format.specs.Walk.{superblockBlock, shown}
-use Rattle.format.specs.Superblock.{Superblock, opened, notOpened, signature, versionShift, versionsRead, sizesRead, addressesRead, superblockRead, superblockSound, superblockFields, openImage}
-use Rattle.laws.proofs.CountFields.{OnlyCounts, shown-same}
-
--- what an image that can be opened says
-opened-fields : (im : List ℕ) (s : Superblock) → openImage im ≡ opened s → superblockFields im ≡ s
-unfolding openImage
-opened-fields im s e = go (not (inRange imageLeast imageMost (length im))) (not (eqb (u64 im 0) signature)) (not (superblockRead im)) (not (superblockSound im)) e
-  where
-    go : (t u v w : Bool) → (if t then notOpened 1 else if u then notOpened 2 else if v then notOpened 3 else if w then notOpened 4 else opened (superblockFields im)) ≡ opened s → superblockFields im ≡ s
-    go true u v w q = let z : _≡_ {A = ℕ} 0 1 = cc in absurd (omega arith)
-    go false true v w q = let z : _≡_ {A = ℕ} 0 1 = cc in absurd (omega arith)
-    go false false true w q = let z : _≡_ {A = ℕ} 0 1 = cc in absurd (omega arith)
-    go false false false true q = let z : _≡_ {A = ℕ} 0 1 = cc in absurd (omega arith)
-    go false false false false q = cc
+use Rattle.format.specs.Superblock.{Superblock, opened, versionShift, versionsRead}
+use Rattle.format.specs.Superblock.{sizesRead, addressesRead, superblockRead, superblockSound, superblockFields, openImage}
+use Rattle.laws.specs.CountFields.{OnlyCounts}
+use Rattle.laws.proofs.CountFields.{shown-same}
+use Rattle.laws.proofs.Opening.{opened-tested}
 
 -- the superblock has 96 bytes or more
 pub opened-size : (im : List ℕ) (s : Superblock) → openImage im ≡ opened s → 96 ≤ s .size
 unfolding superblockFields
-opened-size im s e = omega (arith, ap (λ (t : Superblock). t .size) (opened-fields im s e))
+opened-size im s e = omega (arith, ap (λ (t : Superblock). t .size) (opened-tested im s e .1))
 
 shift-most : (im : List ℕ) → versionShift im ≤ 4
 unfolding versionShift

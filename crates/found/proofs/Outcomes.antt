@@ -2,22 +2,16 @@
 use Prim.Native.Nat.{ℕ}
 use mathlib.Core.List.{List}
 use mathlib.Core.Logic.{_⊎_, inl, inr}
-use mathlib.Core.Path.{_≡_, refl, sym, _∙_}
+use mathlib.Core.Path.{_≡_, refl}
 use native.Mathlib.Omega.{arith}
 use Rattle.format.specs.Blocks.{Block}
 use Rattle.format.specs.declared.Refusal.{Refusal}
-use Rattle.format.specs.Walk.{Walk, _>>=_, Outcome, done, refused, run, andThen}
-use Rattle.laws.proofs.Bind.{run-bind}
+use Rattle.format.specs.Walk.{Outcome, done, refused, andThen}
 
 pub then-refused : {A B : Type 0} (o : Outcome A) (f : A → List Block → Outcome B) (r : Refusal) (ms : List Block) → andThen o f ≡ refused r ms →
     (o ≡ refused r ms) ⊎ ((a : A) × (cs : List Block) × (o ≡ done a cs) × (f a cs ≡ refused r ms))
 then-refused (done a cs) f r ms e = inr (a, cs, refl, e)
 then-refused (refused q cs) f r ms e = inl (cc)
-
--- one walk after another is refused: the first is, or it is done and the second is
-pub bind-refused : (im : List ℕ) (eof room : ℕ) {A B : Type 0} (w : Walk A) (f : A → Walk B) (bs : List Block) (r : Refusal) (ms : List Block) → run im eof room (w >>= f) bs ≡ refused r ms →
-    (run im eof room w bs ≡ refused r ms) ⊎ ((a : A) × (cs : List Block) × (run im eof room w bs ≡ done a cs) × (run im eof room (f a) cs ≡ refused r ms))
-bind-refused im eof room w f bs r ms e = then-refused (run im eof room w bs) (λ a cs. run im eof room (f a) cs) r ms (sym (run-bind im eof room w f bs) ∙ e)
 
 -- a value and a refusal are never one outcome
 pub done-refused : {A : Type 0} (a : A) (bs : List Block) (r : Refusal) (ms : List Block) → done a bs ≡ refused r ms → ⊥

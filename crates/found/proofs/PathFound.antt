@@ -32,7 +32,8 @@ module _ (im path : List ℕ) (lent : ℕ) {A : Type 0} (last : ℕ → Walk A) 
     where
       ends : (ps : List (List ℕ)) (s : Superblock) → follow im s (roomOf lent) last x ps (s .root) ≡ done v bs → DoneAt s ps v bs
       ends ps s e =
-          ⊎-elim (λ h. inl (h .0, h .1, sym (h .2) ∙ e)) (⊎-elim (λ h. inr (h .0, sym (h .1) ∙ e)) (λ h. absurd (done-refused v bs (h .0) (h .1) (sym e ∙ h .3))))
+          ⊎-elim (λ h. inl (h .0, h .1, sym (h .2) ∙ e))
+          (⊎-elim (λ h. inr (h .0, sym (h .1) ∙ e)) (λ h. absurd (done-refused v bs (h .0) (h .1) (sym e ∙ h .3))))
           (follow-cases im s (roomOf lent) last x ps (s .root))
 
       forth : followed ≡ done v bs → (ps : List (List ℕ)) × (s : Superblock) × Asked im path ps s × DoneAt s ps v bs
@@ -46,12 +47,14 @@ module _ (im path : List ℕ) (lent : ℕ) {A : Type 0} (last : ℕ → Walk A) 
           ∙ ⊎-elim (λ h. follow-ends im (f .1) (roomOf lent) last x (h .1) ∙ h .2) (λ h. follow-symbolic im (f .1) (roomOf lent) last x (h .0) ∙ h .1) (f .3)
 
   -- 15 comes from a component only, if neither the walk of the object found nor the end of a symbolic link refuses with it
-  pub path-absent : (bs : List Block) → ((s : Superblock) (room a : ℕ) → RefusedWith (run im (s .endOfFile) room (superblockWalk s >> last a) []) 15 bs → ⊥) → (RefusedWith x 15 bs → ⊥) →
+  pub path-absent : (bs : List Block) → ((s : Superblock) (room a : ℕ) → RefusedWith (run im (s .endOfFile) room (superblockWalk s >> last a) []) 15 bs → ⊥) →
+      (RefusedWith x 15 bs → ⊥) →
       RefusedWith followed 15 bs ↔ IsAbsent im path lent bs
   unfolding follow
   path-absent bs never none = (forth, back)
     where
-      missing : (ps : List (List ℕ)) (s : Superblock) → Asked im path ps s → RefusedWith (follow im s (roomOf lent) last x ps (s .root)) 15 bs → IsAbsent im path lent bs
+      missing : (ps : List (List ℕ)) (s : Superblock) → Asked im path ps s → RefusedWith (follow im s (roomOf lent) last x ps (s .root)) 15 bs →
+          IsAbsent im path lent bs
       missing ps s q e =
           ⊎-elim (λ h. absurd (never s (roomOf lent) (h .0) (e .0, sym (h .2) ∙ e .1, e .2)))
           (⊎-elim (λ h. absurd (none (e .0, sym (h .1) ∙ e .1, e .2)))

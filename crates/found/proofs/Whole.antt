@@ -11,7 +11,7 @@ use Rattle.format.specs.Walk.{kindNumber, shown, lengthIn, Walk, ret, refuse, e
 use Rattle.laws.proofs.Plan.{fault, step, plan, EndsIn}
 use Rattle.laws.proofs.Restart.{run-done}
 use Rattle.laws.proofs.Follows.{Follows}
-use Rattle.laws.proofs.Agreement.{Shown, contents, size}
+use Rattle.laws.specs.Shown.{Shown, contents, size}
 
 unfoldable pub whole : {A : Type 0} → List ℕ → ℕ → Walk A → List Shown
 whole im eof (ret a) = []
@@ -32,7 +32,8 @@ module _ (im : List ℕ) (eof : ℕ) where
       go _ n (leb (a + n) eof) e (whole-bind (k (shown v (part im a n))) f x)
     where
       go : (r : Refusal) (n : ℕ) (t : Bool) → EndsIn x (if t then step (kindNumber v) (block a n) (plan im eof (k (shown v (part im a n)))) else fault r) →
-          (EndsIn x (plan im eof (k (shown v (part im a n)))) → whole im eof (k (shown v (part im a n)) >>= f) ≡ whole im eof (k (shown v (part im a n))) ++ whole im eof (f x)) →
+          (EndsIn x (plan im eof (k (shown v (part im a n)))) → whole im eof (k (shown v (part im a n)) >>= f) ≡ whole im eof
+          (k (shown v (part im a n))) ++ whole im eof (f x)) →
           (if t then contents v a n ∷ whole im eof (k (shown v (part im a n)) >>= f) else size v a l ∷ []) ≡
           (if t then contents v a n ∷ whole im eof (k (shown v (part im a n))) else size v a l ∷ []) ++ whole im eof (f x)
       go r n true h rest = ap (λ (ss : List Shown). contents v a n ∷ ss) (rest h)
@@ -48,7 +49,8 @@ module _ (im : List ℕ) (eof : ℕ) where
       ap (λ (ss : List Shown). if leb (a + n) eof then contents v a n ∷ ss else size v a l ∷ []) (whole-quiet (k (shown v (part im a n))) f q)
 
   -- a walk that follows one which ends in a value is shown the same
-  whole-follow : {S T : Type 0} (exact : Bool) (R : S → T → Type 0) (w : Walk S) (w′ : Walk T) (x : S) → Follows exact R w w′ → EndsIn x (plan im eof w) → whole im eof w′ ≡ whole im eof w
+  whole-follow : {S T : Type 0} (exact : Bool) (R : S → T → Type 0) (w : Walk S) (w′ : Walk T) (x : S) → Follows exact R w w′ → EndsIn x (plan im eof w) →
+      whole im eof w′ ≡ whole im eof w
   unfolding whole plan Follows
   whole-follow exact R (ret s) w′ x h e = rw (h .1)
   whole-follow exact R (refuse n) w′ x h e = absurd e
@@ -68,6 +70,7 @@ module _ (im : List ℕ) (eof : ℕ) where
       whole im eof (w >>= f) ≡ whole im eof w ++ whole im eof (f x)
   whole-then w f room bs x ms e = whole-bind w f x (run-done im eof w room bs ms x e .ends)
 
-  pub whole-followed : {S T : Type 0} (exact : Bool) (R : S → T → Type 0) (w : Walk S) (w′ : Walk T) (room : ℕ) (bs : List Block) (x : S) (ms : List Block) → run im eof room w bs ≡ done x ms →
+  pub whole-followed : {S T : Type 0} (exact : Bool) (R : S → T → Type 0) (w : Walk S) (w′ : Walk T) (room : ℕ) (bs : List Block) (x : S) (ms : List Block) →
+      run im eof room w bs ≡ done x ms →
       Follows exact R w w′ → whole im eof w′ ≡ whole im eof w
   whole-followed exact R w w′ room bs x ms e f = whole-follow exact R w w′ x f (run-done im eof w room bs ms x e .ends)

@@ -5,7 +5,7 @@ use Rattle.format.specs.Blocks.{roomOf}
 use Rattle.format.specs.Walk.{lengthIn}
 use Rattle.format.specs.Superblock.{Superblock}
 use Rattle.format.specs.Audit.{auditWalk}
-use Rattle.laws.proofs.Agreement.{Shown, contents, size, shownBy}
+use Rattle.laws.specs.Shown.{Shown, contents, size, shownBy}
 
 -- a block shown is among these, as a block of the same kind; of a block that is refused the length is shown, and the block is among these
 abbrev pub Covered : List ℕ → List Shown → Shown → Type 0

@@ -86,12 +86,16 @@ sound-fields seg met off e = go (leb (off + 16) (length seg)) refl _ e
 free-step : (fuel : ℕ) (seg : List ℕ) (off : ℕ) (met : List Block) →
     freeBlocks (suc fuel) seg off met
     ≡ if blockSound seg met off
-    then if eqb (u64 seg off) 1 then value (met ++ (block off (u64 seg (off + 8)) ∷ [])) else freeBlocks fuel seg (u64 seg off) (met ++ (block off (u64 seg (off + 8)) ∷ []))
+    then if eqb (u64 seg off) 1 then value (met ++ (block off (u64 seg (off + 8)) ∷ [])) else freeBlocks fuel seg (u64 seg off)
+    (met ++ (block off (u64 seg (off + 8)) ∷ []))
     else answer 9
 unfolding freeBlocks blockSound allHold _>>=_
-free-step fuel seg off met = go (leb (off + 16) (length seg)) (leb 16 (u64 seg (off + 8))) (leb (off + u64 seg (off + 8)) (length seg)) (not (overlapsAny met off (u64 seg (off + 8)))) _
+free-step fuel seg off met =
+    go (leb (off + 16) (length seg)) (leb 16 (u64 seg (off + 8))) (leb (off + u64 seg (off + 8)) (length seg)) (not (overlapsAny met off (u64 seg (off + 8))))
+    _
   where
-    go : (t u v w : Bool) (x : Result (List Block)) → (check t 9 >> (check u 9 >> (check v 9 >> (check w 9 >> x)))) ≡ if allHold (t ∷ u ∷ v ∷ w ∷ []) then x else answer 9
+    go : (t u v w : Bool) (x : Result (List Block)) →
+        (check t 9 >> (check u 9 >> (check v 9 >> (check w 9 >> x)))) ≡ if allHold (t ∷ u ∷ v ∷ w ∷ []) then x else answer 9
     go false u v w x = refl
     go true false v w x = refl
     go true true false w x = refl
@@ -107,7 +111,8 @@ pub free-undefined : (seg : List ℕ) (head : ℕ) → (eqb head 1 ≡ false) �
 unfolding freeList chain
 free-undefined seg head e f = rw (e, f)
 
-pub free-start : (seg : List ℕ) (head : ℕ) → (eqb head 1 ≡ false) → eqb head undefinedAddress ≡ false → freeList seg head ≡ freeBlocks (length seg - 0) seg head (chain 0 seg head)
+pub free-start : (seg : List ℕ) (head : ℕ) → (eqb head 1 ≡ false) → eqb head undefinedAddress ≡ false →
+    freeList seg head ≡ freeBlocks (length seg - 0) seg head (chain 0 seg head)
 unfolding freeList chain
 free-start seg head e f = rw (e, f, sub-zero)
 
@@ -129,7 +134,8 @@ module _ (seg : List ℕ) (head met at : ℕ) (h : met < length seg) (f : at ≡
   pub block-last : blockSound seg (chain met seg head) at ≡ true → u64 seg at ≡ 1 → freeList seg head ≡ value (chain (met + 1) seg head)
   block-last p q = step ∙ rw (p, eq-eqb (u64 seg at) 1 q)
 
-  pub block-more : blockSound seg (chain met seg head) at ≡ true → (u64 seg at ≡ 1 → ⊥) → freeList seg head ≡ freeBlocks (length seg - (met + 1)) seg (u64 seg at) (chain (met + 1) seg head)
+  pub block-more : blockSound seg (chain met seg head) at ≡ true → (u64 seg at ≡ 1 → ⊥) →
+      freeList seg head ≡ freeBlocks (length seg - (met + 1)) seg (u64 seg at) (chain (met + 1) seg head)
   block-more p q = step ∙ rw (p, ne-eqb (u64 seg at) 1 q)
 
   pub follow-more : u64 seg at ≡ follow (met + 1) seg head
@@ -139,7 +145,8 @@ module _ (seg : List ℕ) (head met at : ℕ) (h : met < length seg) (f : at ≡
   chained-more p c = rw add-one (chained-snoc met seg head c (rw (← f) (sound-fields seg (chain met seg head) at p)))
 
 -- as many blocks as the segment has bytes are too many
-pub free-long : (seg : List ℕ) (head met at : ℕ) → length seg ≤ met → freeList seg head ≡ freeBlocks (length seg - met) seg at (chain met seg head) → freeList seg head ≡ answer 9
+pub free-long : (seg : List ℕ) (head met at : ℕ) → length seg ≤ met → freeList seg head ≡ freeBlocks (length seg - met) seg at (chain met seg head) →
+    freeList seg head ≡ answer 9
 unfolding freeBlocks
 free-long seg head met at h e = let z : length seg - met ≡ 0 = omega arith in e ∙ rw z
 

@@ -33,7 +33,8 @@ module _ (l r : ℕ) where
   zero-list = padded-zeros l (l / 8) (omega arith)
 
   -- answer 0 writes the words, and any other zeros
-  pub ended-done : (n : ℕ) (list words : List ℕ) → n ≡ 0 → _≡_ {A = CReply} (record { number = 0; list = paddedBytes l list; reply = paddedBytes r words }) (ended l r n list words)
+  pub ended-done : (n : ℕ) (list words : List ℕ) → n ≡ 0 → _≡_ {A = CReply} (record { number = 0; list = paddedBytes l list; reply = paddedBytes r words })
+      (ended l r n list words)
   ended-done n list words z = rw z
 
   pub ended-refused : (n : ℕ) (list words : List ℕ) → list ≡ replicate (l / 8) 0 → (n ≡ 0 → ⊥) →
@@ -66,7 +67,8 @@ module _ {A : Type 0} (l : ℕ) (n count : ℕ) (used list : List ℕ) where
 -- The reply x of a call with this outcome, these words and a block list, of which `used` was left with the words of the room lent.
 module _ {A : Type 0} (l r n count : ℕ) (used list words : List ℕ) (o : Outcome A) (x : CReply) (h : length (left o) ≤ roomOf (l / 8))
     (e : Ends (2 * roomOf (l / 8)) o n count used × Ends (l / 8) o n count list) (g : ended l r n list words ≡ x) (bs rs : List ℕ) where
-  pub done-is : n ≡ 0 → bs ≡ paddedBytes l (take (2 * count) used) → rs ≡ paddedBytes r words → _≡_ {A = CReply} (record { number = 0; list = bs; reply = rs }) x
+  pub done-is : n ≡ 0 → bs ≡ paddedBytes l (take (2 * count) used) → rs ≡ paddedBytes r words →
+      _≡_ {A = CReply} (record { number = 0; list = bs; reply = rs }) x
   done-is z p q = rw (p, q, list-same l n count used list o h (e .0) (e .1)) (ended-done l r n list words z ∙ g)
 
   pub refused-is : (n ≡ 0 → ⊥) → bs ≡ replicate l 0 → rs ≡ replicate r 0 → _≡_ {A = CReply} (record { number = n; list = bs; reply = rs }) x

@@ -30,7 +30,8 @@ module _ {A : Type 0} (im : List ℕ) (k : ℕ) (last : ℕ → Walk A) (x : Out
         (run-grown im (s .endOfFile) (roomOf k) (componentWalk s p (isEmpty ps) at) [] (omega arith) .fits)
         (λ a. follow-fits s ps a)
       where
-        go : (o : Outcome Target) → length (left o) ≤ roomOf k → ((a : ℕ) → length (left (follow im s (roomOf k) last x ps a)) ≤ roomOf k) → length (left (andThen o (λ t bs. fromTarget t (λ a. follow im s (roomOf k) last x ps a) x))) ≤ roomOf k
+        go : (o : Outcome Target) → length (left o) ≤ roomOf k → ((a : ℕ) → length (left (follow im s (roomOf k) last x ps a)) ≤ roomOf k) →
+            length (left (andThen o (λ t bs. fromTarget t (λ a. follow im s (roomOf k) last x ps a) x))) ≤ roomOf k
         go (done (object a) bs) g f = f a
         go (done symbolic bs) g f = h
         go (refused n bs) g f = g

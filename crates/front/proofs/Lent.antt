@@ -45,7 +45,8 @@ length-blockWords [] = refl
 length-blockWords (b ∷ bs) = omega (arith, length-blockWords bs)
 
 -- the used words of the list lent, and the whole list, are the same bytes
-pub list-bytes : (l : ℕ) (bs : List Block) → length bs ≤ roomOf (l / 8) → paddedBytes l (take (2 * length bs) (blockList (2 * roomOf (l / 8)) bs)) ≡ paddedBytes l (blockList (l / 8) bs)
+pub list-bytes : (l : ℕ) (bs : List Block) → length bs ≤ roomOf (l / 8) →
+    paddedBytes l (take (2 * length bs) (blockList (2 * roomOf (l / 8)) bs)) ≡ paddedBytes l (blockList (l / 8) bs)
 list-bytes l bs h =
     let n : length (blockWords bs) ≡ 2 * length bs = length-blockWords bs in
     let t : take (2 * length bs) (blockList (2 * roomOf (l / 8)) bs) ≡ blockWords bs =

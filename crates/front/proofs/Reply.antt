@@ -49,7 +49,8 @@ put-next b b′ b″ vs a at w e h f =
     f ∙ rw (e, wordBytes-append vs (w ∷ []), wordBytes-one w, overwrite-append b a (wordBytes vs) (toBytes 8 w), n)
 
 -- words written one after the other: the next of them, and all
-pub put-more : (b b′ b″ ws : List ℕ) (a i : ℕ) → b′ ≡ overwrite b a (wordBytes (take i ws)) → i < length ws → b″ ≡ overwrite b′ (a + 8 * i) (toBytes 8 (getD ws i 0)) →
+pub put-more : (b b′ b″ ws : List ℕ) (a i : ℕ) → b′ ≡ overwrite b a (wordBytes (take i ws)) → i < length ws →
+    b″ ≡ overwrite b′ (a + 8 * i) (toBytes 8 (getD ws i 0)) →
     b″ ≡ overwrite b a (wordBytes (take (i + 1) ws))
 put-more b b′ b″ ws a i e h f =
     let n : length (take i ws) ≡ i = length-take-le i ws (omega arith) in
@@ -59,8 +60,10 @@ pub put-all : (b b′ ws : List ℕ) (a i : ℕ) → b′ ≡ overwrite b a (wor
 put-all b b′ ws a i e h = rw (take-all i ws h) at e
 
 -- the words of a description: two, then the sizes and the maxima of 32 dimensions, then eight, and zeros behind them
-pub description-bytes : (b b₁ b₂ b₃ b₄ b₅ : List ℕ) (u v : ℕ) (sizes maxima last : List ℕ) → length sizes ≡ 32 → length maxima ≡ 32 → length last ≡ 8 → 592 ≤ length b →
-    b₁ ≡ overwrite b 0 (wordBytes (u ∷ v ∷ [])) → b₂ ≡ overwrite b₁ 16 (wordBytes sizes) → b₃ ≡ overwrite b₂ 272 (wordBytes maxima) → b₄ ≡ overwrite b₃ 528 (wordBytes last) →
+pub description-bytes : (b b₁ b₂ b₃ b₄ b₅ : List ℕ) (u v : ℕ) (sizes maxima last : List ℕ) → length sizes ≡ 32 → length maxima ≡ 32 → length last ≡ 8 →
+    592 ≤ length b →
+    b₁ ≡ overwrite b 0 (wordBytes (u ∷ v ∷ [])) → b₂ ≡ overwrite b₁ 16 (wordBytes sizes) → b₃ ≡ overwrite b₂ 272 (wordBytes maxima) →
+    b₄ ≡ overwrite b₃ 528 (wordBytes last) →
     b₅ ≡ take 592 b₄ ++ replicate (length b₄ - 592) 0 → b₅ ≡ paddedBytes (length b) (u ∷ v ∷ (sizes ++ maxima ++ last))
 description-bytes b b₁ b₂ b₃ b₄ b₅ u v sizes maxima last m n k h e₁ e₂ e₃ e₄ e₅ =
     let l₁ : length b₁ ≡ length b = rw e₁ (length-overwrite b 0 (wordBytes (u ∷ v ∷ []))) in

@@ -1,6 +1,7 @@
 // The audit on byte slices.
 use format::BLOCKS_MOST;
 use format::OBJECTS_MOST;
+use format::answers;
 ghost use mathlib.Core.Path.{_≡_};
 ghost use mathlib.Core.List.{[], _∷_};
 ghost use Prim.Native.Nat.{_+_, _≤_};
@@ -30,7 +31,8 @@ fn write_reply(
     true_counts: &[u32],
 )
     requires { ⌜ Roomy (length (now reply)) objects (now addresses) (now stored) (now «true_counts») ⌝ }
-    ensures { λ _. ⌜ now (reply .exit) ≡ paddedBytes (length (now (reply .entry))) («block_count» ∷ objects ∷ objectWords (countedPlaces objects (now (addresses .entry)) (now (stored .entry)) (now («true_counts» .entry)))) ⌝ }
+    ensures { λ _. ⌜ now (reply .exit) ≡ paddedBytes (length (now (reply .entry)))
+        («block_count» ∷ objects ∷ objectWords (countedPlaces objects (now (addresses .entry)) (now (stored .entry)) (now («true_counts» .entry)))) ⌝ }
 {
     words::put_word(reply, 0, block_count as u64);
     words::put_word(reply, 8, objects as u64);
@@ -44,7 +46,8 @@ fn write_reply(
 
 // The audit of an image. `blocks` gets the block list, `reply` the other fields; the number is returned.
 pub fn audit_bytes(image: &[u8], blocks: &mut [u8], reply: &mut [u8]) -> u32
-    ensures { λ r. ⌜ _≡_ {A = CReply} (record { number = r; list = now (blocks .exit); reply = now (reply .exit) }) (cAudit (now (image .entry)) (length (now (blocks .entry))) (length (now (reply .entry)))) ⌝ }
+    ensures { λ r. ⌜ _≡_ {A = CReply} (record { number = r; list = now (blocks .exit); reply = now (reply .exit) })
+        (cAudit (now (image .entry)) (length (now (blocks .entry))) (length (now (reply .entry)))) ⌝ }
 {
     let limits = format::the_limits();
     if reply.len() / 8 < 2 + 3 * limits.objects_most {
@@ -63,7 +66,7 @@ pub fn audit_bytes(image: &[u8], blocks: &mut [u8], reply: &mut [u8]) -> u32
         &mut stored,
         &mut true_counts,
     );
-    if r.number != 0 {
+    if r.number != answers::DONE {
         front::clear_both(blocks, reply);
         return r.number as u32;
     }

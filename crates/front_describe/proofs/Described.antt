@@ -72,8 +72,12 @@ module _ (im path : List ℕ) (l r : ℕ) where
 
     pub done-reply : (list reply : List ℕ) → 10 + 2 * rankMost ≤ r / 8 → a .number ≡ 0 → list ≡ paddedBytes l (take (2 * a .«block_count») ws) →
         reply ≡ paddedBytes r (descriptionWords (replyOf [] a)) → _≡_ {A = CReply} (record { number = 0; list = list; reply = reply }) (cDescribe im path l r)
-    done-reply list reply h = done-is l r (a .number) (a .«block_count») ws whole (descriptionWords (replyOf [] a)) outcome _ (run-fits im path (l / 8)) both (described h) list reply
+    done-reply list reply h =
+        done-is l r (a .number) (a .«block_count») ws whole (descriptionWords (replyOf [] a)) outcome _ (run-fits im path (l / 8)) both (described h) list
+        reply
 
     pub refused-reply : (list reply : List ℕ) → 10 + 2 * rankMost ≤ r / 8 → (a .number ≡ 0 → ⊥) → list ≡ replicate l 0 → reply ≡ replicate r 0 →
         _≡_ {A = CReply} (record { number = a .number; list = list; reply = reply }) (cDescribe im path l r)
-    refused-reply list reply h = refused-is l r (a .number) (a .«block_count») ws whole (descriptionWords (replyOf [] a)) outcome _ (run-fits im path (l / 8)) both (described h) list reply
+    refused-reply list reply h =
+        refused-is l r (a .number) (a .«block_count») ws whole (descriptionWords (replyOf [] a)) outcome _ (run-fits im path (l / 8)) both (described h) list
+        reply

@@ -1,6 +1,7 @@
 // The description of a dataset on byte slices.
 use describe::Description;
 use format::BLOCKS_MOST;
+use format::answers;
 ghost use mathlib.Core.Path.{_≡_};
 ghost use mathlib.Core.List.{[]};
 ghost use Prim.Native.Nat.{_+_, _*_, _≤_};
@@ -48,7 +49,8 @@ fn write_description(reply: &mut [u8], d: Description)
 
 // The description of what a path leads to. `blocks` gets the block list, `reply` the other fields; the number is returned.
 pub fn describe_bytes(image: &[u8], path: &[u8], blocks: &mut [u8], reply: &mut [u8]) -> u32
-    ensures { λ r. ⌜ _≡_ {A = CReply} (record { number = r; list = now (blocks .exit); reply = now (reply .exit) }) (cDescribe (now (image .entry)) (now (path .entry)) (length (now (blocks .entry))) (length (now (reply .entry)))) ⌝ }
+    ensures { λ r. ⌜ _≡_ {A = CReply} (record { number = r; list = now (blocks .exit); reply = now (reply .exit) })
+        (cDescribe (now (image .entry)) (now (path .entry)) (length (now (blocks .entry))) (length (now (reply .entry)))) ⌝ }
 {
     let limits = format::the_limits();
     if reply.len() / 8 < 10 + 2 * limits.rank_most {
@@ -58,7 +60,7 @@ pub fn describe_bytes(image: &[u8], path: &[u8], blocks: &mut [u8], reply: &mut 
     let mut list = [0u64; 2 * BLOCKS_MOST];
     let n = 2 * walk::blocks::room(blocks.len() / 8);
     let r = describe::describe(image, path, &mut list[..n]);
-    if r.number != 0 {
+    if r.number != answers::DONE {
         front::clear_both(blocks, reply);
         return r.number as u32;
     }

@@ -21,7 +21,8 @@ run-room im path k = path-room im k locateWalk _ (parsePath path)
 
 -- Slices of l and r bytes.
 module _ (im path : List ℕ) (l r : ℕ) where
-  pub short-reply : (list reply : List ℕ) → r / 8 < 3 → list ≡ replicate l 0 → reply ≡ replicate r 0 → _≡_ {A = CReply} (record { number = 13; list = list; reply = reply }) (cLookup im path l r)
+  pub short-reply : (list reply : List ℕ) → r / 8 < 3 → list ≡ replicate l 0 → reply ≡ replicate r 0 →
+      _≡_ {A = CReply} (record { number = 13; list = list; reply = reply }) (cLookup im path l r)
   unfolding cLookup
   short-reply list reply = too-short l r 3 _ list reply
 

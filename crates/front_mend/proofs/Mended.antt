@@ -1,57 +1,29 @@
 -- The reply in C of a mending with the words lent that its room and its log need.
 use Prim.Native.Nat.{ℕ, zero, suc, _*_, _/_, _-_, _≤_, _<_, min}
-use mathlib.Core.Path.{_≡_, refl, sym, ap, _∙_}
+use mathlib.Core.Path.{_≡_, refl, sym, _∙_}
 use mathlib.Core.Bool.{Bool, true, false}
-use mathlib.Core.List.{List, [], _∷_, flatten}
+use mathlib.Core.List.{List, [], _∷_}
 use native.Mathlib.Omega.{arith}
 use borrow.Author.Tests.{le-leb, lt-leb, leb-true, leb-false}
 use lib.ListN.{length, take, replicate}
 use lib.Seq.{take-at, length-take-le}
-use lib.Dec.{leb, eqb}
+use lib.Dec.{leb}
 use Rattle.format.specs.Limits.{objectsMost}
 use Rattle.format.specs.Bytes.{if_then_else_, padded}
-use Rattle.format.specs.Blocks.{Block, roomOf, blockList}
+use Rattle.format.specs.Blocks.{roomOf, blockList}
 use Rattle.format.specs.Walk.{answerOf, Outcome, done, refused}
-use Rattle.format.specs.Ledger.{Linked, linked}
+use Rattle.format.specs.Ledger.{Linked}
 use Rattle.format.specs.Audit.{Counted, countedIn, auditRun}
 use Rattle.format.specs.Log.{Change, logWords}
 use Rattle.format.specs.Mend.{corrections}
 use Rattle.format.specs.Answers.{AuditReply, MendReply, auditEnd, audit, notMended, mendedBy, mendAfter, mend}
 use Rattle.format.specs.Front.{paddedBytes, ifDone, CMend, cMendEnd, cMend}
 use Rattle.walk.specs.Lent.{left}
-use Rattle.walk.proofs.BlockList.{room-most}
 use Rattle.words.proofs.Words.{padded-twice, padded-zeros}
-use Rattle.ledger.proofs.LedgerLaws.{count-most}
-use Rattle.links.proofs.Counting.{counting-keeps}
-use Rattle.links.proofs.AllCounted.{all-counted}
-use Rattle.links.proofs.AuditSound.{audit-opened}
-use Rattle.mend.proofs.LogLaws.{length-logWords}
+use Rattle.undo_log.proofs.LogLaws.{length-logWords}
 use Rattle.front.proofs.Lent.{list-bytes}
 use Rattle.front.proofs.Ended.{zero-list}
 use Rattle.front.proofs.AuditRoom.{run-room, run-fits}
-
--- an audit that is done has found no more objects than the limit
-objects-most : (im : List ℕ) (k : ℕ) (os : List Linked) (bs : List Block) → auditRun im k ≡ done os bs → length os ≤ objectsMost
-unfolding objectsMost
-objects-most im k os bs e =
-    let o = audit-opened im k os bs e in
-    let c = all-counted im (roomOf k) (o .0) (room-most k) os bs (o .2) in
-    counting-keeps (λ (ps : List Linked). length ps ≤ objectsMost) count-most (flatten (c .0)) (linked (o .0 .root) 1 ∷ []) os (c .2) (omega arith)
-
-length-counted : (im : List ℕ) (os : List Linked) → length (countedIn im os) ≡ length os
-unfolding countedIn
-length-counted im [] = refl
-length-counted im (o ∷ os) = ap suc (length-counted im os)
-
--- no more entries than objects
-corrections-most : (os : List Counted) → length (corrections os) ≤ length os
-unfolding corrections
-corrections-most [] = omega arith
-corrections-most (o ∷ os) = go (eqb (o .storedCount) (o .trueCount)) _ (corrections-most os)
-  where
-    go : (t : Bool) (c : Change) → length (corrections os) ≤ length os → length (if t then corrections os else c ∷ corrections os) ≤ suc (length os)
-    go true c h = omega arith
-    go false c h = omega arith
 
 -- the words of the log that are lent, of so many
 abbrev pub logRoom : ℕ → ℕ
@@ -112,7 +84,7 @@ module _ (im : List ℕ) (l g r n : ℕ) where
 
   -- Two audits that differ in their lists alone, of which the used words are the same bytes.
   module _ (lent count : ℕ) (os : List Counted) (list list′ : List ℕ) (fits : count ≤ roomOf (l / 8))
-      (same : paddedBytes l (take (2 * count) list) ≡ paddedBytes l list′) (most : length os ≤ objectsMost) where
+      (same : paddedBytes l (take (2 * count) list) ≡ paddedBytes l list′) (most : length (corrections os) ≤ objectsMost) where
     abbrev with-list : ℕ → List ℕ → AuditReply
     with-list number ws = record { number = number; blockCount = count; objects = os; list = ws }
 
@@ -122,7 +94,8 @@ module _ (im : List ℕ) (l g r n : ℕ) where
     abbrev ending : Bool → ℕ → ℕ → ℕ → List ℕ → MendReply
     ending t m k number ws = if t then mendedBy im k (with-list number ws) wrong (min n (length wrong)) else notMended im m k 18
 
-    ends-alike : (number : ℕ) (t : Bool) → (t ≡ true → 2 * length wrong ≤ logRoom (g / 8)) → Taken l g r (ending t lent (logRoom (g / 8)) number list) (ending t (l / 8) (g / 8) number list′)
+    ends-alike : (number : ℕ) (t : Bool) → (t ≡ true → 2 * length wrong ≤ logRoom (g / 8)) →
+        Taken l g r (ending t lent (logRoom (g / 8)) number list) (ending t (l / 8) (g / 8) number list′)
     ends-alike number true h = record {
       blocksFit = omega arith;
       entriesFit = h refl;
@@ -138,9 +111,10 @@ module _ (im : List ℕ) (l g r n : ℕ) where
       where
         go : (t : Bool) → leb (2 * length wrong) (logRoom (g / 8)) ≡ t → leb (2 * length wrong) (g / 8) ≡ t
         go true e = le-leb (2 * length wrong) (g / 8) (omega (arith, leb-true (2 * length wrong) (logRoom (g / 8)) e))
-        go false e = lt-leb (2 * length wrong) (g / 8) (omega (arith, leb-false (2 * length wrong) (logRoom (g / 8)) e, corrections-most os))
+        go false e = lt-leb (2 * length wrong) (g / 8) (omega (arith, leb-false (2 * length wrong) (logRoom (g / 8)) e))
 
-    after-alike : (number given : ℕ) → Taken l g r (mendAfter im lent (logRoom (g / 8)) n number (with-list given list)) (mendAfter im (l / 8) (g / 8) n number (with-list given list′))
+    after-alike : (number given : ℕ) →
+        Taken l g r (mendAfter im lent (logRoom (g / 8)) n number (with-list given list)) (mendAfter im (l / 8) (g / 8) n number (with-list given list′))
     after-alike zero given = rw tests-alike (ends-alike given (leb (2 * length wrong) (logRoom (g / 8))) (leb-true _ _))
     after-alike (suc number) given = not-mended lent number
 
@@ -148,17 +122,27 @@ module _ (im : List ℕ) (l g r n : ℕ) where
   abbrev mendEnd : ℕ → ℕ → Outcome (List Linked) → MendReply
   mendEnd lent logLent o = mendAfter im lent logLent n (auditEnd im lent o .number) (auditEnd im lent o)
 
-  end-taken : (o : Outcome (List Linked)) → auditRun im (l / 8) ≡ o → length (left o) ≤ roomOf (l / 8) →
+  -- no more wrong counts than objects, where the audit is done
+  abbrev Most : AuditReply → Type 0
+  Most a = a .number ≡ 0 → length (corrections (a .objects)) ≤ objectsMost
+
+  end-taken : (o : Outcome (List Linked)) → Most (auditEnd im (2 * roomOf (l / 8)) o) → length (left o) ≤ roomOf (l / 8) →
       Taken l g r (mendEnd (2 * roomOf (l / 8)) (logRoom (g / 8)) o) (mendEnd (l / 8) (g / 8) o)
-  end-taken (done os bs) e h =
-      after-alike (2 * roomOf (l / 8)) (length bs) (countedIn im os) (blockList (2 * roomOf (l / 8)) bs) (blockList (l / 8) bs) h (list-bytes l bs h) (omega (arith, length-counted im os, objects-most im (l / 8) os bs e)) 0 0
-  end-taken (refused m bs) e h =
-      after-alike (2 * roomOf (l / 8)) 0 [] (replicate (2 * roomOf (l / 8)) 0) (replicate (l / 8) 0) (omega arith) (no-words l) (omega arith) (answerOf m) (answerOf m)
+  unfolding corrections
+  end-taken (done os bs) m h =
+      after-alike (2 * roomOf (l / 8)) (length bs) (countedIn im os) (blockList (2 * roomOf (l / 8)) bs) (blockList (l / 8) bs) h
+      (list-bytes l bs h) (m refl) 0 0
+  end-taken (refused x bs) m h =
+      after-alike (2 * roomOf (l / 8)) 0 [] (replicate (2 * roomOf (l / 8)) 0) (replicate (l / 8) 0) (omega arith) (no-words l) (omega arith) (answerOf x)
+      (answerOf x)
 
   -- what the mending returned and left, with these words lent
-  pub taken : (lent logLent : ℕ) (x : MendReply) → lent ≡ 2 * roomOf (l / 8) → logLent ≡ logRoom (g / 8) → x ≡ mend im lent logLent n → Taken l g r x (mend im (l / 8) (g / 8) n)
+  pub taken : (lent logLent : ℕ) (x : MendReply) → lent ≡ 2 * roomOf (l / 8) → logLent ≡ logRoom (g / 8) → x ≡ mend im lent logLent n → Most (audit im lent) →
+      Taken l g r x (mend im (l / 8) (g / 8) n)
   unfolding mend audit
-  taken lent logLent x p q e = rw (e, p, q, run-room im (l / 8)) (end-taken (auditRun im (l / 8)) refl (run-fits im (l / 8)))
+  taken lent logLent x p q e m =
+      let k = rw (p, run-room im (l / 8)) at m in
+      rw (e, p, q, run-room im (l / 8)) (end-taken (auditRun im (l / 8)) k (run-fits im (l / 8)))
 
   pub short-reply : (list log reply : List ℕ) → r / 8 < 3 → list ≡ replicate l 0 → log ≡ replicate g 0 → reply ≡ replicate r 0 →
       _≡_ {A = CMend} (record { number = 13; list = list; log = log; reply = reply; image = im }) (cMend im l g r n)
@@ -170,8 +154,10 @@ module _ (im : List ℕ) (l g r n : ℕ) where
     unfolding cMend
     mended = rw (le-leb 3 (r / 8) h) (t .bytes)
 
-    pub done-reply : (list log reply : List ℕ) → x .number ≡ 0 → list ≡ paddedBytes l (take (2 * x .blockCount) (x .list)) → log ≡ paddedBytes g (take (2 * x .entries) (x .log)) →
-        reply ≡ paddedBytes r (x .blockCount ∷ x .entries ∷ x .writes ∷ []) → _≡_ {A = CMend} (record { number = 0; list = list; log = log; reply = reply; image = x .image }) (cMend im l g r n)
+    pub done-reply : (list log reply : List ℕ) → x .number ≡ 0 → list ≡ paddedBytes l (take (2 * x .blockCount) (x .list)) →
+        log ≡ paddedBytes g (take (2 * x .entries) (x .log)) →
+        reply ≡ paddedBytes r (x .blockCount ∷ x .entries ∷ x .writes ∷ []) →
+        _≡_ {A = CMend} (record { number = 0; list = list; log = log; reply = reply; image = x .image }) (cMend im l g r n)
     done-reply list log reply z e f k = first ∙ mended
       where
         first : _≡_ {A = CMend} (record { number = 0; list = list; log = log; reply = reply; image = x .image }) (used l g r x)

@@ -1,6 +1,7 @@
 // Mending on byte slices.
 use format::BLOCKS_MOST;
 use format::OBJECTS_MOST;
+use format::answers;
 ghost use mathlib.Core.Path.{_≡_};
 ghost use Prim.Native.Nat.{_*_, min};
 ghost use lib.ListN.{length, replicate};
@@ -40,7 +41,10 @@ pub fn mend_bytes(
     reply: &mut [u8],
     limit: u64,
 ) -> u32
-    ensures { λ r. ⌜ _≡_ {A = CMend} (record { number = r; list = now (blocks .exit); log = now (log .exit); reply = now (reply .exit); image = now (image .exit) }) (cMend (now (image .entry)) (length (now (blocks .entry))) (length (now (log .entry))) (length (now (reply .entry))) limit) ⌝ }
+    ensures { λ r.
+        ⌜ _≡_ {A = CMend}
+        (record { number = r; list = now (blocks .exit); log = now (log .exit); reply = now (reply .exit); image = now (image .exit) })
+        (cMend (now (image .entry)) (length (now (blocks .entry))) (length (now (log .entry))) (length (now (reply .entry))) limit) ⌝ }
 {
     if reply.len() / 8 < REPLY_WORDS {
         clear_all(blocks, log, reply);
@@ -51,7 +55,7 @@ pub fn mend_bytes(
     let n = 2 * walk::blocks::room(blocks.len() / 8);
     let m = log_room(log.len() / 8);
     let r = mend::mend(image, &mut list[..n], &mut entries[..m], limit);
-    if r.number != 0 {
+    if r.number != answers::DONE {
         clear_all(blocks, log, reply);
         return r.number as u32;
     }

@@ -24,9 +24,12 @@ use Rattle.group.proofs.Visits.{group-follows}
 count-last : (es : List Entry) (e : Entry) (os : List Linked) → countEntries (es ++ (e ∷ [])) os ≡ countEntries es os >>= discover e
 unfolding countEntries
 count-last [] e os = bind-value (discover e os) ∙ sym (value-bind os (discover e))
-count-last (x ∷ es) e os = ap (λ (f : List Linked → Result (List Linked)). discover x os >>= f) (fun-ext λ os′. count-last es e os′) ∙ sym (bind-assoc (discover x os) (countEntries es) (discover e))
+count-last (x ∷ es) e os =
+    ap (λ (f : List Linked → Result (List Linked)). discover x os >>= f) (fun-ext λ os′. count-last es e os′) ∙ sym
+    (bind-assoc (discover x os) (countEntries es) (discover e))
 
-pub remembered-last : (name : List ℕ) (es : List Entry) (e : Entry) (l : Link) → remembered name (es ++ (e ∷ [])) l ≡ (if sameBytes (e .name) name then linkTo e else remembered name es l)
+pub remembered-last : (name : List ℕ) (es : List Entry) (e : Entry) (l : Link) →
+    remembered name (es ++ (e ∷ [])) l ≡ (if sameBytes (e .name) name then linkTo e else remembered name es l)
 unfolding remembered
 remembered-last name [] e l = refl
 remembered-last name (x ∷ es) e l = remembered-last name es e _
@@ -62,7 +65,8 @@ audit-entries leafK internalK tree heap os =
 module _ (im : List ℕ) (eof room leafK internalK tree heap : ℕ) (bs : List Block) where
   -- a lookup, from the group's entries: it is sound with the same blocks, and remembers what they say of the name
   pub entries-lookup : (name : List ℕ) →
-      Ran false (λ es l. (last : List ℕ) × (l ≡ remembered name es absent)) (run im eof room (entriesWalk leafK internalK tree heap) bs) (run im eof room (groupWalk leafK internalK tree heap (compareName name) absent) bs)
+      Ran false (λ es l. (last : List ℕ) × (l ≡ remembered name es absent)) (run im eof room (entriesWalk leafK internalK tree heap) bs)
+      (run im eof room (groupWalk leafK internalK tree heap (compareName name) absent) bs)
   unfolding entriesWalk keepEntry remembered compareName
   entries-lookup name =
       follows-run _ false im eof room _ _ bs
@@ -71,7 +75,8 @@ module _ (im : List ℕ) (eof room leafK internalK tree heap : ℕ) (bs : List B
 
   -- the code's visit, with which the audit's part of what is found is the audit's, and a lookup's part the lookup's
   pub audit-part : (wanted : List ℕ) (l : Link) (os : List Linked) →
-      Ran true (λ x b. (last : List ℕ) × (b ≡ record { ledger = x; link = l })) (run im eof room (groupWalk leafK internalK tree heap discover os) bs) (run im eof room (groupWalk leafK internalK tree heap (visitBoth true wanted) (record { ledger = os; link = l })) bs)
+      Ran true (λ x b. (last : List ℕ) × (b ≡ record { ledger = x; link = l })) (run im eof room (groupWalk leafK internalK tree heap discover os) bs)
+      (run im eof room (groupWalk leafK internalK tree heap (visitBoth true wanted) (record { ledger = os; link = l })) bs)
   unfolding visitBoth
   audit-part wanted l os =
       follows-run _ true im eof room _ _ bs
@@ -79,7 +84,9 @@ module _ (im : List ℕ) (eof room leafK internalK tree heap : ℕ) (bs : List B
       (λ e last x b at c r. rw r (follows-map true (λ (y : List Linked). record { ledger = y; link = l }) at (discover e x))) tree heap os _ refl)
 
   pub lookup-part : (wanted : List ℕ) (l : Link) (os : List Linked) →
-      Ran true (λ x b. (last : List ℕ) × (b ≡ record { ledger = os; link = x })) (run im eof room (groupWalk leafK internalK tree heap (compareName wanted) l) bs) (run im eof room (groupWalk leafK internalK tree heap (visitBoth false wanted) (record { ledger = os; link = l })) bs)
+      Ran true (λ x b. (last : List ℕ) × (b ≡ record { ledger = os; link = x }))
+      (run im eof room (groupWalk leafK internalK tree heap (compareName wanted) l) bs)
+      (run im eof room (groupWalk leafK internalK tree heap (visitBoth false wanted) (record { ledger = os; link = l })) bs)
   unfolding visitBoth
   lookup-part wanted l os =
       follows-run _ true im eof room _ _ bs
@@ -87,12 +94,14 @@ module _ (im : List ℕ) (eof room leafK internalK tree heap : ℕ) (bs : List B
       (λ e last x b at c r. rw r (follows-map true (λ (y : Link). record { ledger = os; link = y }) at (compareName wanted e x))) tree heap l _ refl)
 
   -- the names of a sound group rise strictly
-  pub entries-rise : Ran false (λ es l. (last : List ℕ) × (Rising es × ((n : List ℕ) → below last n ≡ true → AllBelow es n))) (run im eof room (entriesWalk leafK internalK tree heap) bs) (run im eof room (entriesWalk leafK internalK tree heap) bs)
+  pub entries-rise : Ran false (λ es l. (last : List ℕ) × (Rising es × ((n : List ℕ) → below last n ≡ true → AllBelow es n)))
+      (run im eof room (entriesWalk leafK internalK tree heap) bs) (run im eof room (entriesWalk leafK internalK tree heap) bs)
   unfolding entriesWalk keepEntry Rising AllBelow
   entries-rise =
       follows-run _ false im eof room _ _ bs
       (group-follows false leafK internalK keepEntry keepEntry (λ last es l. Rising es × ((n : List ℕ) → below last n ≡ true → AllBelow es n))
-      (λ e last es l at b r. follows-ret false _ _ _ (rising-last es e (r .0) (r .1 (e .name) b), λ n c. below-last es e n (r .1 (e .name) b) c)) tree heap [] [] (tt, λ n c. tt))
+      (λ e last es l at b r. follows-ret false _ _ _ (rising-last es e (r .0) (r .1 (e .name) b), λ n c. below-last es e n (r .1 (e .name) b) c)) tree heap []
+      [] (tt, λ n c. tt))
 
 -- a name that no entry has isn't remembered
 pub not-remembered : (name : List ℕ) (es : List Entry) (l : Link) → NoneNamed name es → remembered name es l ≡ l
@@ -117,7 +126,10 @@ above-none e [] h = tt
 above-none e (x ∷ es) h = (different (e .name) (x .name) (h .0), above-none e es (h .1))
 
 -- where names rise, a name is remembered as the one entry that has it
-pub remembered-entry : (before after : List Entry) (e : Entry) (l : Link) → Rising (before ++ (e ∷ after)) → remembered (e .name) (before ++ (e ∷ after)) l ≡ linkTo e
+pub remembered-entry : (before after : List Entry) (e : Entry) (l : Link) → Rising (before ++ (e ∷ after)) →
+    remembered (e .name) (before ++ (e ∷ after)) l ≡ linkTo e
 unfolding remembered Rising
-remembered-entry [] after e l r = ap (λ (t : Bool). remembered (e .name) after (if t then linkTo e else l)) (same-refl (e .name)) ∙ not-remembered (e .name) after (linkTo e) (above-none e after (r .0))
+remembered-entry [] after e l r =
+    ap (λ (t : Bool). remembered (e .name) after (if t then linkTo e else l)) (same-refl (e .name)) ∙ not-remembered (e .name) after (linkTo e)
+    (above-none e after (r .0))
 remembered-entry (x ∷ before) after e l r = remembered-entry before after e _ (r .1)

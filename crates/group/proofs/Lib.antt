@@ -1,4 +1,3 @@
-pub mod TreeLaws
 pub mod GroupLaws
 pub mod Visits
 pub mod Entries

@@ -7,8 +7,7 @@ use Rattle.format.specs.Limits.{blocksMost}
 use Rattle.format.specs.Walk.{run}
 use Rattle.format.specs.Tree.{groupWalk}
 use Rattle.walk.specs.Lent.{blocksOf, lengthSum, Lent, Ended, ended, stopped, Walked}
-use Rattle.laws.proofs.Disjoint.{Fresh}
-use Rattle.laws.proofs.Growth.{Inside}
+use Rattle.laws.specs.Blocks.{Fresh, Inside}
 use Rattle.ledger.specs.Links.{linkSum}
 use Rattle.ledger.specs.Table.{linkedOf, Table}
 use Rattle.visit.specs.Visit.{Both, visitBoth, bothOf}
@@ -42,6 +41,8 @@ ReadyIf ws addresses counts eof room (Done s) = Ready ws addresses counts eof ro
 ReadyIf ws addresses counts eof room (Stopped r) = Unit {0}
 
 -- a group was read as its walk reads it
-pub record GroupIs (im wanted ws addresses counts : List ℕ) (eof room leafK internalK : ℕ) (auditing : Bool) (tree heap count objects : ℕ) (ws′ addresses′ counts′ : List ℕ) (r : Step) : Type 0 where
-  pub walked : Walked ws ws′ (groupEnd addresses′ counts′ r) (run im eof room (groupWalk leafK internalK tree heap (visitBoth auditing wanted) (bothOf addresses counts objects Absent)) (blocksOf count ws))
+pub record GroupIs (im wanted ws addresses counts : List ℕ) (eof room leafK internalK : ℕ) (auditing : Bool) (tree heap count objects : ℕ)
+    (ws′ addresses′ counts′ : List ℕ) (r : Step) : Type 0 where
+  pub walked : Walked ws ws′ (groupEnd addresses′ counts′ r) (run im eof room
+      (groupWalk leafK internalK tree heap (visitBoth auditing wanted) (bothOf addresses counts objects Absent)) (blocksOf count ws))
   pub ready : ReadyIf ws′ addresses′ counts′ eof room r

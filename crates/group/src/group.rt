@@ -1,13 +1,23 @@
 // A whole group: its heap, then its tree.
-use crate::tree;
 use heap::segment;
 use heap::segment::HeapRead;
 use range::Name;
 use symbol::entry::Group;
 use symbol::entry::State;
 use symbol::entry::Step;
+use tree;
 use visit::Link;
 ghost use Rattle.group.specs.Group.{Settings, Ready, GroupIs};
+
+// What every group of an image is read with: the end of file, the room for blocks and the superblock's two K. `auditing` is true for the
+// audit and false for a lookup.
+pub struct Reading {
+    pub end_of_file: u64,
+    pub room: usize,
+    pub leaf_k: u64,
+    pub internal_k: u64,
+    pub auditing: bool,
+}
 
 // The group with the tree and the heap at these addresses, for the audit or for a lookup of `wanted`.
 pub fn read(
@@ -16,20 +26,20 @@ pub fn read(
     list: &mut [u64],
     addresses: &mut [u64],
     counts: &mut [u32],
-    end_of_file: u64,
-    room: usize,
-    leaf_k: u64,
-    internal_k: u64,
-    auditing: bool,
+    reading: Reading,
     tree: u64,
     heap: u64,
     count: usize,
     objects: usize,
 ) -> Step
-    requires { ⌜ Settings (now image) «end_of_file» room «leaf_k» «internal_k» ⌝ }
-    requires { ⌜ Ready (now list) (now addresses) (now counts) «end_of_file» room count objects ⌝ }
-    ensures { λ r. ⌜ GroupIs (now (image .entry)) (now (wanted .entry)) (now (list .entry)) (now (addresses .entry)) (now (counts .entry)) «end_of_file» room «leaf_k» «internal_k» auditing tree heap count objects (now (list .exit)) (now (addresses .exit)) (now (counts .exit)) r ⌝ }
+    requires { ⌜ Settings (now image) (reading .«end_of_file») (reading .room) (reading .«leaf_k») (reading .«internal_k») ⌝ }
+    requires { ⌜ Ready (now list) (now addresses) (now counts) (reading .«end_of_file») (reading .room) count objects ⌝ }
+    ensures { λ r. ⌜ GroupIs (now (image .entry)) (now (wanted .entry)) (now (list .entry)) (now (addresses .entry)) (now (counts .entry))
+        (reading .«end_of_file») (reading .room) (reading .«leaf_k») (reading .«internal_k») (reading .auditing) tree heap count objects
+        (now (list .exit)) (now (addresses .exit)) (now (counts .exit)) r ⌝ }
 {
+    let end_of_file = reading.end_of_file;
+    let room = reading.room;
     match segment::read(image, end_of_file, list, count, room, heap) {
         HeapRead::Stopped(x) => Step::Stopped(x),
         HeapRead::Read(h, c) => {
@@ -38,11 +48,11 @@ pub fn read(
             let group = Group {
                 end_of_file,
                 room,
-                leaf_k,
-                internal_k,
+                leaf_k: reading.leaf_k,
+                internal_k: reading.internal_k,
                 head: h.head,
                 free: h.free,
-                auditing,
+                auditing: reading.auditing,
             };
             let state = State {
                 count: c,

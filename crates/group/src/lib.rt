@@ -1,3 +1,2 @@
 // One descent over a group's tree, for the audit, which discovers the objects of its entries, and for lookup, which compares their names.
 pub mod group;
-pub mod tree;

@@ -54,7 +54,8 @@ text-value (fault f) t e = let z : _≡_ {A = ℕ} 0 1 = cc in absurd (omega ari
 
 -- the first key of n + 1, then the others
 keys-more : (h : Heap) (n : ℕ) (im : List ℕ) (from m : ℕ) → 8 ≤ m →
-    keysWalk h (suc n) from (part im from m) ≡ located from (readText (keyText h (u64 im from))) >>= λ _. keysWalk h n (from + 16) (part im (from + 16) (m - 16))
+    keysWalk h (suc n) from (part im from m) ≡ located from (readText (keyText h (u64 im from))) >>= λ _. keysWalk h n (from + 16)
+    (part im (from + 16) (m - 16))
 unfolding keysWalk
 keys-more h n im from m l =
     let z : from + 0 ≡ from = omega arith in
@@ -63,7 +64,8 @@ keys-more h n im from m l =
 -- The loop over the keys: the walk of all n is the walk of those from the ith on.
 abbrev pub KeysFrom : List ℕ → List ℕ → ℕ → ℕ → ℕ → Type 0
 KeysFrom im seg from n i =
-    (h : Heap) (m : ℕ) → h .segment ≡ seg → 16 * n ≤ m + 8 → from + m ≤ length im → keysWalk h n from (part im from m) ≡ keysWalk h (n - i) (from + 16 * i) (part im (from + 16 * i) (m - 16 * i))
+    (h : Heap) (m : ℕ) → h .segment ≡ seg → 16 * n ≤ m + 8 → from + m ≤ length im →
+    keysWalk h n from (part im from m) ≡ keysWalk h (n - i) (from + 16 * i) (part im (from + 16 * i) (m - 16 * i))
 
 pub keys-start : (im seg : List ℕ) (from n : ℕ) → KeysFrom im seg from n 0
 keys-start im seg from n h m e k l =
@@ -81,7 +83,8 @@ keys-end im seg from n i f g h m e k l =
 module _ (im seg : List ℕ) (from n i : ℕ) (f : KeysFrom im seg from n i) (g : i < n) (off : ℕ) (o : off ≡ u64 im (from + 16 * i)) where
   -- the ith key, then the others
   here : (h : Heap) (m : ℕ) → h .segment ≡ seg → 16 * n ≤ m + 8 → from + m ≤ length im →
-      keysWalk h n from (part im from m) ≡ located (from + 16 * i) (readText (keyText (heapWith seg []) off)) >>= λ _. keysWalk h (n - (i + 1)) (from + 16 * (i + 1)) (part im (from + 16 * (i + 1)) (m - 16 * (i + 1)))
+      keysWalk h n from (part im from m) ≡ located (from + 16 * i) (readText (keyText (heapWith seg []) off)) >>= λ _. keysWalk h (n - (i + 1))
+      (from + 16 * (i + 1)) (part im (from + 16 * (i + 1)) (m - 16 * (i + 1)))
   here h m e k l =
       let a : n - i ≡ suc (n - (i + 1)) = omega arith in
       let b : from + 16 * i + 16 ≡ from + 16 * (i + 1) = omega arith in
@@ -91,15 +94,18 @@ module _ (im seg : List ℕ) (from n i : ℕ) (f : KeysFrom im seg from n i) (g 
       ∙ keys-more h (n - (i + 1)) im (from + 16 * i) (m - 16 * i) (omega arith)
       ∙ rw (← o, key-segment h seg off e [], b, d)
 
-  pub keys-fault : {r : _} (x : NameFault) (y : ℕ) → r ≡ Fault x → ((free : List Block) → TextRead seg off r (keyText (heapWith seg free) off)) → y ≡ faultNumber (faultOf x) → KeysAre im seg from n (Unsound (faultAt y (from + 16 * i)))
+  pub keys-fault : {r : _} (x : NameFault) (y : ℕ) → r ≡ Fault x → ((free : List Block) → TextRead seg off r (keyText (heapWith seg free) off)) →
+      y ≡ faultNumber (faultOf x) → KeysAre im seg from n (Unsound (faultAt y (from + 16 * i)))
   keys-fault x y p t q h m e k l =
       sym (here h m e k l ∙ rw (← t [] .value, p, q) (refuse-bind (faultAt _ (from + 16 * i)) _))
 
-  pub keys-next : {r : _} (size : ℕ) → r ≡ Sound size → ((free : List Block) → TextRead seg off r (keyText (heapWith seg free) off)) → KeysFrom im seg from n (i + 1)
+  pub keys-next : {r : _} (size : ℕ) → r ≡ Sound size → ((free : List Block) → TextRead seg off r (keyText (heapWith seg free) off)) →
+      KeysFrom im seg from n (i + 1)
   keys-next size p t h m e k l = here h m e k l ∙ rw (← t [] .value, p) (ret-bind _ _)
 
 -- where the walk of n keys is done, each of them is a string of the segment
-pub keys-sound : (h : Heap) (im seg : List ℕ) (n from m : ℕ) → keysWalk h n from (part im from m) ≡ ret tt → h .segment ≡ seg → 16 * n ≤ m + 8 → from + m ≤ length im → (i : ℕ) → i < n → KeyAt im seg (from + 16 * i)
+pub keys-sound : (h : Heap) (im seg : List ℕ) (n from m : ℕ) → keysWalk h n from (part im from m) ≡ ret tt → h .segment ≡ seg → 16 * n ≤ m + 8 →
+    from + m ≤ length im → (i : ℕ) → i < n → KeyAt im seg (from + 16 * i)
 keys-sound h im seg zero from m w e k l i g = absurd (omega arith)
 keys-sound h im seg (suc n) from m w e k l zero g =
     let d = both-done _ _ tt (sym (keys-more h n im from m (omega arith)) ∙ w) in
@@ -109,10 +115,6 @@ keys-sound h im seg (suc n) from m w e k l (suc i) g =
     let d = both-done _ _ tt (sym (keys-more h n im from m (omega arith)) ∙ w) in
     let z : from + 16 * suc i ≡ from + 16 + 16 * i = omega arith in
     rw z (keys-sound h im seg n (from + 16) (m - 16) (d .2) e (omega arith) (omega arith) i (omega arith))
-
--- keys that were all found sound
-pub keys-checked : (im seg : List ℕ) (from n : ℕ) → KeysAre im seg from n AllSound → from + 16 * n ≤ length im + 8 → (i : ℕ) → i < n → KeyAt im seg (from + 16 * i)
-keys-checked im seg from n k l i g = keys-sound (heapWith seg []) im seg n from (16 * n - 8) (sym (k (heapWith seg []) (16 * n - 8) refl (omega arith) (omega arith))) refl (omega arith) (omega arith) i g
 
 -- A key that is known to be a string.
 module _ (im seg : List ℕ) (at off : ℕ) (k : KeyAt im seg at) (o : off ≡ u64 im at) where

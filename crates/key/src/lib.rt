@@ -1,5 +1,6 @@
 // The keys of a tree node: strings of the heap's segment.
 use format::Refusal;
+use format::answers;
 use names::NameFault;
 use names::Text;
 use range::Name;
@@ -17,10 +18,10 @@ pub fn fault_number(fault: NameFault) -> u8
     ensures { λ r. ⌜ r ≡ faultNumber (faultOf fault) ⌝ }
 {
     match fault {
-        NameFault::Outside => 9,
-        NameFault::NoNul => 9,
-        NameFault::BadForm => 9,
-        NameFault::InFreeBlock => 9,
+        NameFault::Outside => answers::HEAP_UNSOUND,
+        NameFault::NoNul => answers::HEAP_UNSOUND,
+        NameFault::BadForm => answers::HEAP_UNSOUND,
+        NameFault::InFreeBlock => answers::HEAP_UNSOUND,
     }
 }
 

@@ -13,7 +13,8 @@ use Rattle.format.specs.Walk.{Walk, ret, refuse, fault, located, enter, stored,
 use Rattle.format.specs.Message.{Message, readMessage, ofType}
 use Rattle.format.specs.Header.{Object, Gathered, messages, continuations, headerContents, headerMessages, objectOf, Headed, headerWith, passOver, headerWalk}
 use Rattle.laws.proofs.Bind.{bind-ret}
-use Rattle.laws.proofs.Follows.{Follows, follows-bind, follows-then, follows-check, follows-if, follows-refuse, follows-ret, follows-weaker, follows-value}
+use Rattle.laws.proofs.Follows.{Follows, follows-bind, follows-then, follows-check}
+use Rattle.laws.proofs.Follows.{follows-if, follows-refuse, follows-ret, follows-weaker, follows-value}
 
 module _ {S T : Type 0} (exact : Bool) (visit : Message → S → Result S) (visit′ : Message → T → Result T)
     -- what holds between the findings

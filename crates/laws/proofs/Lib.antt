@@ -7,9 +7,11 @@ pub mod Disjoint
 pub mod Growth
 pub mod SumOfLengths
 pub mod Restart
+pub mod MoreRoom
 pub mod Agreement
 pub mod Blank
 pub mod CountFields
 pub mod Simulation
 pub mod Follows
 pub mod HeaderVisits
+pub mod Opening

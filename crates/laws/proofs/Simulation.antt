@@ -11,7 +11,8 @@ use borrow.Author.Tests.{lt-leb}
 use Rattle.format.specs.Bytes.{if_then_else_, part}
 use Rattle.format.specs.Blocks.{Block, block, overlapsAny, entryAnswer}
 use Rattle.format.specs.declared.Refusal.{Refusal}
-use Rattle.format.specs.Walk.{Kind, kindNumber, notEntered, shown, Length, stored, lengthIn, knownLength, Walk, ret, refuse, enter, enterBlock, check, _>>=_, _>>_, Outcome, done, refused, ifEntered, run, andThen}
+use Rattle.format.specs.Walk.{Kind, kindNumber, notEntered, shown, Length, stored, lengthIn, knownLength, Walk, ret, refuse}
+use Rattle.format.specs.Walk.{enter, enterBlock, check, _>>=_, _>>_, Outcome, done, refused, ifEntered, run, andThen}
 use Rattle.walk.specs.Lent.{blocksOf, Lent, Ended, ended, stopped, left, Walked, entering, entered, entryEnd}
 use Rattle.walk.specs.declared.blocks.Entry.{Entry}
 use Rattle.walk.specs.declared.blocks.Entry.the-variants.{Entered, Refused}
@@ -52,7 +53,8 @@ walked-refused ws ws′ r (done a bs) w = let z : _≡_ {A = ℕ} 0 1 = cc (w .a
 walked-refused ws ws′ r (refused q bs) w = let e : q ≡ r = cc (w .answer) in (bs, rw e refl)
 
 -- a function that stopped has stopped what follows it too
-walked-stopped : {A B : Type 0} (ws ws′ : List ℕ) (r : Refusal) (o : Outcome A) (f : A → List Block → Outcome B) → Walked ws ws′ (stopped r) o → Walked ws ws′ (stopped r) (andThen o f)
+walked-stopped : {A B : Type 0} (ws ws′ : List ℕ) (r : Refusal) (o : Outcome A) (f : A → List Block → Outcome B) → Walked ws ws′ (stopped r) o →
+    Walked ws ws′ (stopped r) (andThen o f)
 walked-stopped ws ws′ r (done b bs) f w = let z : _≡_ {A = ℕ} 0 1 = cc (w .answer) in absurd (omega arith)
 walked-stopped ws ws′ r (refused q bs) f w = let e : r ≡ q = cc (w .answer) in record { answer = ap stopped e; held = w .held; rest = w .rest }
 
@@ -111,18 +113,25 @@ module _ {im : List ℕ} {eof room : ℕ} {A : Type 0} {w₀ : Walk A} {n₀ : �
   -- the function returns, with a value or with a refusal
   pub returned : {a : A} → Simulation im eof room w₀ n₀ ws₀ (ret a) n ws → Walked ws₀ ws (ended a n) (run im eof room w₀ (blocksOf n₀ ws₀))
   unfolding run
-  returned {a} s = rw (s .sameRun) (record { answer = ap (ended a) (sym (length-blocksOf n ws)); held = rw length-blocksOf; rest = λ k h. s .rest k (rw length-blocksOf at h) })
+  returned {a} s = rw (s .sameRun) (record {
+    answer = ap (ended a) (sym (length-blocksOf n ws));
+    held = rw length-blocksOf;
+    rest = λ k h. s .rest k
+        (rw length-blocksOf at h);
+  })
 
   pub refusal : {r : Refusal} → Simulation im eof room w₀ n₀ ws₀ (refuse r) n ws → Walked ws₀ ws (stopped r) (run im eof room w₀ (blocksOf n₀ ws₀))
   unfolding run
   refusal s = rw (s .sameRun) (record { answer = refl; held = rw length-blocksOf; rest = λ k h. s .rest k (rw length-blocksOf at h) })
 
   -- a test that passed, and one that failed
-  pub passed : (t : Bool) (r : Refusal) (f : Unit {0} → Walk A) → t ≡ true → Simulation im eof room w₀ n₀ ws₀ (check t r >>= f) n ws → Simulation im eof room w₀ n₀ ws₀ (f tt) n ws
+  pub passed : (t : Bool) (r : Refusal) (f : Unit {0} → Walk A) → t ≡ true → Simulation im eof room w₀ n₀ ws₀ (check t r >>= f) n ws →
+      Simulation im eof room w₀ n₀ ws₀ (f tt) n ws
   unfolding _>>=_
   passed t r f e s = same-walk (f tt) (rw e) s
 
-  pub failed : (t : Bool) (r : Refusal) (f : Unit {0} → Walk A) → t ≡ false → Simulation im eof room w₀ n₀ ws₀ (check t r >>= f) n ws → Walked ws₀ ws (stopped r) (run im eof room w₀ (blocksOf n₀ ws₀))
+  pub failed : (t : Bool) (r : Refusal) (f : Unit {0} → Walk A) → t ≡ false → Simulation im eof room w₀ n₀ ws₀ (check t r >>= f) n ws →
+      Walked ws₀ ws (stopped r) (run im eof room w₀ (blocksOf n₀ ws₀))
   unfolding _>>=_
   failed t r f e s = refusal (same-walk (refuse r) (rw e) s)
 
@@ -130,20 +139,20 @@ module _ {im : List ℕ} {eof room : ℕ} {A : Type 0} {w₀ : Walk A} {n₀ : �
   pub chosen-then : (t : Bool) (x y : Walk A) → t ≡ true → Simulation im eof room w₀ n₀ ws₀ (if t then x else y) n ws → Simulation im eof room w₀ n₀ ws₀ x n ws
   chosen-then t x y e s = same-walk x (rw e) s
 
-  pub chosen-else : (t : Bool) (x y : Walk A) → t ≡ false → Simulation im eof room w₀ n₀ ws₀ (if t then x else y) n ws → Simulation im eof room w₀ n₀ ws₀ y n ws
-  chosen-else t x y e s = same-walk y (rw e) s
-
   -- a callee that enters no block, and whose walk is known to be done or refused
-  pub callee-value : {B : Type 0} (w : Walk B) (f : B → Walk A) (b : B) → w ≡ ret b → Simulation im eof room w₀ n₀ ws₀ (w >>= f) n ws → Simulation im eof room w₀ n₀ ws₀ (f b) n ws
+  pub callee-value : {B : Type 0} (w : Walk B) (f : B → Walk A) (b : B) → w ≡ ret b → Simulation im eof room w₀ n₀ ws₀ (w >>= f) n ws →
+      Simulation im eof room w₀ n₀ ws₀ (f b) n ws
   unfolding _>>=_
   callee-value w f b e s = same-walk (f b) (rw e) s
 
-  pub callee-refusal : {B : Type 0} (w : Walk B) (f : B → Walk A) (r : Refusal) → w ≡ refuse r → Simulation im eof room w₀ n₀ ws₀ (w >>= f) n ws → Walked ws₀ ws (stopped r) (run im eof room w₀ (blocksOf n₀ ws₀))
+  pub callee-refusal : {B : Type 0} (w : Walk B) (f : B → Walk A) (r : Refusal) → w ≡ refuse r → Simulation im eof room w₀ n₀ ws₀ (w >>= f) n ws →
+      Walked ws₀ ws (stopped r) (run im eof room w₀ (blocksOf n₀ ws₀))
   unfolding _>>=_
   callee-refusal w f r e s = refusal (same-walk (refuse r) (rw e) s)
 
   -- a block whose prefix, or whose whole, isn't inside
-  pub outside : {v : Kind} {a p : ℕ} {rest : List ℕ → ℕ} {k : List ℕ → Walk A} → eof < a + p → Simulation im eof room w₀ n₀ ws₀ (enter v a (stored p rest) k) n ws →
+  pub outside : {v : Kind} {a p : ℕ} {rest : List ℕ → ℕ} {k : List ℕ → Walk A} → eof < a + p →
+      Simulation im eof room w₀ n₀ ws₀ (enter v a (stored p rest) k) n ws →
       Walked ws₀ ws (stopped (notEntered 5 (kindNumber v) a p [])) (run im eof room w₀ (blocksOf n₀ ws₀))
   unfolding run
   outside {v} {a} {p} {rest} {k} h s =
@@ -160,7 +169,8 @@ module _ {im : List ℕ} {eof room : ℕ} {A : Type 0} {w₀ : Walk A} {n₀ : �
     pub entered-inside : (c : ℕ) → Entered c ≡ entering answer (kindNumber v) a m (blocksOf n ws) n → a + m ≤ eof
     entered-inside c p = entryAnswer-zero eof room (blocksOf n ws) a m (entered-zero (kindNumber v) a m (blocksOf n ws) answer n c p .0) .0
 
-    pub block-entered : (c : ℕ) → Entered c ≡ entering answer (kindNumber v) a m (blocksOf n ws) n → Simulation im eof room w₀ n₀ ws₀ (k (shown v (part im a m))) c ws₁
+    pub block-entered : (c : ℕ) → Entered c ≡ entering answer (kindNumber v) a m (blocksOf n ws) n →
+        Simulation im eof room w₀ n₀ ws₀ (k (shown v (part im a m))) c ws₁
     unfolding run
     block-entered c p =
         let z = entered-zero (kindNumber v) a m (blocksOf n ws) answer n c p in
@@ -180,20 +190,29 @@ module _ {im : List ℕ} {eof room : ℕ} {A : Type 0} {w₀ : Walk A} {n₀ : �
               ∙ s .rest i (omega (arith, z .1)));
         }
 
-    pub block-refused : (r : Refusal) → Refused r ≡ entering answer (kindNumber v) a m (blocksOf n ws) n → Walked ws₀ ws₁ (stopped r) (run im eof room w₀ (blocksOf n₀ ws₀))
+    pub block-refused : (r : Refusal) → Refused r ≡ entering answer (kindNumber v) a m (blocksOf n ws) n →
+        Walked ws₀ ws₁ (stopped r) (run im eof room w₀ (blocksOf n₀ ws₀))
     unfolding run
     block-refused r p =
         let z = refused-suc (kindNumber v) a m (blocksOf n ws) answer n r p in
         let w : ws₁ ≡ ws = rw (z .1) at q in
-        let e : run im eof room w₀ (blocksOf n₀ ws₀) ≡ refused (notEntered (suc (z .0)) (kindNumber v) a (knownLength im eof v a l) (blocksOf n ws)) (blocksOf n ws) =
+        let e : run im eof room w₀ (blocksOf n₀ ws₀) ≡ refused (notEntered (suc (z .0)) (kindNumber v) a (knownLength im eof v a l) (blocksOf n ws))
+        (blocksOf n ws) =
         (rw (← sized) at (s .sameRun))
-        ∙ ap (λ (y : ℕ). ifEntered y (run im eof room (k (shown v (part im a m))) (blocksOf n ws ++ (block a m ∷ []))) (λ j. refused (notEntered j (kindNumber v) a (knownLength im eof v a l) (blocksOf n ws)) (blocksOf n ws))) (z .1) in
-        rw (e, w) (record { answer = ap stopped (z .2 ∙ ap (λ (y : ℕ). notEntered (suc (z .0)) (kindNumber v) a y (blocksOf n ws)) (sym known)); held = rw length-blocksOf; rest = λ k h. s .rest k (rw length-blocksOf at h) })
+        ∙ ap (λ (y : ℕ). ifEntered y (run im eof room (k (shown v (part im a m))) (blocksOf n ws ++ (block a m ∷ [])))
+        (λ j. refused (notEntered j (kindNumber v) a (knownLength im eof v a l) (blocksOf n ws)) (blocksOf n ws))) (z .1) in
+        rw (e, w) (record {
+          answer = ap stopped (z .2 ∙ ap (λ (y : ℕ). notEntered (suc (z .0)) (kindNumber v) a y (blocksOf n ws)) (sym known));
+          held = rw
+              length-blocksOf;
+          rest = λ k h. s .rest k (rw length-blocksOf at h);
+        })
 
   -- a callee that walks w and leaves the list ws₁
   module _ (ws₁ : List ℕ) where
     -- it was the last: its return is the function's
-    pub callee-last : {w : Walk A} {r : Ended A} → Simulation im eof room w₀ n₀ ws₀ w n ws → Walked ws ws₁ r (run im eof room w (blocksOf n ws)) → Walked ws₀ ws₁ r (run im eof room w₀ (blocksOf n₀ ws₀))
+    pub callee-last : {w : Walk A} {r : Ended A} → Simulation im eof room w₀ n₀ ws₀ w n ws → Walked ws ws₁ r (run im eof room w (blocksOf n ws)) →
+        Walked ws₀ ws₁ r (run im eof room w₀ (blocksOf n₀ ws₀))
     callee-last {w} {r} s h =
         let d = run-grown im eof room w (blocksOf n ws) (rw length-blocksOf (s .lent .counted)) in
         let m : n ≤ length (left (run im eof room w (blocksOf n ws))) = omega (arith, simp (length-append, length-blocksOf) at (ap length (d .all))) in
@@ -201,11 +220,13 @@ module _ {im : List ℕ} {eof room : ℕ} {A : Type 0} {w₀ : Walk A} {n₀ : �
 
     module _ {B : Type 0} (w : Walk B) (f : B → Walk A) (s : Simulation im eof room w₀ n₀ ws₀ (w >>= f) n ws) where
       -- it stopped, and so does the function
-      pub callee-stopped : {r : Refusal} → Walked ws ws₁ (stopped r) (run im eof room w (blocksOf n ws)) → Walked ws₀ ws₁ (stopped r) (run im eof room w₀ (blocksOf n₀ ws₀))
+      pub callee-stopped : {r : Refusal} → Walked ws ws₁ (stopped r) (run im eof room w (blocksOf n ws)) →
+          Walked ws₀ ws₁ (stopped r) (run im eof room w₀ (blocksOf n₀ ws₀))
       callee-stopped {r} h = callee-last s (rw run-bind (walked-stopped ws ws₁ r (run im eof room w (blocksOf n ws)) (λ a cs. run im eof room (f a) cs) h))
 
       -- it returned a value, and the function goes on
-      pub callee-done : {b : B} {c : ℕ} → length ws₁ ≡ length ws → Walked ws ws₁ (ended b c) (run im eof room w (blocksOf n ws)) → Simulation im eof room w₀ n₀ ws₀ (f b) c ws₁
+      pub callee-done : {b : B} {c : ℕ} → length ws₁ ≡ length ws → Walked ws ws₁ (ended b c) (run im eof room w (blocksOf n ws)) →
+          Simulation im eof room w₀ n₀ ws₀ (f b) c ws₁
       callee-done {b} {c} e h =
           let o = walked-done ws ws₁ b c _ h in
           let d = run-grown im eof room w (blocksOf n ws) (rw length-blocksOf (s .lent .counted)) in
@@ -222,7 +243,8 @@ module _ {im : List ℕ} {eof room : ℕ} {A : Type 0} {w₀ : Walk A} {n₀ : �
 
 -- a function that only enters a block of m bytes
 pub one-block : (im : List ℕ) (eof room : ℕ) (v : Kind) (a m n : ℕ) (ws ws₁ : List ℕ) (r : Entry) → Lent ws n room →
-    r ≡ entering (entryAnswer eof room (blocksOf n ws) a m) (kindNumber v) a m (blocksOf n ws) n → ws₁ ≡ entered (entryAnswer eof room (blocksOf n ws) a m) ws n a m →
+    r ≡ entering (entryAnswer eof room (blocksOf n ws) a m) (kindNumber v) a m (blocksOf n ws) n →
+    ws₁ ≡ entered (entryAnswer eof room (blocksOf n ws) a m) ws n a m →
     Walked ws ws₁ (entryEnd r) (run im eof room (enterBlock v a m >> ret tt) (blocksOf n ws))
 unfolding _>>=_
 one-block im eof room v a m n ws ws₁ (Entered c) l e q = returned (block-entered m refl refl ws₁ (start im eof room (enterBlock v a m >> ret tt) n ws l) q c e)

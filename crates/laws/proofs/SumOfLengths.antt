@@ -11,8 +11,9 @@ use lib.Dec.{leb, ltb}
 use Rattle.format.specs.Bytes.{if_then_else_}
 use Rattle.format.specs.Blocks.{Block}
 use Rattle.walk.specs.Lent.{lengthSum}
-use Rattle.laws.proofs.Disjoint.{Apart, Fresh, fresh-apart, fresh-after, fresh-append, apart-none, apart-order}
-use Rattle.laws.proofs.Growth.{Inside, inside-append, Grown}
+use Rattle.laws.specs.Blocks.{Fresh, Inside}
+use Rattle.laws.proofs.Disjoint.{Apart, fresh-apart, fresh-after, fresh-append, apart-none, apart-order}
+use Rattle.laws.proofs.Growth.{inside-append, Grown}
 
 pub lengths-append : (bs cs : List Block) → lengthSum (bs ++ cs) ≡ lengthSum bs + lengthSum cs
 unfolding lengthSum

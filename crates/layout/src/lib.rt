@@ -1,4 +1,5 @@
 // The data layout message, version 3: compact or contiguous.
+use format::answers;
 use walk::numbers::u16_at;
 use walk::numbers::u64_at;
 ghost use mathlib.Core.Path.{_≡_};
@@ -25,7 +26,7 @@ fn read_compact(body: &[u8], place: usize) -> LayoutRead
 {
     let size = u16_at(body, 2);
     if (body.len() as u64) < 4 + size {
-        return LayoutRead::Refused(11);
+        return LayoutRead::Refused(answers::DATASET_UNSOUND);
     }
     let address = (place + 4) as u64;
     let layout = Layout::Compact {
@@ -40,7 +41,7 @@ fn read_contiguous(body: &[u8]) -> LayoutRead
     ensures { λ r. ⌜ layoutResult r ≡ readContiguous (now (body .entry)) ⌝ }
 {
     if body.len() < 18 {
-        return LayoutRead::Refused(11);
+        return LayoutRead::Refused(answers::DATASET_UNSOUND);
     }
     let address = u64_at(body, 2);
     let size = u64_at(body, 10);
@@ -57,13 +58,13 @@ pub fn read(body: &[u8], place: usize) -> LayoutRead
     ensures { λ r. ⌜ layoutResult r ≡ readLayout place (now (body .entry)) ⌝ }
 {
     if body.len() < 8 {
-        return LayoutRead::Refused(11);
+        return LayoutRead::Refused(answers::DATASET_UNSOUND);
     }
     if body[0] != 3 {
-        return LayoutRead::Refused(3);
+        return LayoutRead::Refused(answers::NOT_READ);
     }
     if 1 < body[1] {
-        return LayoutRead::Refused(3);
+        return LayoutRead::Refused(answers::NOT_READ);
     }
     if body[1] == 0 {
         return read_compact(body, place);

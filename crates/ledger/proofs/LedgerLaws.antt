@@ -13,7 +13,7 @@ use Rattle.format.specs.Bytes.{if_then_else_}
 use Rattle.format.specs.Result.{value, answer}
 use Rattle.format.specs.Entry.{Entry, isHard}
 use Rattle.format.specs.Ledger.{Linked, linked, inLedger, addLink, countLink, discover}
-use Rattle.ledger.specs.Links.{addressesOf, countsOf, linkSum, linksTo, oneFor, Distinct}
+use Rattle.ledger.specs.Links.{addressesOf, linkSum, linksTo, oneFor, Distinct}
 
 -- What a link to an address comes to, by what the ledger holds.
 module _ (a : ℕ) (os : List Linked) where
@@ -88,11 +88,6 @@ pub length-addresses : (os : List Linked) → length (addressesOf os) ≡ length
 unfolding addressesOf
 length-addresses [] = refl
 length-addresses (o ∷ os) = omega (arith, length-addresses os)
-
-pub length-counts : (os : List Linked) → length (countsOf os) ≡ length os
-unfolding countsOf
-length-counts [] = refl
-length-counts (o ∷ os) = omega (arith, length-counts os)
 
 pub length-add : (a : ℕ) (os : List Linked) → length (addLink a os) ≡ length os
 length-add a os = sym (length-addresses (addLink a os)) ∙ ap length (addresses-add a os) ∙ length-addresses os
@@ -172,17 +167,6 @@ distinct-append a n (o ∷ os) h d =
     let b = out-both a o os h in
     (out-append (o .address) a n os (d .0) (eqb-flip a (o .address) (b .0)), distinct-append a n os (b .1) (d .1))
 
--- no links are recorded for an address that isn't there
-pub links-none : (x : ℕ) (os : List Linked) → inLedger x os ≡ false → linksTo x os ≡ 0
-unfolding linksTo inLedger
-links-none x [] h = refl
-links-none x (o ∷ os) h = go (eqb x (o .address)) h (links-none x os)
-  where
-    go : (t : Bool) → (if t then true else inLedger x os) ≡ false → (inLedger x os ≡ false → linksTo x os ≡ 0) →
-        (if t then o .links else linksTo x os) ≡ 0
-    go true p i = let z : _≡_ {A = ℕ} 0 1 = cc in absurd (omega arith)
-    go false p i = i p
-
 pub links-add : (x a : ℕ) (os : List Linked) → inLedger a os ≡ true → linksTo x (addLink a os) ≡ linksTo x os + oneFor x a
 unfolding linksTo addLink inLedger
 links-add x a [] h = let z : _≡_ {A = ℕ} 0 1 = cc in absurd (omega arith)
@@ -243,10 +227,6 @@ module _ (a : ℕ) (os os′ : List Linked) (e : countLink a os ≡ value os′)
       (λ k. rw (k .1) (distinct-same os (addLink a os) (sym (addresses-add a os)) d))
       (λ n. rw (n .2) (distinct-append a 1 os (n .0) d))
       (count-cases a os os′ e)
-
-  -- no fewer objects, and no more than the limit
-  pub count-length : length os ≤ length os′
-  count-length = ⊎-elim (λ k. rw (k .1, length-add a os) (omega arith)) (λ n. rw (n .2, length-append) (omega arith)) (count-cases a os os′ e)
 
   pub count-most : length os ≤ objectsMost → length os′ ≤ objectsMost
   count-most h = ⊎-elim (λ k. rw (k .1, length-add a os) h) (λ n. rw (n .2, length-append) (omega (arith, n .1))) (count-cases a os os′ e)

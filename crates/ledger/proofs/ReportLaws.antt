@@ -24,7 +24,8 @@ unfolding countedPlaces countedIn linkedOf
 counted-law im zero xs ss ts h = refl
 counted-law im (suc n) xs ss ts h =
     let i : countedPlaces n (drop 1 xs) (drop 1 ss) (drop 1 ts) ≡ countedIn im (linkedOf n (drop 1 xs) (drop 1 ts)) =
-    counted-law im n (drop 1 xs) (drop 1 ss) (drop 1 ts) (λ k l. getD-tail ss k ∙ h (suc k) (omega arith) ∙ ap (λ (a : ℕ). u32 im (a + 4)) (sym (getD-tail xs k))) in
+    counted-law im n (drop 1 xs) (drop 1 ss) (drop 1 ts)
+    (λ k l. getD-tail ss k ∙ h (suc k) (omega arith) ∙ ap (λ (a : ℕ). u32 im (a + 4)) (sym (getD-tail xs k))) in
     let e : getD ss 0 0 ≡ u32 im (getD xs 0 0 + 4) = h 0 (omega arith) in
     rw (e, i)
 
@@ -32,20 +33,17 @@ counted-law im (suc n) xs ss ts h =
 pub stored-none : (im xs ss : List ℕ) → StoredRead im xs 0 ss ss
 stored-none im xs ss = record { read = λ k h. absurd (omega arith); rest = λ k h. refl; long = refl }
 
-pub stored-more : (im xs ss ss′ : List ℕ) (i v : ℕ) → StoredRead im xs i ss ss′ → i < length ss → Number im (getD xs i 0 + 4) 4 v → StoredRead im xs (i + 1) ss (set ss′ i v)
+pub stored-more : (im xs ss ss′ : List ℕ) (i v : ℕ) → StoredRead im xs i ss ss′ → i < length ss → Number im (getD xs i 0 + 4) 4 v →
+    StoredRead im xs (i + 1) ss (set ss′ i v)
 stored-more im xs ss ss′ i v r h n = record {
-  read = below-more _ i (λ k m. getD-set-other ss′ i k v 0 (λ e. omega (arith, e)) ∙ r .read k m) (getD-set-same ss′ i v 0 (omega (arith, r .long)) ∙ n .value);
+  read = below-more _ i (λ k m. getD-set-other ss′ i k v 0 (λ e. omega (arith, e)) ∙ r .read k m)
+      (getD-set-same ss′ i v 0 (omega (arith, r .long)) ∙ n .value);
   rest = λ k m. getD-set-other ss′ i k v 0 (λ e. omega (arith, e)) ∙ r .rest k (omega arith);
   long = length-set ss′ i v ∙ r .long;
 }
 
 pub stored-all : (im xs ss ss′ : List ℕ) (i n : ℕ) → StoredRead im xs i ss ss′ → i ≡ n → StoredRead im xs n ss ss′
 stored-all im xs ss ss′ i n r e = subst (λ (k : ℕ). StoredRead im xs k ss ss′) e r
-
--- the ledger handed out reports what the definition does
-pub report-law : (im ss : List ℕ) (l : Ledger) → StoredRead im (l .addresses) (l .objects) ss (l .stored) →
-    countedOf l ≡ countedIn im (linkedOf (l .objects) (l .addresses) (l .«true_counts»))
-report-law im ss l r = counted-law im (l .objects) (l .addresses) (l .stored) (l .«true_counts») (r .read)
 
 pub empty-law : (l : Ledger) → Empty l → countedOf l ≡ []
 unfolding countedPlaces

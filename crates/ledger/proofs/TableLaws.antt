@@ -3,20 +3,19 @@ use Prim.Native.Nat.{ℕ, zero, suc, _+_, _-_, _≤_, _<_}
 use mathlib.Core.Bool.{true, false}
 use mathlib.Core.List.{List, [], _∷_, _++_}
 use mathlib.Core.Path.{_≡_, refl, ap, sym, _∙_}
-use native.Mathlib.Nat.{sub-zero}
 use native.Mathlib.Numerals.{add-one}
 use native.Mathlib.Omega.{arith}
 use borrow.Author.Tests.{eq-eqb, ne-eqb}
 use lib.ListN.{length, getD, set, drop, replicate, length-set, length-replicate, drop-of-length-le}
 use lib.Seq.{getD-set-other}
 use Rattle.format.specs.Limits.{objectsMost}
-use Rattle.format.specs.Bytes.{padded}
 use Rattle.format.specs.Result.{value}
 use Rattle.format.specs.Ledger.{Linked, linked, inLedger, addLink}
-use Rattle.ledger.specs.Links.{addressesOf, countsOf, linkSum}
+use Rattle.ledger.specs.Links.{linkSum}
 use Rattle.ledger.specs.Table.{linkedOf, Table, Found, Discovered, Started}
 use Rattle.ledger.specs.declared.table.Discovery.the-variants.{Counted, Full}
-use Rattle.ledger.proofs.LedgerLaws.{add-here, add-later, in-here, in-later, count-known, count-new, count-full, count-sum, length-addresses, length-counts}
+use Rattle.ledger.proofs.LedgerLaws.{add-here, add-later, in-here, in-later, count-known}
+use Rattle.ledger.proofs.LedgerLaws.{count-new, count-full, count-sum}
 
 pub length-linkedOf : (n : ℕ) (xs ts : List ℕ) → length (linkedOf n xs ts) ≡ n
 unfolding linkedOf
@@ -98,7 +97,9 @@ module _ (xs ts : List ℕ) (n a r : ℕ) (t : Table xs ts n) (f : Found xs n a 
       let i : n ≤ length xs = omega (arith, t .fits, t .addressesLong) in
       let j : n ≤ length ts = omega (arith, t .fits, t .countsLong) in
       record {
-        walk = ap value (sym (linked-more a r n xs ts i j h (f .before) (f .there h))) ∙ sym (count-known a (linkedOf n xs ts) (linked-in a r n xs ts i j h (f .before) (f .there h)));
+        walk =
+            ap value (sym (linked-more a r n xs ts i j h (f .before) (f .there h))) ∙ sym
+            (count-known a (linkedOf n xs ts) (linked-in a r n xs ts i j h (f .before) (f .there h)));
         table = record {
           fits = t .fits;
           addressesLong = t .addressesLong;
@@ -122,7 +123,9 @@ module _ (xs ts : List ℕ) (n a r : ℕ) (t : Table xs ts n) (f : Found xs n a 
   discover-new h l =
       let m : length (linkedOf n xs ts) < objectsMost = rw length-linkedOf l in
       record {
-        walk = ap value (linked-new a 1 n xs ts (omega (arith, t .addressesLong)) (omega (arith, t .countsLong))) ∙ sym (count-new a (linkedOf n xs ts) (out h) m);
+        walk =
+            ap value (linked-new a 1 n xs ts (omega (arith, t .addressesLong)) (omega (arith, t .countsLong))) ∙ sym
+            (count-new a (linkedOf n xs ts) (out h) m);
         table = record {
           fits = omega arith;
           addressesLong = rw length-set (t .addressesLong);
@@ -139,7 +142,8 @@ module _ (xs ts : List ℕ) (n a r : ℕ) (t : Table xs ts n) (f : Found xs n a 
   discover-fits most h l = omega (arith, count-bound r n xs ts (omega (arith, t .fits, t .addressesLong)) (omega (arith, t .fits, t .countsLong)) h)
 
 -- a link that was counted is one more of all
-pub discovered-sum : (xs ts : List ℕ) (n a : ℕ) (xs′ ts′ : List ℕ) (m : ℕ) → Discovered xs ts n a xs′ ts′ (Counted m) → linkSum (linkedOf m xs′ ts′) ≡ linkSum (linkedOf n xs ts) + 1
+pub discovered-sum : (xs ts : List ℕ) (n a : ℕ) (xs′ ts′ : List ℕ) (m : ℕ) → Discovered xs ts n a xs′ ts′ (Counted m) →
+    linkSum (linkedOf m xs′ ts′) ≡ linkSum (linkedOf n xs ts) + 1
 discovered-sum xs ts n a xs′ ts′ m d = count-sum a (linkedOf n xs ts) (linkedOf m xs′ ts′) (sym (d .walk))
 
 -- the table of the root alone
@@ -172,39 +176,3 @@ table-none n m h k = record {
   addressesZero = λ i q. zeros-at n i;
   countsZero = λ i q. zeros-at m i;
 }
-
--- Each list is the definition's, with zeros behind it.
-zeros-all : (xs : List ℕ) → ((k : ℕ) → getD xs k 0 ≡ 0) → xs ≡ replicate (length xs) 0
-zeros-all [] z = refl
-zeros-all (x ∷ xs) z = let e : x ≡ 0 = z 0 in rw e (ap (λ (l : List ℕ). 0 ∷ l) (zeros-all xs (λ k. z (suc k))))
-
-addresses-padded : (n : ℕ) (xs ts : List ℕ) → n ≤ length xs → n ≤ length ts → ((k : ℕ) → n ≤ k → getD xs k 0 ≡ 0) → xs ≡ addressesOf (linkedOf n xs ts) ++ replicate (length xs - n) 0
-unfolding linkedOf addressesOf
-addresses-padded zero xs ts h k z = rw sub-zero (zeros-all xs (λ j. z j (omega arith)))
-addresses-padded (suc n) [] ts h k z = absurd (omega arith)
-addresses-padded (suc n) (x ∷ xs) [] h k z = absurd (omega arith)
-addresses-padded (suc n) (x ∷ xs) (t ∷ ts) h k z =
-    let e : suc (length xs) - suc n ≡ length xs - n = omega arith in
-    rw e (ap (λ (l : List ℕ). x ∷ l) (addresses-padded n xs ts (omega arith) (omega arith) (λ j m. z (suc j) (omega arith))))
-
-counts-padded : (n : ℕ) (xs ts : List ℕ) → n ≤ length xs → n ≤ length ts → ((k : ℕ) → n ≤ k → getD ts k 0 ≡ 0) → ts ≡ countsOf (linkedOf n xs ts) ++ replicate (length ts - n) 0
-unfolding linkedOf countsOf
-counts-padded zero xs ts h k z = rw sub-zero (zeros-all ts (λ j. z j (omega arith)))
-counts-padded (suc n) [] ts h k z = absurd (omega arith)
-counts-padded (suc n) (x ∷ xs) [] h k z = absurd (omega arith)
-counts-padded (suc n) (x ∷ xs) (t ∷ ts) h k z =
-    let e : suc (length ts) - suc n ≡ length ts - n = omega arith in
-    rw e (ap (λ (l : List ℕ). t ∷ l) (counts-padded n xs ts (omega arith) (omega arith) (λ j m. z (suc j) (omega arith))))
-
-module _ (xs ts : List ℕ) (n : ℕ) (t : Table xs ts n) where
-  pub table-addresses : xs ≡ padded (length xs) (addressesOf (linkedOf n xs ts))
-  table-addresses =
-      let i : n ≤ length xs = omega (arith, t .fits, t .addressesLong) in
-      let j : n ≤ length ts = omega (arith, t .fits, t .countsLong) in
-      rw (length-addresses (linkedOf n xs ts), length-linkedOf n xs ts) (addresses-padded n xs ts i j (t .addressesZero))
-
-  pub table-counts : ts ≡ padded (length ts) (countsOf (linkedOf n xs ts))
-  table-counts =
-      let i : n ≤ length xs = omega (arith, t .fits, t .addressesLong) in
-      let j : n ≤ length ts = omega (arith, t .fits, t .countsLong) in
-      rw (length-counts (linkedOf n xs ts), length-linkedOf n xs ts) (counts-padded n xs ts i j (t .countsZero))

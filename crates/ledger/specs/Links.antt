@@ -12,11 +12,6 @@ unfoldable pub addressesOf : List Linked → List ℕ
 addressesOf [] = []
 addressesOf (o ∷ os) = o .address ∷ addressesOf os
 
--- the links to each, in order of discovery
-unfoldable pub countsOf : List Linked → List ℕ
-countsOf [] = []
-countsOf (o ∷ os) = o .links ∷ countsOf os
-
 -- all links recorded
 unfoldable pub linkSum : List Linked → ℕ
 linkSum [] = 0

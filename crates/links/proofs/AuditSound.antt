@@ -11,8 +11,7 @@ use Rattle.format.specs.Superblock.{Superblock, Opening, opened, notOpened, ope
 use Rattle.format.specs.Ledger.{Linked}
 use Rattle.format.specs.Audit.{auditWalk, auditRun}
 use Rattle.walk.proofs.BlockList.{room-most}
-use Rattle.laws.proofs.Disjoint.{Fresh}
-use Rattle.laws.proofs.Growth.{Inside}
+use Rattle.laws.specs.Blocks.{Fresh, Inside}
 use Rattle.links.specs.Sound.{Sound}
 use Rattle.links.proofs.HeadersInside.{headers-inside}
 use Rattle.links.proofs.AllCounted.{counted-trace, all-counted}

@@ -10,8 +10,8 @@ use Rattle.format.specs.Walk.{done, run}
 use Rattle.format.specs.Superblock.{Superblock}
 use Rattle.format.specs.Ledger.{Linked}
 use Rattle.format.specs.Audit.{auditWalk}
-use Rattle.laws.proofs.Disjoint.{Fresh}
-use Rattle.laws.proofs.Growth.{Inside, Grown, run-grown}
+use Rattle.laws.specs.Blocks.{Fresh, Inside}
+use Rattle.laws.proofs.Growth.{Grown, run-grown}
 
 pub blocks-sound : (im : List ℕ) (room : ℕ) (s : Superblock) (os : List Linked) (bs : List Block) → run im (s .endOfFile) room (auditWalk s) [] ≡ done os bs →
     Fresh [] bs × Inside (s .endOfFile) bs × (length bs ≤ room)

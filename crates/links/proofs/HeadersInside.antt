@@ -26,7 +26,8 @@ each-at P (a ∷ rest) [] h k l = absurd h
 each-at P (a ∷ rest) (rs ∷ rss) h zero l = h .0
 each-at P (a ∷ rest) (rs ∷ rss) h (suc k) l = each-at P rest rss (h .1) k (omega arith)
 
-pub headers-inside : (im : List ℕ) (room : ℕ) (s : Superblock) (os : List Linked) (bs : List Block) → run im (s .endOfFile) room (auditWalk s) [] ≡ done os bs →
+pub headers-inside : (im : List ℕ) (room : ℕ) (s : Superblock) (os : List Linked) (bs : List Block) →
+    run im (s .endOfFile) room (auditWalk s) [] ≡ done os bs →
     (k : ℕ) → k < length os → getD (addressesOf os) k 0 + 16 ≤ s .endOfFile
 headers-inside im room s os bs e k l =
     let t = audit-trace im room s os bs e in

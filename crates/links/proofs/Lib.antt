@@ -14,9 +14,12 @@ pub mod ObjectsReached
 pub mod BlocksSound
 pub mod AuditSound
 pub mod RefusedFault
+pub mod Includes
 pub mod Numbered
 pub mod NumberedHeader
 pub mod NumberedSharing
 pub mod NumberedDataset
 pub mod NumberedGroup
+pub mod NumberedAudit
+pub mod ReplyNumbers
 pub mod AuditAnswers

@@ -20,7 +20,8 @@ trace-reached : (im : List ℕ) (s : Superblock) {i : ℕ} {os os′ : List Link
     ((x : ℕ) → inLedger x os ≡ true → Reached im s x) → (x : ℕ) → inLedger x os′ ≡ true → Reached im s x
 trace-reached im s (ended d) h = h
 trace-reached im s {i} {os} (next {o = o} {rest = rest} {ps = ps} {rs = rs} d p c t) h =
-    trace-reached im s t (counting-within (Reached im s) rs os ps c (λ r m. byReference r (h (o .address) (member-in os o (taken-member i os o rest d))) p m) h)
+    trace-reached im s t (counting-within (Reached im s) rs os ps c (λ r m. byReference r (h (o .address) (member-in os o (taken-member i os o rest d))) p m)
+    h)
 
 module _ (im : List ℕ) (room : ℕ) (s : Superblock) (most : room ≤ blocksMost) (os : List Linked) (bs : List Block)
     (e : run im (s .endOfFile) room (auditWalk s) [] ≡ done os bs) where

@@ -35,5 +35,6 @@ module _ (im : List ℕ) (eof room : ℕ) where
       entryAnswer-zero eof room bs a (lengthIn im v a l) (entered-done (entryAnswer eof room bs a (lengthIn im v a l)) _ _ bs x ms e .0) .0
 
   -- the blocks of a run that is done are no more than the room
-  pub done-fits : {A : Type 0} (w : Walk A) (bs : List Block) (a : A) (ms : List Block) → length bs ≤ room → run im eof room w bs ≡ done a ms → length ms ≤ room
+  pub done-fits : {A : Type 0} (w : Walk A) (bs : List Block) (a : A) (ms : List Block) → length bs ≤ room → run im eof room w bs ≡ done a ms →
+      length ms ≤ room
   done-fits w bs a ms l e = rw e at (run-grown im eof room w bs l .fits)

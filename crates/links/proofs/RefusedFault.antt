@@ -7,7 +7,7 @@ use native.Mathlib.Omega.{arith}
 use Rattle.format.specs.Bytes.{part}
 use Rattle.format.specs.Blocks.{Block, block, entryAnswer, roomOf}
 use Rattle.format.specs.declared.Refusal.{Refusal}
-use Rattle.format.specs.Walk.{kindNumber, shown, lengthIn, knownLength, fault, notEntered, Walk, ret, refuse, enter, Outcome, done, refused, ifEntered, run}
+use Rattle.format.specs.Walk.{kindNumber, shown, lengthIn, knownLength, fault, notEntered, Walk, ret, refuse, enter, Outcome, refused, ifEntered, run}
 use Rattle.format.specs.Superblock.{Superblock, Opening, opened, notOpened, openImage, runOpened}
 use Rattle.format.specs.Ledger.{Linked}
 use Rattle.format.specs.Audit.{auditWalk, auditRun}
@@ -49,24 +49,6 @@ module _ (im : List ℕ) (eof room : ℕ) {A : Type 0} where
   fault-refused (atEntry {v = v} {a = a} {l = l} {k = k} {n = n} {bs = bs} g h) = rw g
       (not-entered n (λ m. notEntered m (kindNumber v) a (knownLength im eof v a l) bs) _ bs h)
   fault-refused (later {v = v} {a = a} {l = l} {k = k} {r = r} {bs = bs} {ms = ms} g f) = rw g (fault-refused f)
-
-  -- a run that isn't done has a fault
-  pub done-or-fault : (w : Walk A) (bs : List Block) →
-      ((a : A) × (ms : List Block) × (run im eof room w bs ≡ done a ms)) ⊎ ((r : Refusal) × (ms : List Block) × Fault im eof room w bs r ms)
-  done-or-fault w bs = go (run im eof room w bs) refl
-    where
-      go : (o : Outcome A) → run im eof room w bs ≡ o →
-          ((a : A) × (ms : List Block) × (run im eof room w bs ≡ done a ms)) ⊎ ((r : Refusal) × (ms : List Block) × Fault im eof room w bs r ms)
-      go (done a ms) e = inl (a, ms, e)
-      go (refused r ms) e = inr (r, ms, refused-fault w bs r ms e)
-
-  -- one cause: two faults of one run are at one place
-  pub fault-one : {w : Walk A} {bs : List Block} {r r′ : Refusal} {ms ms′ : List Block} → Fault im eof room w bs r ms → Fault im eof room w bs r′ ms′ →
-      (r ≡ r′) × (ms ≡ ms′)
-  fault-one f f′ =
-      let e = fault-refused f in
-      let e′ = fault-refused f′ in
-      (cc, cc)
 
 opened-refused : {A : Type 0} (o : Opening) (f : Superblock → Outcome A) (r : Refusal) (bs : List Block) → runOpened o f ≡ refused r bs →
     ((n : ℕ) × (o ≡ notOpened n) × (r ≡ fault n 0) × (bs ≡ [])) ⊎ ((s : Superblock) × (o ≡ opened s) × (f s ≡ refused r bs))

@@ -1,3 +1,1 @@
-pub mod FollowLaws
-pub mod LastLaws
 pub mod LookupLaws

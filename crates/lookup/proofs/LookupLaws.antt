@@ -15,13 +15,13 @@ use Rattle.superblock.specs.Superblock.{superblockOf}
 use Rattle.superblock.specs.declared.Superblock.{Superblock}
 use Rattle.path.specs.Form.{componentsOf}
 use Rattle.component.specs.Component.{EndsAs}
-use Rattle.lookup.specs.Follow.{targetRun}
-use Rattle.lookup.specs.Last.{KindIs}
+use Rattle.follow.specs.Follow.{targetRun}
+use Rattle.last_object.specs.Last.{KindIs}
 use Rattle.lookup.specs.Lookup.{replyOf, LocatedIs}
 use Rattle.component.specs.declared.Target as targets
-use Rattle.lookup.specs.declared.last.Kind as kinds
+use Rattle.last_object.specs.declared.Kind as kinds
 use Rattle.lookup.specs.declared.lookup.Located.{Located}
-use Rattle.lookup.proofs.FollowLaws.{afterTarget, follow-target}
+use Rattle.follow.proofs.FollowLaws.{afterTarget, follow-target}
 
 -- a refusal has zeros for its fields
 abbrev pub refusedWith : Refusal → Located
@@ -35,10 +35,13 @@ module _ (im path : List ℕ) (lent : ℕ) (s : Superblock) where
   last a = run im (s .«end_of_file») (roomOf lent) (superblockWalk (superblockOf s) >> locateWalk a) []
 
   -- the path was followed, and this is where it leads
-  followed : (o : Outcome Target) → target ≡ o → follow im (superblockOf s) (roomOf lent) locateWalk (done (record { kind = 4; address = 0 }) []) (componentsOf path) (s .root) ≡ afterTarget o last (done (record { kind = 4; address = 0 }) [])
-  followed o e = follow-target im (superblockOf s) (roomOf lent) locateWalk _ (componentsOf path) (s .root) ∙ ap (λ (t : Outcome Target). afterTarget t last (done (record { kind = 4; address = 0 }) [])) e
+  followed : (o : Outcome Target) → target ≡ o → follow im (superblockOf s) (roomOf lent) locateWalk (done (record { kind = 4; address = 0 }) [])
+      (componentsOf path) (s .root) ≡ afterTarget o last (done (record { kind = 4; address = 0 }) [])
+  followed o e = follow-target im (superblockOf s) (roomOf lent) locateWalk _ (componentsOf path) (s .root) ∙ ap
+      (λ (t : Outcome Target). afterTarget t last (done (record { kind = 4; address = 0 }) [])) e
 
-  ends : {r : Located} {o : Outcome lookups.Located} → follow im (superblockOf s) (roomOf lent) locateWalk (done (record { kind = 4; address = 0 }) []) (componentsOf path) (s .root) ≡ o → replyOf (replicate lent 0) r ≡ lookupEnd lent o → LocatedIs im path lent s r
+  ends : {r : Located} {o : Outcome lookups.Located} → follow im (superblockOf s) (roomOf lent) locateWalk (done (record { kind = 4; address = 0 }) [])
+      (componentsOf path) (s .root) ≡ o → replyOf (replicate lent 0) r ≡ lookupEnd lent o → LocatedIs im path lent s r
   ends e q = q ∙ ap (lookupEnd lent) (sym e)
 
   pub stopped-is : (x : Refusal) → EndsAs (targets.the-variants.Stopped x) target → LocatedIs im path lent s (refusedWith x)
@@ -51,7 +54,8 @@ module _ (im path : List ℕ) (lent : ℕ) (s : Superblock) where
     pub last-stopped : (x : Refusal) → KindIs im s (roomOf lent) a (kinds.the-variants.Stopped x) → LocatedIs im path lent s (refusedWith x)
     last-stopped x k = ends (followed _ (h .1) ∙ k .1) refl
 
-    pub last-known : (n : ℕ) → KindIs im s (roomOf lent) a (kinds.the-variants.Known n) → LocatedIs im path lent s (record { number = 0; kind = n; address = a })
+    pub last-known : (n : ℕ) → KindIs im s (roomOf lent) a (kinds.the-variants.Known n) → LocatedIs im path lent s
+        (record { number = 0; kind = n; address = a })
     last-known n k = ends (followed _ (h .1) ∙ k .1) refl
 
 module _ (im path : List ℕ) (lent : ℕ) (ws : List ℕ) (zeros : ws ≡ replicate lent 0) where

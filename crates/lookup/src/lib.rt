@@ -1,4 +1,2 @@
 // Path lookup.
-pub mod follow;
-pub mod last;
 pub mod lookup;

@@ -1,11 +1,12 @@
 // Path lookup: the kind and the address of what a path leads to.
-use crate::follow;
-use crate::last;
-use crate::last::Kind;
 use component::Target;
+use follow;
 use format::NO_PLACE;
 use format::Refusal;
+use format::answers;
 use format::number_of;
+use last_object;
+use last_object::Kind;
 use superblock::Opening;
 use superblock::Superblock;
 use walk::blocks;
@@ -19,8 +20,6 @@ ghost use Rattle.lookup.specs.Lookup.{replyOf, LocatedIs};
 
 // The number of document 01 for a symbolic link.
 const SYMBOLIC_LINK: u8 = 4;
-
-const BAD_PATH: u8 = 14;
 
 // The answer, the kind and the address; zeros where the answer isn't 0.
 pub struct Located {
@@ -48,16 +47,16 @@ fn locate(image: &[u8], path: &[u8], list: &mut [u64], superblock: Superblock) -
     match follow::find_object(image, path, list, superblock) {
         Target::Stopped(x) => refused(x),
         Target::Symbolic => Located {
-            number: 0,
+            number: answers::DONE,
             kind: SYMBOLIC_LINK,
             address: 0,
         },
         Target::Object(a) => {
             let room = blocks::room(list.len());
-            match last::kind_at(image, list, superblock, room, a) {
+            match last_object::kind_at(image, list, superblock, room, a) {
                 Kind::Stopped(x) => refused(x),
                 Kind::Known(k) => Located {
-                    number: 0,
+                    number: answers::DONE,
                     kind: k,
                     address: a,
                 },
@@ -80,7 +79,7 @@ pub fn lookup(image: &[u8], path: &[u8], list: &mut [u64]) -> Located
     ensures { λ r. ⌜ replyOf (now (list .exit)) r ≡ lookupReply (now (image .entry)) (now (path .entry)) (length (now (list .entry))) ⌝ }
 {
     if !path::is_sound(path) {
-        return finish(list, refused(Refusal::Fault(BAD_PATH, NO_PLACE)));
+        return finish(list, refused(Refusal::Fault(answers::BAD_PATH, NO_PLACE)));
     }
     match superblock::open(image) {
         Opening::NotOpened(x) => finish(list, refused(Refusal::Fault(x, 0))),

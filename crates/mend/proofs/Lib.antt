@@ -1,4 +1,1 @@
-pub mod LogLaws
-pub mod WrittenLaws
-pub mod AuditLaws
-pub mod ReplyLaws
+mod ReplyLaws

@@ -1,10 +1,11 @@
 -- From what mending returns and leaves to the reply.
 use Prim.Native.Nat.{ℕ, zero, suc, _*_, _≤_, _<_, min}
 use mathlib.Core.List.{List}
-use mathlib.Core.Path.{_≡_, refl, sym, _∙_}
+use mathlib.Core.Path.{_≡_, refl, ap, sym, _∙_}
 use native.Mathlib.Omega.{arith}
 use borrow.Author.Tests.{le-leb, lt-leb}
 use lib.ListN.{length, take, replicate}
+use Rattle.format.specs.Limits.{objectsMost}
 use Rattle.format.specs.Bytes.{padded}
 use Rattle.format.specs.Log.{Change, logWords, changes, written}
 use Rattle.format.specs.Mend.{corrections}
@@ -12,9 +13,10 @@ use Rattle.format.specs.Answers.{AuditReply, audit, mend, mendAfter, mendedBy, 
 use Rattle.ledger.specs.Report.{countedOf}
 use Rattle.audit.specs.Audit.{AuditIs}
 use Rattle.audit.specs.declared.Reply.{Reply}
-use Rattle.mend.specs.Mended.{NewsFit, refusedWith, replyOf}
+use Rattle.undo_log.specs.Entries.{WrongCounts, NewsFit}
+use Rattle.undo_log.proofs.WrittenLaws.{changes-written}
+use Rattle.mend.specs.Mended.{refusedWith, replyOf, MendIs}
 use Rattle.mend.specs.declared.Mended.{Mended}
-use Rattle.mend.proofs.WrittenLaws.{changes-written}
 
 -- What mending gives after an audit with this reply.
 module _ (im : List ℕ) (lent logLent n : ℕ) (a : AuditReply) where
@@ -45,20 +47,35 @@ module _ (im : List ℕ) (lent logLent n : ℕ) (ws : List ℕ) (a : Reply) (is 
   abbrev wrongs : List Change
   wrongs = corrections (countedOf (a .ledger))
 
-  pub audit-refused : (a .number ≡ 0 → ⊥) → (list log : List ℕ) (r : Mended) → r ≡ refusedWith (a .number) → list ≡ replicate lent 0 → log ≡ replicate logLent 0 →
-      replyOf list log im r ≡ mend im lent logLent n
-  audit-refused h list log r e f g =
-      refused-is im lent logLent (a .number) list log r e f g ∙ sym (after-refused im lent logLent n audited (a .number) h) ∙ after-is im lent logLent n audited (is .reply)
+  pub audit-refused : (a .number ≡ 0 → ⊥) → (list log : List ℕ) (r : Mended) → r ≡ refusedWith (a .number) → list ≡ replicate lent 0 →
+      log ≡ replicate logLent 0 → MendIs im lent logLent n list log im r
+  audit-refused h list log r e f g = record {
+    reply = refused-is im lent logLent (a .number) list log r e f g
+        ∙ sym (after-refused im lent logLent n audited (a .number) h) ∙ after-is im lent logLent n audited (is .reply);
+    most = λ z. absurd (h (ap (λ (p : AuditReply). p .number) (is .reply) ∙ z));
+  }
 
-  pub log-short : a .number ≡ 0 → logLent < 2 * length wrongs → (list log : List ℕ) (r : Mended) → r ≡ refusedWith 18 → list ≡ replicate lent 0 → log ≡ replicate logLent 0 →
-      replyOf list log im r ≡ mend im lent logLent n
-  log-short z h list log r e f g =
-      refused-is im lent logLent 18 list log r e f g ∙ sym (after-short im lent logLent n audited (a .number) z h) ∙ after-is im lent logLent n audited (is .reply)
+  -- Where the wrong counts were counted.
+  module _ (e : ℕ) (c : WrongCounts (a .ledger) e) where
+    entries-most : length (corrections (audit im lent .objects)) ≤ objectsMost
+    entries-most = omega (arith, ap (λ (p : AuditReply). length (corrections (p .objects))) (is .reply), is .fits)
 
-  pub mended-is : a .number ≡ 0 → (log im′ : List ℕ) (e w : ℕ) → e ≡ length wrongs → 2 * e ≤ logLent → w ≡ min n e →
-      log ≡ padded logLent (logWords wrongs) → NewsFit wrongs → im′ ≡ written im (changes w log) →
-      replyOf ws log im′ (record { number = 0; «block_count» = a .«block_count»; entries = e; writes = w }) ≡ mend im lent logLent n
-  mended-is z log im′ e w p h q l f g =
-      let k : w ≤ length wrongs = omega arith in
-      let v : im′ ≡ written im (take w wrongs) = g ∙ rw (l, changes-written w wrongs _ k f) in
-      rw (v, l, q, p) (sym (after-done im lent logLent n audited (a .number) z (omega arith)) ∙ after-is im lent logLent n audited (is .reply))
+    pub log-short : a .number ≡ 0 → logLent < 2 * e → (list log : List ℕ) (r : Mended) → r ≡ refusedWith 18 → list ≡ replicate lent 0 →
+        log ≡ replicate logLent 0 → MendIs im lent logLent n list log im r
+    log-short z h list log r p f g = record {
+      reply = refused-is im lent logLent 18 list log r p f g
+          ∙ sym (after-short im lent logLent n audited (a .number) z (omega arith)) ∙ after-is im lent logLent n audited (is .reply);
+      most = λ _. entries-most;
+    }
+
+    pub mended-is : a .number ≡ 0 → (log im′ : List ℕ) (w : ℕ) → 2 * e ≤ logLent → w ≡ min n e → log ≡ padded logLent (logWords wrongs) → NewsFit wrongs →
+        im′ ≡ written im (changes w log) →
+        MendIs im lent logLent n ws log im′ (record { number = 0; «block_count» = a .«block_count»; entries = e; writes = w })
+    mended-is z log im′ w h q l f g =
+        let k : w ≤ length wrongs = omega arith in
+        let v : im′ ≡ written im (take w wrongs) = g ∙ rw (l, changes-written w wrongs _ k f) in
+        let p = c .wrong in
+        record {
+          reply = rw (v, l, q, p) (sym (after-done im lent logLent n audited (a .number) z (omega arith)) ∙ after-is im lent logLent n audited (is .reply));
+          most = λ _. entries-most;
+        }

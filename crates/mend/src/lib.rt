@@ -1,15 +1,10 @@
 // Mending: the counts that an audit finds wrong are set right, after a log that can undo this is written whole.
-mod undo_log;
-
+use format::answers;
 use walk::blocks;
 ghost use mathlib.Core.Path.{_≡_};
 ghost use Prim.Native.Nat.{min};
 ghost use lib.ListN.{length, replicate};
-ghost use Rattle.format.specs.Answers as definitions;
-ghost use Rattle.mend.specs.Mended.{refusedWith, replyOf};
-
-// The answer of document 01 to a log that can't hold all entries.
-const SHORT_LOG: u8 = 18;
+ghost use Rattle.mend.specs.Mended.{refusedWith, MendIs};
 
 // The answer, and the numbers of blocks entered, of entries in the log and of counts written, 0 where the answer isn't.
 pub struct Mended {
@@ -21,7 +16,9 @@ pub struct Mended {
 
 // A refusal: both lists are all zeros, and so are the numbers.
 fn refused(list: &mut [u64], log: &mut [u64], number: u8) -> Mended
-    ensures { λ r. ⌜ (r ≡ refusedWith number) × (now (list .exit) ≡ replicate (length (now (list .entry))) 0) × (now (log .exit) ≡ replicate (length (now (log .entry))) 0) ⌝ }
+    ensures { λ r.
+        ⌜ (r ≡ refusedWith number) × (now (list .exit) ≡ replicate (length (now (list .entry))) 0)
+        × (now (log .exit) ≡ replicate (length (now (log .entry))) 0) ⌝ }
 {
     blocks::clear_from(list, 0);
     blocks::clear_from(log, 0);
@@ -45,23 +42,25 @@ fn least(limit: u64, entries: usize) -> usize
 // Mends an image. The list is lent for the audit's blocks, the log for the entries, two words each. No more than `limit`
 // counts are written, and none before the whole log stands.
 pub fn mend(image: &mut [u8], list: &mut [u64], log: &mut [u64], limit: u64) -> Mended
-    ensures { λ r. ⌜ replyOf (now (list .exit)) (now (log .exit)) (now (image .exit)) r ≡ definitions.mend (now (image .entry)) (length (now (list .entry))) (length (now (log .entry))) limit ⌝ }
+    ensures { λ r.
+        ⌜ MendIs (now (image .entry)) (length (now (list .entry))) (length (now (log .entry))) limit (now (list .exit)) (now (log .exit))
+        (now (image .exit)) r ⌝ }
 {
     let reply = audit::audit(image, list);
     let number = reply.number;
-    if number != 0 {
+    if number != answers::DONE {
         return refused(list, log, number);
     }
     let ledger = reply.ledger;
     let entries = undo_log::wrong(ledger);
     if log.len() / 2 < entries {
-        return refused(list, log, SHORT_LOG);
+        return refused(list, log, answers::LOG_TOO_SHORT);
     }
     undo_log::write_log(log, ledger);
     let writes = least(limit, entries);
     undo_log::perform(image, log, writes);
     Mended {
-        number: 0,
+        number: answers::DONE,
         block_count: reply.block_count,
         entries,
         writes,

@@ -115,7 +115,8 @@ module _ (im : List ℕ) (at end : ℕ) (inside : end ≤ length im) (some : at 
               unfolding readMessage
               continuation-refused e =
                   sym
-                  (check-passes _ 10 _ there ∙ check-passes _ 3 _ taken ∙ check-passes _ 10 _ eights ∙ check-passes _ 10 _ whole ∙ check-passes _ 3 _ unshared ∙ check-passes _ 10 _ fields-here
+                  (check-passes _ 10 _ there ∙ check-passes _ 3 _ taken ∙ check-passes _ 10 _ eights ∙ check-passes _ 10 _ whole ∙ check-passes _ 3 _ unshared
+                  ∙ check-passes _ 10 _ fields-here
                   ∙ check-fails _ 10 _ (second ∙ sym e))
 
               pub message-done : true ≡ (eqb kind 0x0010 implies leb 8 (u64 im (at + 8 + 8))) →
@@ -123,6 +124,7 @@ module _ (im : List ℕ) (at end : ℕ) (inside : end ≤ length im) (some : at 
               unfolding readMessage
               message-done e =
                   sym
-                  (check-passes _ 10 _ there ∙ check-passes _ 3 _ taken ∙ check-passes _ 10 _ eights ∙ check-passes _ 10 _ whole ∙ check-passes _ 3 _ unshared ∙ check-passes _ 10 _ fields-here
+                  (check-passes _ 10 _ there ∙ check-passes _ 3 _ taken ∙ check-passes _ 10 _ eights ∙ check-passes _ 10 _ whole ∙ check-passes _ 3 _ unshared
+                  ∙ check-passes _ 10 _ fields-here
                   ∙ check-passes _ 10 _ (second ∙ sym e)
                   ∙ ap value (λ i. record { type = type-there i; flags = flags-there i; body = body-there i; place = at + 8 }))

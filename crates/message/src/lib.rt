@@ -1,4 +1,5 @@
 // One message of an object header.
+use format::answers;
 use walk::numbers::u16_at;
 use walk::numbers::u64_at;
 ghost use mathlib.Core.Path.{_≡_};
@@ -89,28 +90,28 @@ pub fn message(image: &[u8], at: usize, end: usize) -> MessageRead
     ensures { λ r. ⌜ MessageIs (now (image .entry)) at end r ⌝ }
 {
     if end - at < 8 {
-        return MessageRead::Refused(10);
+        return MessageRead::Refused(answers::HEADER_UNSOUND);
     }
     let kind = u16_at(image, at);
     if !type_allowed(kind) {
-        return MessageRead::Refused(3);
+        return MessageRead::Refused(answers::NOT_READ);
     }
     let size = u16_at(image, at + 2) as usize;
     if size % 8 != 0 {
-        return MessageRead::Refused(10);
+        return MessageRead::Refused(answers::HEADER_UNSOUND);
     }
     if end - at - 8 < size {
-        return MessageRead::Refused(10);
+        return MessageRead::Refused(answers::HEADER_UNSOUND);
     }
     let flags = image[at + 4];
     if !flags_allowed(kind, flags) {
-        return MessageRead::Refused(3);
+        return MessageRead::Refused(answers::NOT_READ);
     }
     if !fields_there(kind, size) {
-        return MessageRead::Refused(10);
+        return MessageRead::Refused(answers::HEADER_UNSOUND);
     }
     if !continuation_sound(image, kind, at + 8) {
-        return MessageRead::Refused(10);
+        return MessageRead::Refused(answers::HEADER_UNSOUND);
     }
     MessageRead::Read { kind, size, flags }
 }

@@ -11,7 +11,8 @@ use lib.Seq.{drop-cons}
 use Rattle.format.specs.Bytes.{part}
 use Rattle.format.specs.Blocks.{Block, overlapsAny}
 use Rattle.format.specs.Heap.{Heap}
-use Rattle.format.specs.Names.{NameFault, outside, noNul, badForm, inFreeBlock, Text, text, fault, beforeNul, stringAt, keyText, nameText, valueText, outsideFree, isName}
+use Rattle.format.specs.Names.{NameFault, outside, noNul, badForm, inFreeBlock, Text, text}
+use Rattle.format.specs.Names.{fault, beforeNul, stringAt, keyText, nameText, valueText, outsideFree, isName}
 use Rattle.walk.proofs.Parts.{part-length}
 use Rattle.heap.specs.Segment.{heapWith}
 use Rattle.names.specs.Texts.{TextRead}
@@ -84,5 +85,6 @@ module _ (seg : List ℕ) (free : List Block) (off n : ℕ) (h : off + n ≤ len
   free-missed e = rw (part-length seg off n h, ← e)
 
 -- what was read, by the case that it is
-pub same-read : {seg : List ℕ} {off : ℕ} {r r′ : Rattle.names.specs.declared.Text.Text} {t : Text} → r ≡ r′ → TextRead seg off r t → TextRead seg off r′ t
+pub same-read : {seg : List ℕ} {off : ℕ} {r r′ : Rattle.names.specs.declared.Text.Text} {t : Text} → r ≡ r′ → TextRead seg off r t →
+    TextRead seg off r′ t
 same-read e h = rw e at h

@@ -78,7 +78,8 @@ fn is_name(t: &[u8]) -> bool
 fn outside_free(segment: &[u8], head: u64, free: usize, off: u64, n: usize) -> Text
     requires { ⌜ Chained free (now segment) head ⌝ }
     requires { ⌜ off + n < length (now segment) ⌝ }
-    ensures { λ r. ⌜ TextRead (now (segment .entry)) off r (outsideFree (chainedHeap (now (segment .entry)) head free) off (text (part (now (segment .entry)) off n))) ⌝ }
+    ensures { λ r. ⌜ TextRead (now (segment .entry)) off r (outsideFree (chainedHeap (now (segment .entry)) head free) off
+        (text (part (now (segment .entry)) off n))) ⌝ }
 {
     if overlaps_free(segment, head, free, off, (n + 1) as u64) {
         return Text::Fault(NameFault::InFreeBlock);

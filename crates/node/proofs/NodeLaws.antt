@@ -17,7 +17,8 @@ use Rattle.walk.specs.Numbers.{Number}
 use Rattle.walk.specs.declared.blocks.Entry.the-variants.{Entered, Refused}
 use Rattle.walk.proofs.BlockList.{entered-zero}
 use Rattle.walk.proofs.Parts.{part-byte, part-number, part-first-number, drop-part}
-use Rattle.laws.proofs.Simulation.{Simulation, start, same-walk, returned, passed, failed, block-entered, block-refused, entered-inside, callee-done, callee-stopped, callee-value, callee-refusal}
+use Rattle.laws.proofs.Simulation.{Simulation, start, same-walk, returned, passed, failed}
+use Rattle.laws.proofs.Simulation.{block-entered, block-refused, entered-inside, callee-done, callee-stopped, callee-value, callee-refusal}
 use Rattle.walk.proofs.Tests.{field-equal, field-unequal, field-most, field-above, field-least, field-below}
 use Rattle.node.specs.Node.{branchWalk}
 
@@ -32,7 +33,8 @@ module _ (im : List ℕ) (eof room : ℕ) (ws : List ℕ) (count at k : ℕ) (l 
   begun = start im eof room (nodeWalk k at) count ws l
 
   module _ (ws₁ : List ℕ) (q : ws₁ ≡ entered (entryAnswer eof room (blocksOf count ws) at size) ws count at size) where
-    pub node-refused : (x : Refusal) → Refused x ≡ entering (entryAnswer eof room (blocksOf count ws) at size) 6 at size (blocksOf count ws) count → Walked ws ws₁ (stopped x) (run im eof room (nodeWalk k at) (blocksOf count ws))
+    pub node-refused : (x : Refusal) → Refused x ≡ entering (entryAnswer eof room (blocksOf count ws) at size) 6 at size (blocksOf count ws) count →
+        Walked ws ws₁ (stopped x) (run im eof room (nodeWalk k at) (blocksOf count ws))
     unfolding nodeWalk _>>=_
     node-refused x e = block-refused size refl refl ws₁ begun q x e
 
@@ -45,7 +47,8 @@ module _ (im : List ℕ) (eof room : ℕ) (ws : List ℕ) (count at k : ℕ) (l 
       node-counted = entered-zero 6 at size (blocksOf count ws) (entryAnswer eof room (blocksOf count ws) at size) count m e .1
 
       at-signature : Simulation im eof room (nodeWalk k at) count ws
-          (check (eqb (u32 b 0) TREE) (fault 7 at) >> (check (eqb (u8 b 4) 0) (fault 8 at) >> (check (leb (u8 b 5) levelMost) (fault 8 at) >> (check (leb (u16 b 6) (2 * k)) (fault 8 at) >> ret b)))) m ws₁
+          (check (eqb (u32 b 0) TREE) (fault 7 at) >> (check (eqb (u8 b 4) 0) (fault 8 at) >>
+          (check (leb (u8 b 5) levelMost) (fault 8 at) >> (check (leb (u16 b 6) (2 * k)) (fault 8 at) >> ret b)))) m ws₁
       unfolding nodeWalk _>>=_ shown
       at-signature = block-entered size refl refl ws₁ begun q m e
 
@@ -57,7 +60,8 @@ module _ (im : List ℕ) (eof room : ℕ) (ws : List ℕ) (count at k : ℕ) (l 
         signature-wrong h = failed (eqb (u32 b 0) TREE) (fault 7 at) _ (field-unequal signature-there h) at-signature
 
         module _ (h : signature ≡ TREE) where
-          at-type : Simulation im eof room (nodeWalk k at) count ws (check (eqb (u8 b 4) 0) (fault 8 at) >> (check (leb (u8 b 5) levelMost) (fault 8 at) >> (check (leb (u16 b 6) (2 * k)) (fault 8 at) >> ret b))) m ws₁
+          at-type : Simulation im eof room (nodeWalk k at) count ws (check (eqb (u8 b 4) 0) (fault 8 at) >>
+              (check (leb (u8 b 5) levelMost) (fault 8 at) >> (check (leb (u16 b 6) (2 * k)) (fault 8 at) >> ret b))) m ws₁
           at-type = passed (eqb (u32 b 0) TREE) (fault 7 at) _ (field-equal signature-there h) at-signature
 
           byte-there : (i : ℕ) → i < 32 → u8 b i ≡ getD im (at + i) 0
@@ -67,7 +71,8 @@ module _ (im : List ℕ) (eof room : ℕ) (ws : List ℕ) (count at k : ℕ) (l 
           type-wrong o = failed (eqb (u8 b 4) 0) (fault 8 at) _ (field-unequal (byte-there 4 (omega arith)) o) at-type
 
           module _ (o : getD im (at + 4) 0 ≡ 0) where
-            at-level : Simulation im eof room (nodeWalk k at) count ws (check (leb (u8 b 5) levelMost) (fault 8 at) >> (check (leb (u16 b 6) (2 * k)) (fault 8 at) >> ret b)) m ws₁
+            at-level : Simulation im eof room (nodeWalk k at) count ws (check (leb (u8 b 5) levelMost) (fault 8 at) >>
+                (check (leb (u16 b 6) (2 * k)) (fault 8 at) >> ret b)) m ws₁
             at-level = passed (eqb (u8 b 4) 0) (fault 8 at) _ (field-equal (byte-there 4 (omega arith)) o) at-type
 
             pub level-wrong : levelMost < getD im (at + 5) 0 → Walked ws ws₁ (stopped (fault 8 at)) (run im eof room (nodeWalk k at) (blocksOf count ws))
@@ -91,13 +96,15 @@ module _ (im : List ℕ) (eof room : ℕ) (ws : List ℕ) (count at k level : �
   abbrev whole : List ℕ
   whole = part im at (32 + 32 * k)
 
-  pub branch-stopped : (x : Refusal) → Walked ws ws₁ (stopped x) (run im eof room (nodeWalk k at) (blocksOf count ws)) → Walked ws ws₁ (stopped x) (run im eof room (branchWalk h k level at) (blocksOf count ws))
+  pub branch-stopped : (x : Refusal) → Walked ws ws₁ (stopped x) (run im eof room (nodeWalk k at) (blocksOf count ws)) →
+      Walked ws ws₁ (stopped x) (run im eof room (branchWalk h k level at) (blocksOf count ws))
   unfolding branchWalk
   branch-stopped x w = callee-stopped ws₁ (nodeWalk k at) _ (start im eof room (branchWalk h k level at) count ws l) w
 
   module _ (m : ℕ) (same : length ws₁ ≡ length ws) (w : Walked ws ws₁ (ended whole m) (run im eof room (nodeWalk k at) (blocksOf count ws))) where
     at-own-level : Simulation im eof room (branchWalk h k level at) count ws
-        (check (eqb (u8 whole 5) level) (fault 8 at) >> (check (leb 1 (u16 whole 6)) (fault 8 at) >> (keysWalk h (u16 whole 6 + 1) (at + 24) (drop 24 whole) >> ret whole))) m ws₁
+        (check (eqb (u8 whole 5) level) (fault 8 at) >> (check (leb 1 (u16 whole 6)) (fault 8 at) >>
+        (keysWalk h (u16 whole 6 + 1) (at + 24) (drop 24 whole) >> ret whole))) m ws₁
     unfolding branchWalk
     at-own-level = callee-done ws₁ (nodeWalk k at) _ (start im eof room (branchWalk h k level at) count ws l) same w
 
@@ -112,21 +119,25 @@ module _ (im : List ℕ) (eof room : ℕ) (ws : List ℕ) (count at k level : �
         entries-there : u16 whole 6 ≡ used
         entries-there = part-number im at (32 + 32 * k) 6 2 (omega arith) ∙ sym u
 
-        at-used : Simulation im eof room (branchWalk h k level at) count ws (check (leb 1 (u16 whole 6)) (fault 8 at) >> (keysWalk h (u16 whole 6 + 1) (at + 24) (drop 24 whole) >> ret whole)) m ws₁
+        at-used : Simulation im eof room (branchWalk h k level at) count ws (check (leb 1 (u16 whole 6)) (fault 8 at) >>
+            (keysWalk h (u16 whole 6 + 1) (at + 24) (drop 24 whole) >> ret whole)) m ws₁
         at-used = passed (eqb (u8 whole 5) level) (fault 8 at) _ (field-equal own-there x) at-own-level
 
         pub empty-node : used < 1 → Walked ws ws₁ (stopped (fault 8 at)) (run im eof room (branchWalk h k level at) (blocksOf count ws))
         empty-node y = failed (leb 1 (u16 whole 6)) (fault 8 at) _ (field-below entries-there y) at-used
 
         module _ (y : 1 ≤ used) where
-          at-keys : Simulation im eof room (branchWalk h k level at) count ws (keysWalk h (used + 1) (at + 24) (part im (at + 24) (8 + 32 * k)) >> ret whole) m ws₁
+          at-keys : Simulation im eof room (branchWalk h k level at) count ws (keysWalk h (used + 1) (at + 24) (part im (at + 24) (8 + 32 * k)) >> ret whole)
+              m ws₁
           at-keys =
               let e : 32 + 32 * k - 24 ≡ 8 + 32 * k = omega arith in
               let d : drop 24 whole ≡ part im (at + 24) (8 + 32 * k) = drop-part im at (32 + 32 * k) 24 ∙ ap (part im (at + 24)) e in
               same-walk _ (rw (entries-there, d)) (passed (leb 1 (u16 whole 6)) (fault 8 at) _ (field-least entries-there y) at-used)
 
-          pub keys-wrong : (z : Refusal) → refuse z ≡ keysWalk h (used + 1) (at + 24) (part im (at + 24) (8 + 32 * k)) → Walked ws ws₁ (stopped z) (run im eof room (branchWalk h k level at) (blocksOf count ws))
+          pub keys-wrong : (z : Refusal) → refuse z ≡ keysWalk h (used + 1) (at + 24) (part im (at + 24) (8 + 32 * k)) →
+              Walked ws ws₁ (stopped z) (run im eof room (branchWalk h k level at) (blocksOf count ws))
           keys-wrong z e = callee-refusal _ _ z (sym e) at-keys
 
-          pub branch-read : ret tt ≡ keysWalk h (used + 1) (at + 24) (part im (at + 24) (8 + 32 * k)) → Walked ws ws₁ (ended whole m) (run im eof room (branchWalk h k level at) (blocksOf count ws))
+          pub branch-read : ret tt ≡ keysWalk h (used + 1) (at + 24) (part im (at + 24) (8 + 32 * k)) →
+              Walked ws ws₁ (ended whole m) (run im eof room (branchWalk h k level at) (blocksOf count ws))
           branch-read e = returned (callee-value _ _ tt (sym e) at-keys)

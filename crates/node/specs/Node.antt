@@ -50,7 +50,8 @@ branchEnd im g at (branches.Stopped r) = stopped r
 -- such a node lies inside the image, and each of its keys is sound
 abbrev pub BranchFields : List ℕ → List ℕ → Group → ℕ → ℕ → BranchRead → Type 0
 BranchFields im seg g at count (branches.Read entries n) =
-    (at + (32 + 32 * g .«internal_k») ≤ length im) × (entries ≡ u16 im (at + 6)) × (entries ≤ 2 * g .«internal_k») × (n ≡ count + 1) × ((i : ℕ) → i < entries + 1 → KeyAt im seg (at + 24 + 16 * i))
+    (at + (32 + 32 * g .«internal_k») ≤ length im) × (entries ≡ u16 im (at + 6)) × (entries ≤ 2 * g .«internal_k») × (n ≡ count + 1) × ((i : ℕ) →
+    i < entries + 1 → KeyAt im seg (at + 24 + 16 * i))
 BranchFields im seg g at count (branches.Stopped r) = Unit {0}
 
 pub record BranchIs (im seg ws : List ℕ) (g : Group) (count level at : ℕ) (ws′ : List ℕ) (r : BranchRead) : Type 0 where

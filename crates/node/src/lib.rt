@@ -1,5 +1,6 @@
 // A node of the tree.
 use format::Refusal;
+use format::answers;
 use key::Keys;
 use symbol::entry::Group;
 use walk::blocks;
@@ -46,19 +47,19 @@ pub fn read_node(image: &[u8], list: &mut [u64], group: Group, count: usize, at:
         Entry::Entered(c) => {
             let start = at as usize;
             if u32_at(image, start) != TREE {
-                return NodeRead::Stopped(Refusal::Fault(7, start));
+                return NodeRead::Stopped(Refusal::Fault(answers::WRONG_SIGNATURE, start));
             }
             if image[start + 4] != 0 {
-                return NodeRead::Stopped(Refusal::Fault(8, start));
+                return NodeRead::Stopped(Refusal::Fault(answers::NODE_UNSOUND, start));
             }
             let limits = format::the_limits();
             let level = image[start + 5];
             if limits.level_most < level {
-                return NodeRead::Stopped(Refusal::Fault(8, start));
+                return NodeRead::Stopped(Refusal::Fault(answers::NODE_UNSOUND, start));
             }
             let entries = u16_at(image, start + 6);
             if 2 * k < entries {
-                return NodeRead::Stopped(Refusal::Fault(8, start));
+                return NodeRead::Stopped(Refusal::Fault(answers::NODE_UNSOUND, start));
             }
             NodeRead::Read {
                 level,
@@ -97,10 +98,10 @@ pub fn read_branch(
             count: c,
         } => {
             if own as u64 != level {
-                return BranchRead::Stopped(Refusal::Fault(8, at as usize));
+                return BranchRead::Stopped(Refusal::Fault(answers::NODE_UNSOUND, at as usize));
             }
             if entries < 1 {
-                return BranchRead::Stopped(Refusal::Fault(8, at as usize));
+                return BranchRead::Stopped(Refusal::Fault(answers::NODE_UNSOUND, at as usize));
             }
             match key::check_keys(image, segment, at as usize + 24, entries + 1) {
                 Keys::Unsound(x) => BranchRead::Stopped(x),

@@ -3,8 +3,9 @@ use continuations::Reading;
 use dataset::dataset::DatasetRead;
 use dataset::dataset::PartsRead;
 use format::Refusal;
+use format::answers;
 use image::header;
-use image::header::HeaderRead;
+use kind::HeaderRead;
 use message::Body;
 use sharing::Sharing;
 use superblock::Superblock;
@@ -48,17 +49,21 @@ fn read_group(
     let end_of_file = superblock.end_of_file;
     let leaf_k = superblock.leaf_k;
     let internal_k = superblock.internal_k;
+    let auditing = true;
+    let reading = group::group::Reading {
+        end_of_file,
+        room,
+        leaf_k,
+        internal_k,
+        auditing,
+    };
     match group::group::read(
         image,
         image,
         list,
         addresses,
         counts,
-        end_of_file,
-        room,
-        leaf_k,
-        internal_k,
-        true,
+        reading,
         tree,
         heap,
         count,
@@ -91,7 +96,8 @@ fn read_dataset(
     requires { ⌜ BodiesInside (now image) space datatype layout ⌝ }
     ensures { λ r. ⌜ FoundWalked (now (image .entry)) (now (list .entry)) (now (addresses .entry)) (now (counts .entry)) (now (marks .entry)) superblock room
         (contentWalk (superblockOf superblock) (datasetObject (messageOf (now (image .entry)) 0x0001 space) (messageOf (now (image .entry)) 0x0003 datatype)
-        (messageOf (now (image .entry)) 0x0008 layout))) count objects (now (list .exit)) (now (addresses .exit)) (now (counts .exit)) (now (marks .exit)) r ⌝ }
+        (messageOf (now (image .entry)) 0x0008 layout))) count objects
+        (now (list .exit)) (now (addresses .exit)) (now (counts .exit)) (now (marks .exit)) r ⌝ }
 {
     match dataset::dataset::read_parts(image, space, datatype) {
         PartsRead::Refused(x) => ObjectRead::Stopped(x),
@@ -149,7 +155,7 @@ fn known_group(
         (now (marks .exit)) r ⌝ }
 {
     if !sharing::not_committed(marks, i) {
-        return ObjectRead::Stopped(Refusal::Fault(10, at));
+        return ObjectRead::Stopped(Refusal::Fault(answers::HEADER_UNSOUND, at));
     }
     read_group(
         image,
@@ -187,10 +193,11 @@ fn known_dataset(
     requires { ⌜ i < objectsMost ⌝ }
     ensures { λ r. ⌜ FoundWalked (now (image .entry)) (now (list .entry)) (now (addresses .entry)) (now (counts .entry)) (now (marks .entry)) superblock room
         (behindHeader superblock i at (datasetObject (messageOf (now (image .entry)) 0x0001 space) (messageOf (now (image .entry)) 0x0003 datatype)
-        (messageOf (now (image .entry)) 0x0008 layout))) count objects (now (list .exit)) (now (addresses .exit)) (now (counts .exit)) (now (marks .exit)) r ⌝ }
+        (messageOf (now (image .entry)) 0x0008 layout))) count objects
+        (now (list .exit)) (now (addresses .exit)) (now (counts .exit)) (now (marks .exit)) r ⌝ }
 {
     if !sharing::not_committed(marks, i) {
-        return ObjectRead::Stopped(Refusal::Fault(10, at));
+        return ObjectRead::Stopped(Refusal::Fault(answers::HEADER_UNSOUND, at));
     }
     read_dataset(
         image,

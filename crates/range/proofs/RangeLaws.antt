@@ -91,19 +91,22 @@ module _ (seg : List ℕ) (range : Range) (t : List ℕ) where
   pub holds-not-above : range .bounded ≡ true → below (nameIn seg (range .low)) t ≡ false → false ≡ rangeHolds seg range t
   holds-not-above e f = rw e (all-fails _ f)
 
-  pub holds-last : {x : Bool} → range .bounded ≡ true → below (nameIn seg (range .low)) t ≡ true → x ≡ below (nameIn seg (range .high)) t → not x ≡ rangeHolds seg range t
+  pub holds-last : {x : Bool} → range .bounded ≡ true → below (nameIn seg (range .low)) t ≡ true → x ≡ below (nameIn seg (range .high)) t →
+      not x ≡ rangeHolds seg range t
   holds-last e f g = rw e (all-passes _ f (ap not g ∙ all-last _))
 
 -- The range of a child: between two keys, inside the range of its node.
 module _ (seg : List ℕ) (range : Range) (low high : Name) where
-  pub narrowed-first : NameInside seg low → NameInside seg high → range .bounded ≡ false → Narrowed seg range low high (record { bounded = true; low = low; high = high })
+  pub narrowed-first : NameInside seg low → NameInside seg high → range .bounded ≡ false →
+      Narrowed seg range low high (record { bounded = true; low = low; high = high })
   unfolding within
   narrowed-first i j e = record {
     inside = record { lowInside = i; highInside = j };
     tight = λ bounds f t. rw (f t, e) (two _ _);
   }
 
-  pub narrowed-more : (l h : Name) → range .bounded ≡ true → HigherOf seg (range .low) low l → LowerOf seg (range .high) high h → Narrowed seg range low high (record { bounded = true; low = l; high = h })
+  pub narrowed-more : (l h : Name) → range .bounded ≡ true → HigherOf seg (range .low) low l → LowerOf seg (range .high) high h →
+      Narrowed seg range low high (record { bounded = true; low = l; high = h })
   unfolding within
   narrowed-more l h e u v = record {
     inside = record { lowInside = u .inside; highInside = v .inside };

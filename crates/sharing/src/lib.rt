@@ -2,6 +2,7 @@
 // it. The marks stand beside the table of objects, in the same order.
 use attribute::AttributeRead;
 use datatype::Datatype;
+use format::answers;
 use ledger::table;
 use ledger::table::Discovery;
 ghost use Prim.Native.Nat.{_<_};
@@ -34,10 +35,10 @@ pub fn share(
 {
     let place = table::find(addresses, objects, address);
     match table::count_at(addresses, counts, objects, address, place) {
-        Discovery::Full => Sharing::Refused(12),
+        Discovery::Full => Sharing::Refused(answers::TOO_MANY_OBJECTS),
         Discovery::Counted(n) => {
             if marks[place] == OTHER_KIND {
-                return Sharing::Refused(10);
+                return Sharing::Refused(answers::HEADER_UNSOUND);
             }
             marks[place] = SHARED;
             Sharing::Counted(n)

@@ -9,7 +9,8 @@ use lib.Dec.{eqb, leb, lit≤, lit<}
 use lib.ListN.{length}
 use Rattle.format.specs.Limits.{imageLeast, imageMost}
 use Rattle.format.specs.Bytes.{if_then_else_, allHold, inRange, littleEndian, part, u16, u32, u64}
-use Rattle.format.specs.Superblock.{Superblock, versionShift, Opening, opened, notOpened, signature, superblockRead, superblockSound, superblockFields, openImage}
+use Rattle.format.specs.Superblock.{Superblock, versionShift, Opening, opened, notOpened}
+use Rattle.format.specs.Superblock.{signature, superblockRead, superblockSound, superblockFields, openImage}
 use Rattle.walk.specs.Numbers.{Number}
 use Rattle.walk.proofs.Tests.{all-held}
 use Rattle.laws.proofs.ImageLength.{image-small}

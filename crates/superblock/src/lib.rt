@@ -1,4 +1,5 @@
 // The superblock, versions 0 and 1.
+use format::answers;
 use walk::blocks;
 use walk::blocks::Entry;
 use walk::kinds;
@@ -10,7 +11,8 @@ ghost use mathlib.Core.Path.{_≡_};
 ghost use mathlib.Core.List.{List, []};
 ghost use Prim.Native.Nat.{ℕ, _≤_, _<_};
 ghost use lib.ListN.{length};
-ghost use Rattle.format.specs.Superblock.{openImage, versionsRead, sizesRead, addressesRead, superblockRead, superblockSound, superblockFields, superblockWalk};
+ghost use Rattle.format.specs.Superblock.{openImage, versionsRead, sizesRead, addressesRead};
+ghost use Rattle.format.specs.Superblock.{superblockRead, superblockSound, superblockFields, superblockWalk};
 ghost use Rattle.format.specs.Walk.{run};
 ghost use Rattle.walk.specs.Lent.{Lent, Walked, entryEnd};
 ghost use Rattle.superblock.specs.Superblock.{Shifted, superblockOf, openingOf, FieldsBounded};
@@ -134,20 +136,20 @@ pub fn open(image: &[u8]) -> Opening
 {
     let limits = format::the_limits();
     if image.len() < limits.image_least {
-        return Opening::NotOpened(1);
+        return Opening::NotOpened(answers::LENGTH_OUT_OF_RANGE);
     }
     if limits.image_most < image.len() {
-        return Opening::NotOpened(1);
+        return Opening::NotOpened(answers::LENGTH_OUT_OF_RANGE);
     }
     if u64_at(image, 0) != SIGNATURE {
-        return Opening::NotOpened(2);
+        return Opening::NotOpened(answers::NO_SIGNATURE);
     }
     let shift = version_shift(image);
     if !superblock_read(image, shift) {
-        return Opening::NotOpened(3);
+        return Opening::NotOpened(answers::NOT_READ);
     }
     if !superblock_sound(image, shift) {
-        return Opening::NotOpened(4);
+        return Opening::NotOpened(answers::SUPERBLOCK_UNSOUND);
     }
     Opening::Opened(superblock_fields(image, shift))
 }
@@ -156,7 +158,8 @@ pub fn open(image: &[u8]) -> Opening
 // every image.
 pub fn enter_superblock(superblock: Superblock, blocks: &mut [u64], room: usize) -> Entry
     requires { ⌜ Lent (now blocks) 0 room ⌝ }
-    ensures { λ r. ⌜ ((im : List ℕ) → Walked (now (blocks .entry)) (now (blocks .exit)) (entryEnd r) (run im (superblock .«end_of_file») room (superblockWalk (superblockOf superblock)) [])) ⌝ }
+    ensures { λ r. ⌜ ((im : List ℕ) → Walked (now (blocks .entry)) (now (blocks .exit)) (entryEnd r)
+        (run im (superblock .«end_of_file») room (superblockWalk (superblockOf superblock)) [])) ⌝ }
 {
     blocks::enter(
         superblock.end_of_file,

@@ -51,10 +51,12 @@ module _ (im seg : List ℕ) (head free kind at : ℕ) where
   value-none n = λ m l i k. takes-else _ _ (field-unequal (sym k) n) refl
 
   module _ (two : kind ≡ 2) (off : ℕ) (o : off ≡ u32 im (at + 24)) where
-    value-there : (m : ℕ) → 40 ≤ m → (t : Text) → t ≡ valueText (chainedHeap seg head free) off → readText t ≡ readText (valueText (chainedHeap seg head free) (u32 (part im at m) 24))
+    value-there : (m : ℕ) → 40 ≤ m → (t : Text) → t ≡ valueText (chainedHeap seg head free) off →
+        readText t ≡ readText (valueText (chainedHeap seg head free) (u32 (part im at m) 24))
     value-there m l t e = ap readText (e ∙ ap (valueText (chainedHeap seg head free)) (o ∙ sym (field im at m 24 4 l (omega arith))))
 
-    pub value-refused : (f : NameFault) (n : ℕ) → n ≡ faultNumber (faultOf f) → fault (faultOf f) ≡ valueText (chainedHeap seg head free) off → ValueIs im seg head free kind at (Unsound n)
+    pub value-refused : (f : NameFault) (n : ℕ) → n ≡ faultNumber (faultOf f) → fault (faultOf f) ≡ valueText (chainedHeap seg head free) off →
+        ValueIs im seg head free kind at (Unsound n)
     unfolding readValue
     value-refused f n p e = λ m l i k. takes-then _ _ (field-equal (sym k) two) (answers _ (ap answer p ∙ value-there m l (fault (faultOf f)) e))
 
@@ -70,12 +72,15 @@ pub same-entry : {im seg wanted addresses counts : List ℕ} {g : Group} {r : Ra
     EntryIs im seg wanted addresses counts g r at s addresses′ counts′ x → EntryIs im seg wanted addresses counts g r at s addresses′ counts′ x′
 same-entry e h = rw e at h
 
-pub same-visit : {addresses counts : List ℕ} {objects : ℕ} {auditing : Bool} {name name′ wanted : List ℕ} {kind header : ℕ} {l : Link} {addresses′ counts′ : List ℕ} {r r′ : Visit} →
-    name ≡ name′ → r ≡ r′ → Visited addresses counts objects auditing name wanted kind header l addresses′ counts′ r → Visited addresses counts objects auditing name′ wanted kind header l addresses′ counts′ r′
+pub same-visit : {addresses counts : List ℕ} {objects : ℕ} {auditing : Bool} {name name′ wanted : List ℕ} {kind header : ℕ} {l : Link}
+    {addresses′ counts′ : List ℕ} {r r′ : Visit} →
+    name ≡ name′ → r ≡ r′ → Visited addresses counts objects auditing name wanted kind header l addresses′ counts′ r →
+    Visited addresses counts objects auditing name′ wanted kind header l addresses′ counts′ r′
 same-visit e f h = rw (e, f) at h
 
 -- a name that was read at the entry's first field
-pub name-sound : (im seg : List ℕ) (g : Group) (at off n : ℕ) → off ≡ u64 im at → TextRead seg off (texts.Sound n) (nameText (chainedHeap seg (g .head) (g .free)) off) →
+pub name-sound : (im seg : List ℕ) (g : Group) (at off n : ℕ) → off ≡ u64 im at →
+    TextRead seg off (texts.Sound n) (nameText (chainedHeap seg (g .head) (g .free)) off) →
     NameSound im seg g at (record { at = off; size = n })
 name-sound im seg g at off n o h =
     let j : off + n < length seg = h .inside in
@@ -83,11 +88,14 @@ name-sound im seg g at off n o h =
 
 -- An entry, by its tests in their order.
 module _ (im seg wanted addresses counts : List ℕ) (g : Group) (r : Range) (at : ℕ) (s : State) (addresses′ counts′ : List ℕ) where
-  pub name-refused : (off : ℕ) → off ≡ u64 im at → (f : NameFault) (n : ℕ) → n ≡ faultNumber (faultOf f) → fault (faultOf f) ≡ nameText (chainedHeap seg (g .head) (g .free)) off →
+  pub name-refused : (off : ℕ) → off ≡ u64 im at → (f : NameFault) (n : ℕ) → n ≡ faultNumber (faultOf f) →
+      fault (faultOf f) ≡ nameText (chainedHeap seg (g .head) (g .free)) off →
       EntryIs im seg wanted addresses counts g r at s addresses′ counts′ (Stopped (faultAt n at))
   unfolding readEntry
   name-refused off o f n p e = record {
-    walk = λ bounds m t l i. ap (located at) (answers _ (ap answer p ∙ ap readText (e ∙ ap (nameText (chainedHeap seg (g .head) (g .free))) (o ∙ sym (first-field im at m l)))));
+    walk =
+        λ bounds m t l i. ap (located at)
+        (answers _ (ap answer p ∙ ap readText (e ∙ ap (nameText (chainedHeap seg (g .head) (g .free))) (o ∙ sym (first-field im at m l)))));
     kept = tt;
   }
 
@@ -95,14 +103,19 @@ module _ (im seg wanted addresses counts : List ℕ) (g : Group) (r : Range) (at
     name-there : (m : ℕ) → 40 ≤ m → value (nameIn seg n) ≡ readText (nameText (chainedHeap seg (g .head) (g .free)) (u64 (part im at m) 0))
     name-there m l = ap readText (sym (sound .is) ∙ ap (nameText (chainedHeap seg (g .head) (g .free))) (sym (first-field im at m l)))
 
-    pub order-refused : false ≡ below (nameIn seg (s .last)) (nameIn seg n) → EntryIs im seg wanted addresses counts g r at s addresses′ counts′ (Stopped (faultAt 8 at))
+    pub order-refused : false ≡ below (nameIn seg (s .last)) (nameIn seg n) →
+        EntryIs im seg wanted addresses counts g r at s addresses′ counts′ (Stopped (faultAt 8 at))
     unfolding readEntry
     order-refused e = record { walk = λ bounds m t l i. ap (located at) (gives _ (name-there m l) (fails _ _ (sym e))); kept = tt }
 
     module _ (rises : true ≡ below (nameIn seg (s .last)) (nameIn seg n)) where
       pub range-refused : false ≡ rangeHolds seg r (nameIn seg n) → EntryIs im seg wanted addresses counts g r at s addresses′ counts′ (Stopped (faultAt 8 at))
       unfolding readEntry
-      range-refused e = record { walk = λ bounds m t l i. ap (located at) (gives _ (name-there m l) (passes _ _ (sym rises) (fails _ _ (t (nameIn seg n) ∙ sym e)))); kept = tt }
+      range-refused e = record {
+        walk = λ bounds m t l i. ap (located at) (gives _ (name-there m l)
+            (passes _ _ (sym rises) (fails _ _ (t (nameIn seg n) ∙ sym e))));
+        kept = tt;
+      }
 
       module _ (held : true ≡ rangeHolds seg r (nameIn seg n)) (kind : ℕ) (k : kind ≡ u32 im (at + 16)) where
         kind-there : (m : ℕ) → 40 ≤ m → u32 (part im at m) 16 ≡ kind
@@ -111,16 +124,20 @@ module _ (im seg wanted addresses counts : List ℕ) (g : Group) (r : Range) (at
         pub type-refused : 2 < kind → EntryIs im seg wanted addresses counts g r at s addresses′ counts′ (Stopped (faultAt 8 at))
         unfolding readEntry
         type-refused h = record {
-          walk = λ bounds m t l i. ap (located at) (gives _ (name-there m l) (passes _ _ (sym rises) (passes _ _ (t (nameIn seg n) ∙ sym held) (fails _ _ (field-above (kind-there m l) h)))));
+          walk =
+              λ bounds m t l i. ap (located at)
+              (gives _ (name-there m l) (passes _ _ (sym rises) (passes _ _ (t (nameIn seg n) ∙ sym held) (fails _ _ (field-above (kind-there m l) h)))));
           kept = tt;
         }
 
         module _ (known : kind ≤ 2) where
-          pub link-refused : (x : ℕ) → ValueIs im seg (g .head) (g .free) kind at (Unsound x) → EntryIs im seg wanted addresses counts g r at s addresses′ counts′ (Stopped (faultAt x at))
+          pub link-refused : (x : ℕ) → ValueIs im seg (g .head) (g .free) kind at (Unsound x) →
+              EntryIs im seg wanted addresses counts g r at s addresses′ counts′ (Stopped (faultAt x at))
           unfolding readEntry
           link-refused x v = record {
             walk = λ bounds m t l i.
-                ap (located at) (gives _ (name-there m l) (passes _ _ (sym rises) (passes _ _ (t (nameIn seg n) ∙ sym held) (passes _ _ (field-most (kind-there m l) known)
+                ap (located at)
+                (gives _ (name-there m l) (passes _ _ (sym rises) (passes _ _ (t (nameIn seg n) ∙ sym held) (passes _ _ (field-most (kind-there m l) known)
                 (answers _ (v m l i (sym (kind-there m l))))))));
             kept = tt;
           }
@@ -140,24 +157,28 @@ module _ (im seg wanted addresses counts : List ℕ) (g : Group) (r : Range) (at
             unfolding readEntry
             visit-refused d = record {
               walk = λ bounds m t l i.
-                  ap (located at) (gives _ (name-there m l) (passes _ _ (sym rises) (passes _ _ (t (nameIn seg n) ∙ sym held) (passes _ _ (field-most (kind-there m l) known)
+                  ap (located at)
+                  (gives _ (name-there m l) (passes _ _ (sym rises) (passes _ _ (t (nameIn seg n) ∙ sym held) (passes _ _ (field-most (kind-there m l) known)
                   (gives _ (v m l i (sym (kind-there m l))) (answers _ (d .walk ∙ visit-there m l _)))))));
               kept = tt;
             }
 
             pub visited : (objects : ℕ) (link : Link) →
                 Visited addresses counts (s .objects) (g .auditing) (nameIn seg n) wanted kind header (s .link) addresses′ counts′ (visits.Done objects link) →
-                EntryIs im seg wanted addresses counts g r at s addresses′ counts′ (Done (record { count = s .count; objects = objects; last = n; link = link }))
+                EntryIs im seg wanted addresses counts g r at s addresses′ counts′
+                (Done (record { count = s .count; objects = objects; last = n; link = link }))
             unfolding readEntry
             visited objects link d = record {
               walk = λ bounds m t l i.
-                  ap (located at) (gives _ (name-there m l) (passes _ _ (sym rises) (passes _ _ (t (nameIn seg n) ∙ sym held) (passes _ _ (field-most (kind-there m l) known)
+                  ap (located at)
+                  (gives _ (name-there m l) (passes _ _ (sym rises) (passes _ _ (t (nameIn seg n) ∙ sym held) (passes _ _ (field-most (kind-there m l) known)
                   (gives _ (v m l i (sym (kind-there m l))) (gives _ (d .walk ∙ visit-there m l _) refl))))));
               kept = record { blocks = refl; last = sound .inside; table = d .table .0; links = d .table .1 };
             }
 
 -- The loop over the entries: what i entries leave to read, and the state with them.
-pub record Reading (im seg wanted addresses₀ counts₀ : List ℕ) (g : Group) (r : Range) (from n : ℕ) (s₀ : State) (addresses counts : List ℕ) (i : ℕ) (s : State) : Type 0 where
+pub record Reading (im seg wanted addresses₀ counts₀ : List ℕ) (g : Group) (r : Range) (from n : ℕ) (s₀ : State) (addresses counts : List ℕ) (i : ℕ)
+    (s : State) : Type 0 where
   pub inside : i ≤ n
   pub walk : (bounds : List Bound) (m : ℕ) → Tight seg r bounds → 40 * n ≤ m → from + m ≤ length im →
       entries (groupOf seg wanted g) bounds n from (part im from m) (stateOf seg addresses₀ counts₀ s₀)
@@ -231,7 +252,8 @@ module _ (im seg wanted addresses₀ counts₀ : List ℕ) (g : Group) (r : Rang
               let e : from + 40 * i + 40 ≡ from + 40 * (i + 1) = omega arith in
               let f : m - 40 * i - 40 ≡ m - 40 * (i + 1) = omega arith in
               reading-next bounds m t l j
-              ∙ rw (← h .walk bounds (m - 40 * i) t (omega arith) (omega arith)) (ret-bind (stateOf seg addresses′ counts′ s′) _ ∙ rw (drop-part im (from + 40 * i) (m - 40 * i) 40, e, f));
+              ∙ rw (← h .walk bounds (m - 40 * i) t (omega arith) (omega arith))
+              (ret-bind (stateOf seg addresses′ counts′ s′) _ ∙ rw (drop-part im (from + 40 * i) (m - 40 * i) 40, e, f));
           kept = record { blocks = h .kept .blocks ∙ reading .kept .blocks; last = h .kept .last; table = h .kept .table; links = omega arith };
           addressesSame = p ∙ reading .addressesSame;
           countsSame = q ∙ reading .countsSame;

@@ -26,7 +26,13 @@ use Rattle.symbol.specs.declared.entry.Value.the-variants.{Sound, Unsoun
 
 -- the group as the definitions have it, with the visit for both uses
 abbrev pub groupOf : List ℕ → List ℕ → Group → Rattle.format.specs.Entry.Group Both
-groupOf seg wanted g = record { leafK = g .«leaf_k»; internalK = g .«internal_k»; heap = chainedHeap seg (g .head) (g .free); visit = visitBoth (g .auditing) wanted }
+groupOf seg wanted g = record {
+  leafK = g .«leaf_k»;
+  internalK = g .«internal_k»;
+  heap = chainedHeap seg (g .head) (g .free);
+  visit = visitBoth (g .auditing)
+      wanted;
+}
 
 abbrev pub stateOf : List ℕ → List ℕ → List ℕ → State → GroupState Both
 stateOf seg addresses counts s = record { last = nameIn seg (s .last); found = bothOf addresses counts (s .objects) (s .link) }
@@ -68,13 +74,15 @@ KeptIf seg addresses counts s n addresses′ counts′ (Done s′) = Kept seg ad
 KeptIf seg addresses counts s n addresses′ counts′ (Stopped x) = Unit {0}
 
 -- the entry at `at` was read as its reader reads it, from any part of the image that holds it
-pub record EntryIs (im seg wanted addresses counts : List ℕ) (g : Group) (r : Range) (at : ℕ) (s : State) (addresses′ counts′ : List ℕ) (x : Step) : Type 0 where
+pub record EntryIs (im seg wanted addresses counts : List ℕ) (g : Group) (r : Range) (at : ℕ) (s : State) (addresses′ counts′ : List ℕ)
+    (x : Step) : Type 0 where
   pub walk : (bounds : List Bound) (m : ℕ) → Tight seg r bounds → 40 ≤ m → at + m ≤ length im →
       stepOf seg addresses′ counts′ x ≡ located at (readEntry (groupOf seg wanted g) bounds (part im at m) (stateOf seg addresses counts s))
   pub kept : KeptIf seg addresses counts s 1 addresses′ counts′ x
 
 -- n entries were read as their walk reads them
-pub record EntriesAre (im seg wanted addresses counts : List ℕ) (g : Group) (r : Range) (from n : ℕ) (s : State) (addresses′ counts′ : List ℕ) (x : Step) : Type 0 where
+pub record EntriesAre (im seg wanted addresses counts : List ℕ) (g : Group) (r : Range) (from n : ℕ) (s : State) (addresses′ counts′ : List ℕ)
+    (x : Step) : Type 0 where
   pub walk : (bounds : List Bound) (m : ℕ) → Tight seg r bounds → 40 * n ≤ m → from + m ≤ length im →
       stepOf seg addresses′ counts′ x ≡ entries (groupOf seg wanted g) bounds n from (part im from m) (stateOf seg addresses counts s)
   pub kept : KeptIf seg addresses counts s n addresses′ counts′ x

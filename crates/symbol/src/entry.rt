@@ -1,5 +1,6 @@
 // The entries of a symbol table node.
 use format::Refusal;
+use format::answers;
 use key::fault_number;
 use names::Text;
 use range::Name;
@@ -76,18 +77,19 @@ fn named_entry(
     requires { ⌜ Ready (now segment) (now addresses) (now counts) group range state ⌝ }
     requires { ⌜ linkSum (linkedOf (state .objects) (now addresses) (now counts)) + 1 < 2 ^ 32 ⌝ }
     requires { ⌜ NameSound (now image) (now segment) group at name ⌝ }
-    ensures { λ r. ⌜ EntryIs (now (image .entry)) (now (segment .entry)) (now (wanted .entry)) (now (addresses .entry)) (now (counts .entry)) group range at state (now (addresses .exit)) (now (counts .exit)) r ⌝ }
+    ensures { λ r. ⌜ EntryIs (now (image .entry)) (now (segment .entry)) (now (wanted .entry)) (now (addresses .entry)) (now (counts .entry)) group range
+        at state (now (addresses .exit)) (now (counts .exit)) r ⌝ }
 {
     let last = state.last;
     if !range::name_below(segment, last, name) {
-        return Step::Stopped(Refusal::Fault(8, at));
+        return Step::Stopped(Refusal::Fault(answers::NODE_UNSOUND, at));
     }
     if !range::holds(segment, range, name) {
-        return Step::Stopped(Refusal::Fault(8, at));
+        return Step::Stopped(Refusal::Fault(answers::NODE_UNSOUND, at));
     }
     let kind = u32_at(image, at + 16);
     if 2 < kind {
-        return Step::Stopped(Refusal::Fault(8, at));
+        return Step::Stopped(Refusal::Fault(answers::NODE_UNSOUND, at));
     }
     match check_value(image, segment, group.head, group.free, kind, at) {
         Value::Unsound(n) => Step::Stopped(Refusal::Fault(n, at)),
@@ -109,7 +111,7 @@ fn named_entry(
                 header,
                 link,
             ) {
-                Visit::Full => Step::Stopped(Refusal::Fault(12, at)),
+                Visit::Full => Step::Stopped(Refusal::Fault(answers::TOO_MANY_OBJECTS, at)),
                 Visit::Done { objects, link } => Step::Done(State {
                     count: state.count,
                     objects,
@@ -136,7 +138,8 @@ fn one_entry(
     requires { ⌜ at + 40 ≤ length (now image) ⌝ }
     requires { ⌜ Ready (now segment) (now addresses) (now counts) group range state ⌝ }
     requires { ⌜ linkSum (linkedOf (state .objects) (now addresses) (now counts)) + 1 < 2 ^ 32 ⌝ }
-    ensures { λ r. ⌜ EntryIs (now (image .entry)) (now (segment .entry)) (now (wanted .entry)) (now (addresses .entry)) (now (counts .entry)) group range at state (now (addresses .exit)) (now (counts .exit)) r ⌝ }
+    ensures { λ r. ⌜ EntryIs (now (image .entry)) (now (segment .entry)) (now (wanted .entry)) (now (addresses .entry)) (now (counts .entry)) group range
+        at state (now (addresses .exit)) (now (counts .exit)) r ⌝ }
 {
     let off = u64_at(image, at);
     match names::name(segment, group.head, group.free, off) {
@@ -178,7 +181,8 @@ pub fn entries(
     requires { ⌜ from + 40 * n ≤ length (now image) ⌝ }
     requires { ⌜ Ready (now segment) (now addresses) (now counts) group range state ⌝ }
     requires { ⌜ linkSum (linkedOf (state .objects) (now addresses) (now counts)) + n < 2 ^ 32 ⌝ }
-    ensures { λ r. ⌜ EntriesAre (now (image .entry)) (now (segment .entry)) (now (wanted .entry)) (now (addresses .entry)) (now (counts .entry)) group range from n state (now (addresses .exit)) (now (counts .exit)) r ⌝ }
+    ensures { λ r. ⌜ EntriesAre (now (image .entry)) (now (segment .entry)) (now (wanted .entry)) (now (addresses .entry)) (now (counts .entry)) group
+        range from n state (now (addresses .exit)) (now (counts .exit)) r ⌝ }
 {
     let mut i: usize = 0;
     let mut s = state;

@@ -16,10 +16,11 @@ use Rattle.walk.specs.Lent.{blocksOf, lengthSum, Lent, Walked, stopped, enterin
 use Rattle.walk.specs.Numbers.{Number}
 use Rattle.walk.specs.declared.blocks.Entry.the-variants.{Entered, Refused}
 use Rattle.walk.proofs.Parts.{part-byte, part-number, part-first-number, drop-part}
-use Rattle.laws.proofs.Disjoint.{Fresh}
-use Rattle.laws.proofs.Growth.{Inside, Grown}
+use Rattle.laws.specs.Blocks.{Fresh, Inside}
+use Rattle.laws.proofs.Growth.{Grown}
 use Rattle.laws.proofs.SumOfLengths.{lengths-append, lengths-inside}
-use Rattle.laws.proofs.Simulation.{Simulation, start, same-walk, returned, refusal, passed, failed, entered-blocks, entered-grown, block-entered, block-refused, entered-inside}
+use Rattle.laws.proofs.Simulation.{Simulation, start, same-walk, returned, refusal, passed}
+use Rattle.laws.proofs.Simulation.{failed, entered-blocks, entered-grown, block-entered, block-refused, entered-inside}
 use Rattle.walk.proofs.Tests.{field-equal, field-unequal, range-below, range-above, range-inside}
 use Rattle.ledger.specs.Links.{linkSum}
 use Rattle.ledger.specs.Table.{linkedOf}
@@ -59,7 +60,8 @@ module _ (im : List ℕ) (eof room : ℕ) (ws : List ℕ) (count at : ℕ) (l : 
       sized : size ≡ 8 + 80 * g .leafK
       sized = rw kk
 
-      pub symbols-refused : (x : Refusal) → Refused x ≡ entering (entryAnswer eof room (blocksOf count ws) at size) 7 at size (blocksOf count ws) count → Walked ws ws₁ (stopped x) (run im eof room w (blocksOf count ws))
+      pub symbols-refused : (x : Refusal) → Refused x ≡ entering (entryAnswer eof room (blocksOf count ws) at size) 7 at size (blocksOf count ws) count →
+          Walked ws ws₁ (stopped x) (run im eof room w (blocksOf count ws))
       unfolding symbolWalk _>>=_
       symbols-refused x e = block-refused size sized (sym sized) ws₁ begun q x e
 
@@ -69,7 +71,8 @@ module _ (im : List ℕ) (eof room : ℕ) (ws : List ℕ) (count at : ℕ) (l : 
         symbols-inside = entered-inside size sized (sym sized) ws₁ begun q m e
 
         at-signature : Simulation im eof room w count ws
-            (check (eqb (u32 b 0) SNOD) (fault 7 at) >> (check (eqb (u8 b 4) 1) (fault 7 at) >> (check (inRange 1 (2 * g .leafK) (u16 b 6)) (fault 8 at) >> entries g bounds (u16 b 6) (at + 8) (drop 8 b) s))) m ws₁
+            (check (eqb (u32 b 0) SNOD) (fault 7 at) >> (check (eqb (u8 b 4) 1) (fault 7 at) >>
+            (check (inRange 1 (2 * g .leafK) (u16 b 6)) (fault 8 at) >> entries g bounds (u16 b 6) (at + 8) (drop 8 b) s))) m ws₁
         unfolding symbolWalk _>>=_ shown
         at-signature = block-entered size sized (sym sized) ws₁ begun q m e
 
@@ -84,7 +87,8 @@ module _ (im : List ℕ) (eof room : ℕ) (ws : List ℕ) (count at : ℕ) (l : 
           signature-wrong h = failed (eqb (u32 b 0) SNOD) (fault 7 at) _ (field-unequal signature-there h) at-signature
 
           module _ (h : signature ≡ SNOD) where
-            at-version : Simulation im eof room w count ws (check (eqb (u8 b 4) 1) (fault 7 at) >> (check (inRange 1 (2 * g .leafK) (u16 b 6)) (fault 8 at) >> entries g bounds (u16 b 6) (at + 8) (drop 8 b) s)) m ws₁
+            at-version : Simulation im eof room w count ws (check (eqb (u8 b 4) 1) (fault 7 at) >>
+                (check (inRange 1 (2 * g .leafK) (u16 b 6)) (fault 8 at) >> entries g bounds (u16 b 6) (at + 8) (drop 8 b) s)) m ws₁
             at-version = passed (eqb (u32 b 0) SNOD) (fault 7 at) _ (field-equal signature-there h) at-signature
 
             version-there : u8 b 4 ≡ getD im (at + 4) 0
@@ -94,7 +98,8 @@ module _ (im : List ℕ) (eof room : ℕ) (ws : List ℕ) (count at : ℕ) (l : 
             version-wrong o = failed (eqb (u8 b 4) 1) (fault 7 at) _ (field-unequal version-there o) at-version
 
             module _ (o : getD im (at + 4) 0 ≡ 1) (used : ℕ) (u : Number im (at + 6) 2 used) where
-              at-count : Simulation im eof room w count ws (check (inRange 1 (2 * g .leafK) (u16 b 6)) (fault 8 at) >> entries g bounds (u16 b 6) (at + 8) (drop 8 b) s) m ws₁
+              at-count : Simulation im eof room w count ws (check (inRange 1 (2 * g .leafK) (u16 b 6)) (fault 8 at) >> entries g bounds (u16 b 6) (at + 8)
+                  (drop 8 b) s) m ws₁
               at-count = passed (eqb (u8 b 4) 1) (fault 7 at) _ (field-equal version-there o) at-version
 
               used-there : u16 b 6 ≡ used
@@ -111,11 +116,13 @@ module _ (im : List ℕ) (eof room : ℕ) (ws : List ℕ) (count at : ℕ) (l : 
                 at-entries =
                     let z : 8 + 80 * k - 8 ≡ 80 * k = omega arith in
                     let d : drop 8 b ≡ part im (at + 8) (80 * k) = drop-part im at size 8 ∙ ap (part im (at + 8)) z in
-                    same-walk _ (rw (used-there, d)) (passed (inRange 1 (2 * g .leafK) (u16 b 6)) (fault 8 at) _ (rw (used-there, kk) (range-inside 1 (2 * k) used p r)) at-count)
+                    same-walk _ (rw (used-there, d))
+                    (passed (inRange 1 (2 * g .leafK) (u16 b 6)) (fault 8 at) _ (rw (used-there, kk) (range-inside 1 (2 * k) used p r)) at-count)
 
                 -- the entries' answer is the node's
                 pub symbols-end : (seg addresses counts : List ℕ) (x : Step) → ((t : State) → x ≡ Done t → t .count ≡ m) →
-                    stepOf seg addresses counts x ≡ entries g bounds used (at + 8) (part im (at + 8) (80 * k)) s → Walked ws ws₁ (stepEnd seg addresses counts x) (run im eof room w (blocksOf count ws))
+                    stepOf seg addresses counts x ≡ entries g bounds used (at + 8) (part im (at + 8) (80 * k)) s →
+                    Walked ws ws₁ (stepEnd seg addresses counts x) (run im eof room w (blocksOf count ws))
                 symbols-end seg addresses counts (Done t) c v = rw (c t refl) (returned (same-walk (ret (stateOf seg addresses counts t)) (sym v) at-entries))
                 symbols-end seg addresses counts (Stopped y) c v = refusal (same-walk (refuse y) (sym v) at-entries)
 
@@ -138,6 +145,7 @@ module _ (seg ws addresses counts : List ℕ) (g : Group) (s : State) (n : ℕ) 
   }
   sound-after (Stopped y) l f i h k = tt
 
-pub kept-count : (seg addresses counts : List ℕ) (s : State) (n : ℕ) (addresses′ counts′ : List ℕ) (x : Step) → KeptIf seg addresses counts s n addresses′ counts′ x → (t : State) → x ≡ Done t → t .count ≡ s .count
+pub kept-count : (seg addresses counts : List ℕ) (s : State) (n : ℕ) (addresses′ counts′ : List ℕ) (x : Step) →
+    KeptIf seg addresses counts s n addresses′ counts′ x → (t : State) → x ≡ Done t → t .count ≡ s .count
 kept-count seg addresses counts s n addresses′ counts′ (Done u) k t e = let f : u ≡ t = cc in sym (ap (λ (y : State). y .count) f) ∙ k .blocks
 kept-count seg addresses counts s n addresses′ counts′ (Stopped y) k t e = let z : _≡_ {A = ℕ} 0 1 = cc in absurd (omega arith)

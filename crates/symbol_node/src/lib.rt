@@ -1,5 +1,6 @@
 // A symbol table node.
 use format::Refusal;
+use format::answers;
 use range::Range;
 use symbol::entry;
 use symbol::entry::Group;
@@ -31,7 +32,8 @@ pub fn symbol_node(
     state: State,
 ) -> Step
     requires { ⌜ Descending (now image) (now segment) (now list) (now addresses) (now counts) group range state ⌝ }
-    ensures { λ r. ⌜ SymbolsAre (now (image .entry)) (now (segment .entry)) (now (wanted .entry)) (now (list .entry)) (now (addresses .entry)) (now (counts .entry)) group range at state (now (list .exit)) (now (addresses .exit)) (now (counts .exit)) r ⌝ }
+    ensures { λ r. ⌜ SymbolsAre (now (image .entry)) (now (segment .entry)) (now (wanted .entry)) (now (list .entry)) (now (addresses .entry))
+        (now (counts .entry)) group range at state (now (list .exit)) (now (addresses .exit)) (now (counts .exit)) r ⌝ }
 {
     let k = group.leaf_k;
     match blocks::enter(
@@ -47,17 +49,17 @@ pub fn symbol_node(
         Entry::Entered(c) => {
             let start = at as usize;
             if u32_at(image, start) != SNOD {
-                return Step::Stopped(Refusal::Fault(7, start));
+                return Step::Stopped(Refusal::Fault(answers::WRONG_SIGNATURE, start));
             }
             if image[start + 4] != 1 {
-                return Step::Stopped(Refusal::Fault(7, start));
+                return Step::Stopped(Refusal::Fault(answers::WRONG_SIGNATURE, start));
             }
             let n = u16_at(image, start + 6);
             if n < 1 {
-                return Step::Stopped(Refusal::Fault(8, start));
+                return Step::Stopped(Refusal::Fault(answers::NODE_UNSOUND, start));
             }
             if 2 * k < n {
-                return Step::Stopped(Refusal::Fault(8, start));
+                return Step::Stopped(Refusal::Fault(answers::NODE_UNSOUND, start));
             }
             let objects = state.objects;
             let last = state.last;

@@ -36,7 +36,11 @@ ofType-kept t ms m e = ofType-append t ms (m ∷ []) ∙ rw (ofType-other t m e)
 
 pub first-kept : (im : List ℕ) (ms : List Message) (m : Message) (t : ℕ) (f : First) → (m .type ≡ t → ⊥) → IsFirst im ms t f → IsFirst im (ms ++ (m ∷ [])) t f
 unfolding theMessage
-first-kept im ms m t f e i = record { counted = rw (ofType-kept t ms m e) (i .counted); first = λ h. rw (ofType-kept t ms m e) (i .first h); placed = i .placed }
+first-kept im ms m t f e i = record {
+  counted = rw (ofType-kept t ms m e) (i .counted);
+  first = λ h. rw (ofType-kept t ms m e) (i .first h);
+  placed = i .placed;
+}
 
 -- a message of the type is the first, or comes behind it
 module _ (im : List ℕ) (ms : List Message) (t place : ℕ) (p : Placed im t place) (f : First) (i : IsFirst im ms t f) where
@@ -65,9 +69,11 @@ module _ (im : List ℕ) (ms : List Message) (t place : ℕ) (p : Placed im t pl
       go [] e = absurd (z (i .counted ∙ rw e))
       go (x ∷ xs) e = record {
         counted = rw (more, e) (simp length-append (omega arith));
-        first = λ _. rw (more, e) (sym (ap (λ (l : List Message). withFirst l (record { type = t; flags = 0; body = []; place = 0 }) (λ y. y)) e) ∙ i .first pos);
+        first = λ _. rw (more, e) (sym (ap (λ (l : List Message). withFirst l (record { type = t; flags = 0; body = []; place = 0 }) (λ y. y)) e) ∙ i .first
+            pos);
         placed = λ _. i .placed pos;
       }
 
-pub total-more : (ms : List Message) (m : Message) (total next : ℕ) → total ≡ min (length ms) 65536 → next ≡ min (total + 1) 65536 → next ≡ min (length (ms ++ (m ∷ []))) 65536
+pub total-more : (ms : List Message) (m : Message) (total next : ℕ) → total ≡ min (length ms) 65536 → next ≡ min (total + 1) 65536 →
+    next ≡ min (length (ms ++ (m ∷ []))) 65536
 total-more ms m total next e f = simp length-append (omega arith)

@@ -30,3 +30,7 @@ pub record Tallied (im : List ℕ) (ms : List Message) (t : Tally) : Type 0 wher
   pub datatype : IsFirst im ms 0x0003 (t .datatype)
   pub layout : IsFirst im ms 0x0008 (t .layout)
   pub table : IsFirst im ms 0x0011 (t .table)
+
+-- the tally is one of some messages
+abbrev pub HasTally : List ℕ → Tally → Type 0
+HasTally im t = (sofar : List Message) × Tallied im sofar t

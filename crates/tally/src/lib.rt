@@ -40,7 +40,8 @@ pub fn empty() -> Tally
 }
 
 fn one_more(first: First, place: usize) -> First
-    ensures { λ r. ⌜ ((im : List ℕ) (ms : List Message) (type : ℕ) → Placed im type place → IsFirst im ms type first → IsFirst im (ms ++ (messageAt im type place ∷ [])) type r) ⌝ }
+    ensures { λ r. ⌜ ((im : List ℕ) (ms : List Message) (type : ℕ) → Placed im type place → IsFirst im ms type first →
+        IsFirst im (ms ++ (messageAt im type place ∷ [])) type r) ⌝ }
 {
     let count = first.count;
     if count == 0 {

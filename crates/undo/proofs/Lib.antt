@@ -1,2 +1,2 @@
-pub mod UndoLaws
+mod UndoLaws
 mod ByteLaws

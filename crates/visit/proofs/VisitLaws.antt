@@ -33,7 +33,8 @@ module _ (name wanted : List ℕ) (kind header : ℕ) (l : Link) where
   link-soft e h = rw (e, lt-leb kind 1 h)
 
 -- the choices of a lookup are the definition's
-link-chosen : (t u : Bool) (header : ℕ) (l : Link) → linkOf (if t then if u then Hard header else Soft else l) ≡ (if t then if u then hard header else soft else linkOf l)
+link-chosen : (t u : Bool) (header : ℕ) (l : Link) →
+    linkOf (if t then if u then Hard header else Soft else l) ≡ (if t then if u then hard header else soft else linkOf l)
 link-chosen true true header l = refl
 link-chosen true false header l = refl
 link-chosen false u header l = refl
@@ -43,18 +44,23 @@ module _ (xs ts : List ℕ) (n : ℕ) (t : Table xs ts n) (name wanted : List �
   abbrev entry : Entry
   entry = record { name = name; type = kind; header = header }
 
-  pub visit-compared : (auditing : Bool) (l′ : Link) → auditing ≡ false → l′ ≡ linkAfter name wanted kind header l → Visited xs ts n auditing name wanted kind header l xs ts (Done n l′)
+  pub visit-compared : (auditing : Bool) (l′ : Link) → auditing ≡ false → l′ ≡ linkAfter name wanted kind header l →
+      Visited xs ts n auditing name wanted kind header l xs ts (Done n l′)
   unfolding visitBoth compareName
   visit-compared auditing l′ u e = rw u record {
     walk =
-        ap (λ (k : Rattle.format.specs.Lookup.Link). value (record { ledger = linkedOf n xs ts; link = k })) (ap linkOf e ∙ link-chosen (sameBytes name wanted) (leb kind 1) header l)
+        ap (λ (k : Rattle.format.specs.Lookup.Link). value (record { ledger = linkedOf n xs ts; link = k }))
+        (ap linkOf e ∙ link-chosen (sameBytes name wanted) (leb kind 1) header l)
         ∙ sym (value-bind _ _);
     table = (t, omega arith);
   }
 
   pub visit-passed : (auditing : Bool) → auditing ≡ true → 1 < kind → Visited xs ts n auditing name wanted kind header l xs ts (Done n l)
   unfolding visitBoth
-  visit-passed auditing u h = rw u record { walk = rw (discover-other entry (linkedOf n xs ts) (lt-leb kind 1 h)) (sym (value-bind _ _)); table = (t, omega arith) }
+  visit-passed auditing u h = rw u record {
+    walk = rw (discover-other entry (linkedOf n xs ts) (lt-leb kind 1 h)) (sym (value-bind _ _));
+    table = (t, omega arith);
+  }
 
   module _ (auditing : Bool) (u : auditing ≡ true) (h : kind ≤ 1) (xs′ ts′ : List ℕ) where
     pub visit-full : {r : Discovery} → r ≡ TableFull → Discovered xs ts n header xs′ ts′ r → Visited xs ts n auditing name wanted kind header l xs′ ts′ Full
@@ -63,7 +69,8 @@ module _ (xs ts : List ℕ) (n : ℕ) (t : Table xs ts n) (name wanted : List �
         let f : Discovered xs ts n header xs′ ts′ TableFull = rw e at d in
         rw u record { walk = rw (discover-hard entry (linkedOf n xs ts) (le-leb kind 1 h), ← f .walk) (sym (answer-bind _ _)); table = tt }
 
-    pub visit-counted : {r : Discovery} (m : ℕ) → r ≡ Counted m → Discovered xs ts n header xs′ ts′ r → Visited xs ts n auditing name wanted kind header l xs′ ts′ (Done m l)
+    pub visit-counted : {r : Discovery} (m : ℕ) → r ≡ Counted m → Discovered xs ts n header xs′ ts′ r →
+        Visited xs ts n auditing name wanted kind header l xs′ ts′ (Done m l)
     unfolding visitBoth
     visit-counted m e d =
         let f : Discovered xs ts n header xs′ ts′ (Counted m) = rw e at d in

@@ -48,6 +48,8 @@ TableKept addresses counts objects addresses′ counts′ (Done n l) =
     Table addresses′ counts′ n × (linkSum (linkedOf n addresses′ counts′) ≤ linkSum (linkedOf objects addresses counts) + 1)
 TableKept addresses counts objects addresses′ counts′ Full = Unit {0}
 
-pub record Visited (addresses counts : List ℕ) (objects : ℕ) (auditing : Bool) (name wanted : List ℕ) (kind header : ℕ) (l : Link) (addresses′ counts′ : List ℕ) (r : Visit) : Type 0 where
-  pub walk : visitOf addresses′ counts′ r ≡ visitBoth auditing wanted (record { name = name; type = kind; header = header }) (bothOf addresses counts objects l)
+pub record Visited (addresses counts : List ℕ) (objects : ℕ) (auditing : Bool) (name wanted : List ℕ) (kind header : ℕ) (l : Link)
+    (addresses′ counts′ : List ℕ) (r : Visit) : Type 0 where
+  pub walk : visitOf addresses′ counts′ r ≡ visitBoth auditing wanted (record { name = name; type = kind; header = header })
+      (bothOf addresses counts objects l)
   pub table : TableKept addresses counts objects addresses′ counts′ r

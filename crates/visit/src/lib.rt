@@ -46,7 +46,8 @@ pub fn visit_entry(
 ) -> Visit
     requires { ⌜ Table (now addresses) (now counts) objects ⌝ }
     requires { ⌜ linkSum (linkedOf objects (now addresses) (now counts)) + 1 < 2 ^ 32 ⌝ }
-    ensures { λ r. ⌜ Visited (now (addresses .entry)) (now (counts .entry)) objects auditing (now (name .entry)) (now (wanted .entry)) kind header link (now (addresses .exit)) (now (counts .exit)) r ⌝ }
+    ensures { λ r. ⌜ Visited (now (addresses .entry)) (now (counts .entry)) objects auditing (now (name .entry)) (now (wanted .entry)) kind header link
+        (now (addresses .exit)) (now (counts .exit)) r ⌝ }
 {
     if !auditing {
         return Visit::Done {

@@ -16,6 +16,9 @@ use Rattle.format.specs.Blocks.{Block, block, blockWords, blockList, overlaps, 
 use Rattle.format.specs.declared.Refusal.{Refusal}
 use Rattle.format.specs.Walk.{notEntered}
 use Rattle.walk.specs.Lent.{blocksOf, Lent, entering}
+use Rattle.walk.specs.Met.{metBlock, met}
+use Rattle.walk.specs.declared.met.Met.{Met}
+use Rattle.walk.specs.declared.met.Met.the-variants as mets
 use Rattle.walk.specs.declared.blocks.Entry.the-variants.{Entered, Refused}
 
 -- the words cleared so far, behind those that stay, and one more
@@ -100,46 +103,40 @@ blocks-next c i ws h =
     rw (e, f, ← (drop-drop 2 (i + i) ws), ← (getD-drop (i + i) ws 1 0), ← (add-zero (i + i)), ← (getD-drop (i + i) ws 0 0), add-zero)
 
 -- The search, before the ith block: `whole` is what it will have found. One turn of it, by the words of the ith block.
-module _ (c i : ℕ) (ws : List ℕ) (a n : ℕ) (whole : Bool) (h : i < c) (e : whole ≡ overlapsAny (blocksOf (c - i) (drop (i + i) ws)) a n) where
-  turn : whole ≡ overlapsAny (block (getD ws (i + i) 0) (getD ws (i + i + 1) 0) ∷ blocksOf (c - (i + 1)) (drop (i + 1 + (i + 1)) ws)) a n
-  turn = e ∙ ap (λ (bs : List Block). overlapsAny bs a n) (blocks-next c i ws h)
+module _ (c i : ℕ) (ws : List ℕ) (a n : ℕ) (whole : Met) (h : i < c) (e : whole ≡ met (blocksOf (c - i) (drop (i + i) ws)) a n) where
+  turn : whole ≡ met (block (getD ws (i + i) 0) (getD ws (i + i + 1) 0) ∷ blocksOf (c - (i + 1)) (drop (i + 1 + (i + 1)) ws)) a n
+  turn = e ∙ ap (λ (bs : List Block). met bs a n) (blocks-next c i ws h)
 
-  pub search-hit : getD ws (i + i) 0 < a + n → a < getD ws (i + i) 0 + getD ws (i + i + 1) 0 → true ≡ whole
-  unfolding overlapsAny
+  pub search-hit : getD ws (i + i) 0 < a + n → a < getD ws (i + i) 0 + getD ws (i + i + 1) 0 → mets.Block (getD ws (i + i) 0) ≡ whole
+  unfolding overlapsAny firstMet
   search-hit l k = sym (turn ∙ rw (overlaps-hit (getD ws (i + i) 0) (getD ws (i + i + 1) 0) a n l k))
 
-  pub search-below : a + n ≤ getD ws (i + i) 0 → whole ≡ overlapsAny (blocksOf (c - (i + 1)) (drop (i + 1 + (i + 1)) ws)) a n
-  unfolding overlapsAny
+  pub search-below : a + n ≤ getD ws (i + i) 0 → whole ≡ met (blocksOf (c - (i + 1)) (drop (i + 1 + (i + 1)) ws)) a n
+  unfolding overlapsAny firstMet
   search-below l = turn ∙ rw (overlaps-not-below (getD ws (i + i) 0) (getD ws (i + i + 1) 0) a n l)
 
-  pub search-above : getD ws (i + i) 0 + getD ws (i + i + 1) 0 ≤ a → whole ≡ overlapsAny (blocksOf (c - (i + 1)) (drop (i + 1 + (i + 1)) ws)) a n
-  unfolding overlapsAny
+  pub search-above : getD ws (i + i) 0 + getD ws (i + i + 1) 0 ≤ a → whole ≡ met (blocksOf (c - (i + 1)) (drop (i + 1 + (i + 1)) ws)) a n
+  unfolding overlapsAny firstMet
   search-above l = turn ∙ rw (overlaps-not-above (getD ws (i + i) 0) (getD ws (i + i + 1) 0) a n l)
 
-pub search-end : (c i : ℕ) (ws : List ℕ) (a n : ℕ) (whole : Bool) → c ≤ i → whole ≡ overlapsAny (blocksOf (c - i) (drop (i + i) ws)) a n → false ≡ whole
+pub search-end : (c i : ℕ) (ws : List ℕ) (a n : ℕ) (whole : Met) → c ≤ i → whole ≡ met (blocksOf (c - i) (drop (i + i) ws)) a n → mets.Nothing ≡ whole
 unfolding overlapsAny blocksOf
 search-end c i ws a n whole h e = let z : c - i ≡ 0 = omega arith in sym (e ∙ rw z)
 
--- The search for the first block met, the same turns.
-module _ (c i : ℕ) (ws : List ℕ) (a n whole : ℕ) (h : i < c) (e : whole ≡ firstMet (blocksOf (c - i) (drop (i + i) ws)) a n) where
-  met-turn : whole ≡ firstMet (block (getD ws (i + i) 0) (getD ws (i + i + 1) 0) ∷ blocksOf (c - (i + 1)) (drop (i + 1 + (i + 1)) ws)) a n
-  met-turn = e ∙ ap (λ (bs : List Block). firstMet bs a n) (blocks-next c i ws h)
+-- what was found says whether one of the blocks is met, and which is the first
+pub met-block : (bs : List Block) (a n b : ℕ) → mets.Block b ≡ met bs a n → (true ≡ overlapsAny bs a n) × (firstMet bs a n ≡ b)
+met-block bs a n b e = go (overlapsAny bs a n) refl e
+  where
+    go : (t : Bool) → overlapsAny bs a n ≡ t → mets.Block b ≡ metBlock t (firstMet bs a n) → (true ≡ overlapsAny bs a n) × (firstMet bs a n ≡ b)
+    go true q w = (sym q, sym cc)
+    go false q w = let z : _≡_ {A = ℕ} 0 1 = cc in absurd (omega arith)
 
-  pub met-hit : getD ws (i + i) 0 < a + n → a < getD ws (i + i) 0 + getD ws (i + i + 1) 0 → getD ws (i + i) 0 ≡ whole
-  unfolding firstMet
-  met-hit l k = sym (met-turn ∙ rw (overlaps-hit (getD ws (i + i) 0) (getD ws (i + i + 1) 0) a n l k))
-
-  pub met-below : a + n ≤ getD ws (i + i) 0 → whole ≡ firstMet (blocksOf (c - (i + 1)) (drop (i + 1 + (i + 1)) ws)) a n
-  unfolding firstMet
-  met-below l = met-turn ∙ rw (overlaps-not-below (getD ws (i + i) 0) (getD ws (i + i + 1) 0) a n l)
-
-  pub met-above : getD ws (i + i) 0 + getD ws (i + i + 1) 0 ≤ a → whole ≡ firstMet (blocksOf (c - (i + 1)) (drop (i + 1 + (i + 1)) ws)) a n
-  unfolding firstMet
-  met-above l = met-turn ∙ rw (overlaps-not-above (getD ws (i + i) 0) (getD ws (i + i + 1) 0) a n l)
-
-pub met-end : (c i : ℕ) (ws : List ℕ) (a n whole : ℕ) → c ≤ i → whole ≡ firstMet (blocksOf (c - i) (drop (i + i) ws)) a n → 0 ≡ whole
-unfolding firstMet blocksOf
-met-end c i ws a n whole h e = let z : c - i ≡ 0 = omega arith in sym (e ∙ rw z)
+pub met-nothing : (bs : List Block) (a n : ℕ) → mets.Nothing ≡ met bs a n → false ≡ overlapsAny bs a n
+met-nothing bs a n e = go (overlapsAny bs a n) refl e
+  where
+    go : (t : Bool) → overlapsAny bs a n ≡ t → mets.Nothing ≡ metBlock t (firstMet bs a n) → false ≡ overlapsAny bs a n
+    go true q w = let z : _≡_ {A = ℕ} 0 1 = cc in absurd (omega arith)
+    go false q w = sym q
 
 -- What entering a block answers, by the tests that lead there.
 module _ (eof room : ℕ) (bs : List Block) (a n : ℕ) where
@@ -177,6 +174,7 @@ module _ (kind a n : ℕ) (bs : List Block) where
   entered-zero zero c m e = (refl, cc)
   entered-zero (suc answer) c m e = let z : _≡_ {A = ℕ} 0 1 = cc in absurd (omega arith)
 
-  pub refused-suc : (answer c : ℕ) (r : Refusal) → Refused r ≡ entering answer kind a n bs c → (h : ℕ) × (answer ≡ suc h) × (r ≡ notEntered (suc h) kind a n bs)
+  pub refused-suc : (answer c : ℕ) (r : Refusal) → Refused r ≡ entering answer kind a n bs c →
+      (h : ℕ) × (answer ≡ suc h) × (r ≡ notEntered (suc h) kind a n bs)
   refused-suc zero c m e = let z : _≡_ {A = ℕ} 0 1 = cc in absurd (omega arith)
   refused-suc (suc answer) c m e = (answer, refl, cc)

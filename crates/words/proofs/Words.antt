@@ -37,7 +37,14 @@ word-halves w =
     let e₂ : w / 256 / 256 ≡ 256 * (256 * q) + r / 256 / 256 = omega (arith, above-byte (w / 256) (r / 256) (65536 * q) e₁) in
     let e₃ : w / 256 / 256 / 256 ≡ 256 * q + r / 256 / 256 / 256 = omega (arith, above-byte (w / 256 / 256) (r / 256 / 256) (256 * q) e₂) in
     let u : w / 256 / 256 / 256 / 256 ≡ q = omega arith in
-    rw (u, low-byte w r (16777216 * q) e₀, low-byte (w / 256) (r / 256) (65536 * q) e₁, low-byte (w / 256 / 256) (r / 256 / 256) (256 * q) e₂, low-byte (w / 256 / 256 / 256) (r / 256 / 256 / 256) q e₃)
+    rw (
+      u,
+      low-byte w r (16777216 * q) e₀,
+      low-byte (w / 256) (r / 256) (65536 * q) e₁,
+      low-byte (w / 256 / 256) (r / 256 / 256) (256 * q) e₂,
+      low-byte
+          (w / 256 / 256 / 256) (r / 256 / 256 / 256) q e₃,
+    )
 
 -- the halves written one after the other
 pub word-write : (b b′ b″ : List ℕ) (a w : ℕ) → b′ ≡ overwrite b a (toBytes 4 (w % 4294967296)) → b″ ≡ overwrite b′ (a + 4) (toBytes 4 (w / 4294967296)) →
@@ -75,7 +82,15 @@ padded-twice n k ws h l =
     let a : length (ws ++ z) ≡ k = omega (arith, length-append ws z, length-replicate {A = ℕ} (k - length ws) 0) in
     let b : length (wordBytes (ws ++ z)) ≡ 8 * k = length-wordBytes (ws ++ z) ∙ rw a in
     let d : 8 * (k - length ws) + (n - 8 * k) ≡ n - length (wordBytes ws) = omega (arith, length-wordBytes ws) in
-    rw (b, wordBytes-append ws z, zeros-bytes (k - length ws), append-assoc (wordBytes ws), replicate-append-replicate {A = ℕ} (8 * (k - length ws)) (n - 8 * k) 0, d)
+    rw (
+      b,
+      wordBytes-append ws z,
+      zeros-bytes (k - length ws),
+      append-assoc (wordBytes ws),
+      replicate-append-replicate {A = ℕ} (8 * (k - length ws))
+          (n - 8 * k) 0,
+      d,
+    )
 
 -- zeros alone
 pub padded-zeros : (n k : ℕ) → 8 * k ≤ n → paddedBytes n (replicate k 0) ≡ replicate n 0
@@ -112,7 +127,9 @@ begins-more out ws vs at b e h =
     omega (arith, length-append (wordBytes ws) (wordBytes vs), length-wordBytes ws) in
     record {
       fits = omega (arith, length-overwrite out at (wordBytes vs));
-      begin = ap (take (8 * length (ws ++ vs))) s ∙ take-at (wordBytes ws ++ wordBytes vs) (drop (at + length (wordBytes vs)) out) (8 * length (ws ++ vs)) k ∙ sym (wordBytes-append ws vs);
+      begin =
+          ap (take (8 * length (ws ++ vs))) s ∙ take-at (wordBytes ws ++ wordBytes vs) (drop (at + length (wordBytes vs)) out) (8 * length (ws ++ vs)) k ∙ sym
+          (wordBytes-append ws vs);
     }
 
 -- with zeros behind them it is the padded list
@@ -125,7 +142,8 @@ pub begins-next : (ws out out′ : List ℕ) (i : ℕ) → Begins out (take i ws
     out′ ≡ overwrite out (8 * i) (toBytes 8 (getD ws i 0)) → Begins out′ (take (i + 1) ws)
 begins-next ws out out′ i b h k e =
     let n : length (take i ws) ≡ i = length-take-le i ws (omega arith) in
-    rw (e, add-one i, take-suc ws i 0 h, ← (wordBytes-one (getD ws i 0))) (begins-more out (take i ws) (getD ws i 0 ∷ []) (8 * i) b (omega arith) (omega arith))
+    rw (e, add-one i, take-suc ws i 0 h, ← (wordBytes-one (getD ws i 0))) (begins-more out (take i ws) (getD ws i 0 ∷ []) (8 * i) b (omega arith)
+    (omega arith))
 
 pub begins-all : (ws out out′ : List ℕ) (i n : ℕ) → Begins out (take i ws) → i ≡ length ws → length out ≡ n →
     out′ ≡ take (8 * i) out ++ replicate (length out - 8 * i) 0 → out′ ≡ paddedBytes n ws

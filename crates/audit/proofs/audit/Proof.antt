@@ -28,13 +28,20 @@ same-length : tie.Need-same-length
 same-length c = search needs
 
 returns : tie.Need-returns
-returns c = empty-reply (now (c .before .before .before .before .before .before .before .before .before .before .before .before .before .before .args .image)) _ _ _ _ _ (c .before .before .before .before .before .before .before .audit-into .result) (c .before .before .before .before .before .before .before .audit-into .ensures) (c .empty .result) (c .before .if1 .taken) (c .empty .ensures)
+returns c =
+    let d = c .before .before .before .before .before .before .before in
+    let start = d .before .before .before .before .before .before .before in
+    empty-reply (now (start .args .image)) _ _ _ _ _ (d .audit-into .result) (d .audit-into .ensures) (c .empty .result) (c .before .if1 .taken)
+    (c .empty .ensures)
 
 same-length-2 : tie.Need-same-length-2
 same-length-2 c = search needs
 
 returns-2 : tie.Need-returns-2
-returns-2 c = full-reply (now (c .before .before .before .before .before .before .before .before .before .before .before .before .before .args .image)) _ _ _ _ _ (c .before .before .before .before .before .before .audit-into .result) (c .before .before .before .before .before .before .audit-into .ensures) (omega (arith, c .if1 .left))
+returns-2 c =
+    let d = c .before .before .before .before .before .before in
+    let start = d .before .before .before .before .before .before .before in
+    full-reply (now (start .args .image)) _ _ _ _ _ (d .audit-into .result) (d .audit-into .ensures) (omega (arith, c .if1 .left))
 
 pub audit-spec : {M : Type 1} → statement M
 audit-spec =

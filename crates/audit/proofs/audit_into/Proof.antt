@@ -4,23 +4,74 @@ use borrow.Author.Needs.{needs}
 use Rattle.audit.proofs.audit_into.Statement.{statement}
 use Rattle.audit.proofs.audit_into.Tie as tie
 use denote.Ref.{now}
-use Prim.Native.Nat.{ℕ}
+use Prim.Native.Nat.{ℕ, _+_, _≤_}
+use mathlib.Core.List.{List}
 use mathlib.Core.Path.{_≡_, ap, _∙_}
 use lib.ListN.{length, replicate}
 use Rattle.format.specs.Superblock.{opened, openImage}
 use Rattle.superblock.specs.Superblock.{superblockOf}
+use Rattle.superblock.specs.declared.Superblock.{Superblock}
+use Rattle.ledger.specs.Report.{Readable}
 use Rattle.object.specs.declared.object.ObjectRead.the-variants.{Done}
 use Rattle.object.specs.Object.{Bounded}
 use Rattle.audit.specs.Audit.{ImageWalked}
 use Rattle.audit.proofs.ReplyLaws.{not-opened-is, stopped-is, readable, count-fits, count-small, done-is, lists-table, stored-room}
 
--- the image was opened
-opened-is : (c : tie.After-s) → (opened (superblockOf (c .s .given .0 .0)) ≡ openImage (now (c .before .before .before .before .before .before .before .before .args .image))) × Bounded (now (c .before .before .before .before .before .before .before .before .args .image)) (c .s .given .0 .0)
+-- Where the image was opened: its bytes, and its superblock.
+abbrev entry : tie.After-s → tie.Start
+entry c = c .before .before .before .before .before .before .before .before
+
+abbrev image : tie.After-s → List ℕ
+image c = now (entry c .args .image)
+
+abbrev list : tie.After-s → List ℕ
+list c = now (entry c .args .list)
+
+abbrev superblock : tie.After-s → Superblock
+superblock c = c .s .given .0 .0
+
+opened-is : (c : tie.After-s) → (opened (superblockOf (superblock c)) ≡ openImage (image c)) × Bounded (image c) (superblock c)
 opened-is c = rw (c .s .given .1) at (c .before .before .open .ensures)
 
--- and its walk is done
-walk-done : (c : tie.After-count) → ImageWalked (now (c .before .before .before .before .before .before .before .before .before .before .before .before .before .before .before .before .before .before .before .before .before .args .image)) (now (c .before .before .before .before .before .before .before .before .before .before .before .before .before .before .before .before .before .before .before .before .before .args .list)) (c .before .before .before .before .before .before .before .before .before .before .before .before .before .s .given .0 .0) (c .before .before .before .before .before .before .before .before .walk-image .last .1 .0) (c .before .before .before .before .before .before .before .before .walk-image .last .1 .1 .0) (c .before .before .before .before .before .before .before .before .walk-image .last .1 .1 .1 .0) (Done (c .count .given .0 .0) (c .count .given .0 .1 .0))
+-- Where its walk is done: the lists that it left, and the numbers of blocks and objects.
+abbrev at-s : tie.After-count → tie.After-s
+at-s c = c .before .before .before .before .before .before .before .before .before .before .before .before .before
+
+abbrev walk : tie.After-count → tie.After-walk-image
+walk c = c .before .before .before .before .before .before .before .before
+
+abbrev words : tie.After-count → List ℕ
+words c = walk c .walk-image .last .1 .0
+
+abbrev addresses : tie.After-count → List ℕ
+addresses c = walk c .walk-image .last .1 .1 .0
+
+abbrev counts : tie.After-count → List ℕ
+counts c = walk c .walk-image .last .1 .1 .1 .0
+
+abbrev count : tie.After-count → ℕ
+count c = c .count .given .0 .0
+
+abbrev objects : tie.After-count → ℕ
+objects c = c .count .given .0 .1 .0
+
+abbrev same : (c : tie.After-count) → length (words c) ≡ length (list (at-s c))
+same c = walk c .walk-image .kept .1 .0
+
+walk-done : (c : tie.After-count) →
+    ImageWalked (image (at-s c)) (list (at-s c)) (superblock (at-s c)) (words c) (addresses c) (counts c) (Done (count c) (objects c))
 walk-done c = rw (c .count .given .1) at (c .before .before .before .before .before .before .before .before .walk-image .ensures)
+
+read : (c : tie.After-count) → Readable (image (at-s c)) (addresses c) (objects c)
+read c =
+    readable (image (at-s c)) (list (at-s c)) (superblock (at-s c)) (count c) (objects c) (words c) (addresses c) (counts c) (same c) (walk-done c)
+    (opened-is (at-s c) .1)
+
+fits : (c : tie.After-count) → count c + count c ≤ length (words c)
+fits c = count-fits (image (at-s c)) (list (at-s c)) (superblock (at-s c)) (count c) (objects c) (words c) (addresses c) (counts c) (same c) (walk-done c)
+
+small : (c : tie.After-count) → count c + count c ≤ 2048
+small c = count-small (image (at-s c)) (list (at-s c)) (superblock (at-s c)) (count c) (objects c) (words c) (addresses c) (counts c) (same c) (walk-done c)
 
 open-requires : tie.Need-open-requires
 open-requires c κs = search needs
@@ -35,7 +86,9 @@ enum-known-s : tie.Need-enum-known-s
 enum-known-s c = search needs
 
 walk-image-requires : tie.Need-walk-image-requires
-walk-image-requires c κs = (opened-is (c .before .before .before .before) .1, lists-table _ _ _ (c .before .before .before .before .before .before .before .before .before .before .before .before .pre))
+walk-image-requires c κs =
+    let s = c .before .before .before .before in
+    (opened-is s .1, lists-table _ _ _ (entry s .pre))
 
 enum-known-x-2 : tie.Need-enum-known-x-2
 enum-known-x-2 c = search needs
@@ -47,13 +100,15 @@ enum-known-count : tie.Need-enum-known-count
 enum-known-count c = search needs
 
 read-stored-requires : tie.Need-read-stored-requires
-read-stored-requires c κs = (readable (now (c .before .before .before .before .before .before .before .before .before .before .before .before .before .before .before .before .before .before .before .before .before .before .before .before .args .image)) (now (c .before .before .before .before .before .before .before .before .before .before .before .before .before .before .before .before .before .before .before .before .before .before .before .before .args .list)) (c .before .before .before .before .before .before .before .before .before .before .before .before .before .before .before .before .s .given .0 .0) _ _ (c .before .before .before .before .before .before .before .before .before .before .before .walk-image .last .1 .0) (c .before .before .before .before .before .before .before .before .before .before .before .walk-image .last .1 .1 .0) (c .before .before .before .before .before .before .before .before .before .before .before .walk-image .last .1 .1 .1 .0) (c .before .before .before .before .before .before .before .before .before .before .before .walk-image .kept .1 .0) (walk-done (c .before .before .before)) (opened-is (c .before .before .before .before .before .before .before .before .before .before .before .before .before .before .before .before) .1), stored-room _ _ _ _ (c .before .before .before .before .before .before .before .before .before .before .before .before .before .before .before .before .before .before .before .before .before .before .before .before .pre) (walk-done (c .before .before .before) .ready .table .fits))
+read-stored-requires c κs =
+    let d = c .before .before .before in
+    (read d, stored-room _ _ _ _ (entry (at-s d) .pre) (walk-done d .ready .table .fits))
 
 add-clear-from : tie.Need-add-clear-from
-add-clear-from c = omega (arith, count-small (now (c .before .before .before .before .before .before .before .before .before .before .before .before .before .before .before .before .before .before .before .before .before .before .before .before .before .before .before .before .args .image)) (now (c .before .before .before .before .before .before .before .before .before .before .before .before .before .before .before .before .before .before .before .before .before .before .before .before .before .before .before .before .args .list)) (c .before .before .before .before .before .before .before .before .before .before .before .before .before .before .before .before .before .before .before .before .s .given .0 .0) _ _ (c .before .before .before .before .before .before .before .before .before .before .before .before .before .before .before .walk-image .last .1 .0) (c .before .before .before .before .before .before .before .before .before .before .before .before .before .before .before .walk-image .last .1 .1 .0) (c .before .before .before .before .before .before .before .before .before .before .before .before .before .before .before .walk-image .last .1 .1 .1 .0) (c .before .before .before .before .before .before .before .before .before .before .before .before .before .before .before .walk-image .kept .1 .0) (walk-done (c .before .before .before .before .before .before .before)))
+add-clear-from c = omega (arith, small (c .before .before .before .before .before .before .before))
 
 clear-from-requires : tie.Need-clear-from-requires
-clear-from-requires c κs = count-fits (now (c .before .before .before .before .before .before .before .before .before .before .before .before .before .before .before .before .before .before .before .before .before .before .before .before .before .before .before .before .args .image)) (now (c .before .before .before .before .before .before .before .before .before .before .before .before .before .before .before .before .before .before .before .before .before .before .before .before .before .before .before .before .args .list)) (c .before .before .before .before .before .before .before .before .before .before .before .before .before .before .before .before .before .before .before .before .s .given .0 .0) _ _ (c .before .before .before .before .before .before .before .before .before .before .before .before .before .before .before .walk-image .last .1 .0) (c .before .before .before .before .before .before .before .before .before .before .before .before .before .before .before .walk-image .last .1 .1 .0) (c .before .before .before .before .before .before .before .before .before .before .before .before .before .before .before .walk-image .last .1 .1 .1 .0) (c .before .before .before .before .before .before .before .before .before .before .before .before .before .before .before .walk-image .kept .1 .0) (walk-done (c .before .before .before .before .before .before .before))
+clear-from-requires c κs = fits (c .before .before .before .before .before .before .before)
 
 same-length : tie.Need-same-length
 same-length c = search needs
@@ -61,8 +116,10 @@ same-length c = search needs
 returns : tie.Need-returns
 returns c =
     let r = c .before .before .refused .ensures in
-    let e = (rw (c .before .before .before .before .before .x .given .1) at (c .before .before .before .before .before .before .before .open .ensures)) .0 in
-    rw (r .0) (not-opened-is (now (c .before .before .before .before .before .before .before .before .before .before .before .before .before .args .image)) (length (now (c .before .before .before .before .before .before .before .before .before .before .before .before .before .args .list))) _ _ _ _ (r .1) (c .before .before .before .before .before .x .given .0 .0) e)
+    let x = c .before .before .before .before .before in
+    let start = x .before .before .before .before .before .before .before .before in
+    let e = (rw (x .x .given .1) at (x .before .before .open .ensures)) .0 in
+    rw (r .0) (not-opened-is (now (start .args .image)) (length (now (start .args .list))) _ _ _ _ (r .1) (x .x .given .0 .0) e)
 
 same-length-2 : tie.Need-same-length-2
 same-length-2 c = search needs
@@ -76,8 +133,12 @@ same-length-4 c = search needs
 returns-2 : tie.Need-returns-2
 returns-2 c =
     let r = c .before .before .refused2 .ensures in
-    let w = rw (c .before .before .before .before .before .x2 .given .1) at (c .before .before .before .before .before .before .before .before .before .before .before .before .before .walk-image .ensures) in
-    rw (r .0) (stopped-is (now (c .before .before .before .before .before .before .before .before .before .before .before .before .before .before .before .before .before .before .before .before .before .before .before .before .before .before .args .image)) (now (c .before .before .before .before .before .before .before .before .before .before .before .before .before .before .before .before .before .before .before .before .before .before .before .before .before .before .args .list)) (c .before .before .before .before .before .before .before .before .before .before .before .before .before .before .before .before .before .before .s .given .0 .0) (c .before .before .before .before .before .x2 .given .0 .0) _ _ _ _ _ _ _ (opened-is (c .before .before .before .before .before .before .before .before .before .before .before .before .before .before .before .before .before .before) .0) w (r .1 ∙ ap (λ (n : ℕ). replicate n 0) (c .before .before .before .before .before .before .before .before .before .before .before .before .before .walk-image .kept .1 .0)))
+    let x = c .before .before .before .before .before in
+    let w = x .before .before .before .before .before .before .before .before in
+    let s = w .before .before .before .before .before in
+    rw (r .0)
+    (stopped-is (image s) (list s) (superblock s) (x .x2 .given .0 .0) _ _ _ _ _ _ _ (opened-is s .0) (rw (x .x2 .given .1) at (w .walk-image .ensures))
+    (r .1 ∙ ap (λ (n : ℕ). replicate n 0) (w .walk-image .kept .1 .0)))
 
 same-length-5 : tie.Need-same-length-5
 same-length-5 c = search needs
@@ -92,7 +153,12 @@ same-length-8 : tie.Need-same-length-8
 same-length-8 c = search needs
 
 returns-3 : tie.Need-returns-3
-returns-3 c = done-is (now (c .before .before .before .before .before .before .before .before .before .before .before .before .before .before .before .before .before .before .before .before .before .before .before .before .before .before .before .before .before .before .before .args .image)) (now (c .before .before .before .before .before .before .before .before .before .before .before .before .before .before .before .before .before .before .before .before .before .before .before .before .before .before .before .before .before .before .before .args .list)) (c .before .before .before .before .before .before .before .before .before .before .before .before .before .before .before .before .before .before .before .before .before .before .before .s .given .0 .0) _ _ (c .before .before .before .before .before .before .before .before .before .before .before .before .before .before .before .before .before .before .walk-image .last .1 .0) (c .before .before .before .before .before .before .before .before .before .before .before .before .before .before .before .before .before .before .walk-image .last .1 .1 .0) (c .before .before .before .before .before .before .before .before .before .before .before .before .before .before .before .before .before .before .walk-image .last .1 .1 .1 .0) (c .before .before .before .before .before .before .before .before .before .before .before .before .before .before .before .before .before .before .walk-image .kept .1 .0) (walk-done (c .before .before .before .before .before .before .before .before .before .before)) (opened-is (c .before .before .before .before .before .before .before .before .before .before .before .before .before .before .before .before .before .before .before .before .before .before .before) .0) _ _ (c .before .before .before .before .before .before .before .before .before .before .before .before .before .before .before .before .before .before .before .before .before .before .before .before .before .before .before .before .before .before .before .pre .storedEmpty) (c .before .before .before .before .before .before .read-stored .ensures) _ (c .before .before .clear-from .ensures)
+returns-3 c =
+    let d = c .before .before .before .before .before .before .before .before .before .before in
+    let s = at-s d in
+    done-is (image s) (list s) (superblock s) (count d) (objects d) (words d) (addresses d) (counts d) (same d) (walk-done d) (opened-is s .0)
+    (opened-is s .1) _ _
+    (entry s .pre .storedEmpty) (c .before .before .before .before .before .before .read-stored .ensures) _ (c .before .before .clear-from .ensures)
 
 pub audit-into-spec : {M : Type 1} → statement M
 audit-into-spec =

@@ -16,7 +16,9 @@ same-length : tie.Need-same-length
 same-length c = search needs
 
 returns : tie.Need-returns
-returns c = (rw (c .number-of .ensures) refl, all-cleared (now (c .before .before .before .before .before .before .args .list)) _ (c .before .before .before .clear-from .ensures))
+returns c =
+    let list = now (c .before .before .before .before .before .before .args .list) in
+    (rw (c .number-of .ensures) refl, all-cleared list _ (c .before .before .before .clear-from .ensures))
 
 pub refused-spec : {M : Type 1} → statement M
 refused-spec = tie.close (tie.spec clear-from-requires number-of-requires same-length returns)

@@ -6,7 +6,8 @@ use Rattle.format.specs.Bytes.{allHold, littleEndian, toBytes, toWords, undefin
 use Rattle.format.specs.Blocks.{overlaps, overlapsAny, firstMet, entryAnswer, roomOf}
 use Rattle.format.specs.Result as results
 use Rattle.format.specs.Walk.{blankCount, shown, _>>=_, run}
-use Rattle.format.specs.Superblock.{signature, versionShift, versionsRead, sizesRead, addressesRead, superblockRead, superblockSound, superblockFields, openImage, superblockWalk}
+use Rattle.format.specs.Superblock.{signature, versionShift, versionsRead, sizesRead, addressesRead}
+use Rattle.format.specs.Superblock.{superblockRead, superblockSound, superblockFields, openImage, superblockWalk}
 use Rattle.format.specs.Header.{messages, continuations, headerContents, headerMessages, hasCounts, objectOf, headerWith, headerWalk}
 use Rattle.format.specs.Message.{treatment, readMessage, ofType, theMessage}
 use Rattle.format.specs.FreeList.{freeBlocks, freeList}

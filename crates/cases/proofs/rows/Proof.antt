@@ -6,7 +6,8 @@ use Rattle.format.specs.Bytes.{allHold, littleEndian, toBytes, toWords, overwri
 use Rattle.format.specs.Blocks.{overlaps, overlapsAny, entryAnswer, roomOf, blockWords}
 use Rattle.format.specs.Result as results
 use Rattle.format.specs.Walk.{blankCount, shown, _>>=_, run}
-use Rattle.format.specs.Superblock.{signature, versionShift, versionsRead, sizesRead, addressesRead, superblockRead, superblockSound, superblockFields, openImage, superblockWalk}
+use Rattle.format.specs.Superblock.{signature, versionShift, versionsRead, sizesRead, addressesRead}
+use Rattle.format.specs.Superblock.{superblockRead, superblockSound, superblockFields, openImage, superblockWalk}
 use Rattle.format.specs.Header.{messages, continuations, headerContents, headerMessages, hasCounts, objectOf, headerWith, headerWalk}
 use Rattle.format.specs.Message.{treatment, readMessage, ofType, theMessage}
 use Rattle.format.specs.FreeList.{freeBlocks, freeList}
@@ -41,7 +42,8 @@ use Rattle.cases.proofs.rows.Tie as tie
 all-agree : T (agree table)
 unfolding imageLeast imageMost inputMost levelMost rankMost objectsMost blocksMost nameMost pathMost allHold littleEndian toBytes toWords
     overwrite undefinedAddress sameBytes contains overlaps overlapsAny entryAnswer roomOf blockWords blankCount shown results._>>=_ _>>=_ run
-    signature versionShift versionsRead sizesRead addressesRead superblockRead superblockSound superblockFields openImage superblockWalk treatment readMessage messages ofType
+    signature versionShift versionsRead sizesRead addressesRead superblockRead superblockSound superblockFields openImage superblockWalk treatment readMessage
+    messages ofType
     theMessage continuations headerContents headerMessages hasCounts objectOf headerWith headerWalk HEAP freeBlocks freeList heapWalk beforeNul stringAt
     keyText isName nameText below within SNOD readValue readEntry entries symbolWalk TREE keysWalk children nodeWalk branches
     subtree treeWalk groupWalk product readDataspace readDatatype readShared readContiguous readLayout dataWalk readType storageWalk datasetWalk

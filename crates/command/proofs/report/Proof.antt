@@ -3,7 +3,7 @@ use mathlib.Core.Path.{refl}
 use native.Mathlib.Omega.{arith}
 use denote.Ref.{now}
 use Rattle.format.specs.Limits.{blocksMost}
-use Rattle.command.specs.Text.{outputMost}
+use Rattle.output.specs.Text.{outputMost}
 use Rattle.command.proofs.ReportLaws.{printed-long, printed-audit}
 use borrow.Author.Needs.{needs}
 use Rattle.command.proofs.report.Statement.{statement}

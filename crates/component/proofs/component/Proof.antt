@@ -16,8 +16,16 @@ enum-known-n c = search needs
 
 read-requires : tie.Need-read-requires
 read-requires c κs =
-    let o = c .before .before .before .before .before .before .before .before .before .before .before .before .before .pre .0 in
-    (at-header (now (c .before .before .before .before .before .before .before .before .before .before .before .before .before .args .image)) (now (c .before .before .before .before .before .before .before .before .before .before .before .before .before .args .name)) (now (c .before .before .before .before .before .before .before .before .before .before .before .before .before .args .list)) (c .before .before .before .before .before .before .before .before .before .before .before .before .before .args .superblock) (c .before .before .before .before .before .before .before .before .before .before .before .before .before .args .room) (c .before .before .before .before .before .before .before .before .before .before .before .before .before .args .at) (c .before .before .before .before .before .before .before .before .before .before .before .before .before .args .last) (c .before .before .before .before .before .before .before .before .before .before .before .before .before .pre .1 .0) (c .before .before .before .before .before .before .enter-superblock .last .1 .0) (c .before .before .n .given .0 .0) (c .before .before .before .before .before .before .enter-superblock .kept .1 .0) ((rw (c .before .before .n .given .1) at (c .before .before .before .before .before .before .enter-superblock .ensures)) (now (c .before .before .before .before .before .before .before .before .before .before .before .before .before .args .image))) .lent, (o .most, o .file))
+    let at-n = c .before .before in
+    let at-enter-superblock = at-n .before .before .before .before in
+    let start = at-enter-superblock .before .before .before .before .before .before .before in
+    let o = start .pre .0 in (
+      at-header (now (start .args .image)) (now (start .args .name)) (now (start .args .list)) (start .args .superblock) (start .args .room) (start .args .at)
+          (start .args .last) (start .pre .1 .0) (at-enter-superblock .enter-superblock .last .1 .0) (at-n .n .given .0 .0)
+          (at-enter-superblock .enter-superblock .kept .1 .0)
+          ((rw (at-n .n .given .1) at (at-enter-superblock .enter-superblock .ensures)) (now (start .args .image))) .lent,
+      (o .most, o .file),
+    )
 
 enum-known-x-2 : tie.Need-enum-known-x-2
 enum-known-x-2 c = search needs
@@ -32,31 +40,76 @@ enum-known-tree : tie.Need-enum-known-tree
 enum-known-tree c = search needs
 
 find-requires : tie.Need-find-requires
-find-requires c κs = (c .before .before .before .before .before .before .before .before .before .before .before .before .before .before .before .before .before .before .before .before .before .before .pre .0, group-ready (now (c .before .before .before .before .before .before .before .before .before .before .before .before .before .before .before .before .before .before .before .before .before .before .args .image)) (now (c .before .before .before .before .before .before .before .before .before .before .before .before .before .before .before .before .before .before .before .before .before .before .args .name)) (now (c .before .before .before .before .before .before .before .before .before .before .before .before .before .before .before .before .before .before .before .before .before .before .args .list)) (c .before .before .before .before .before .before .before .before .before .before .before .before .before .before .before .before .before .before .before .before .before .before .args .superblock) (c .before .before .before .before .before .before .before .before .before .before .before .before .before .before .before .before .before .before .before .before .before .before .args .room) (c .before .before .before .before .before .before .before .before .before .before .before .before .before .before .before .before .before .before .before .before .before .before .args .at) (c .before .before .before .before .before .before .before .before .before .before .before .before .before .before .before .before .before .before .before .before .before .before .args .last) (c .before .before .before .before .before .before .before .before .before .before .before .before .before .before .before .before .before .before .before .before .before .before .pre .1 .0) (c .before .before .before .before .before .before .before .before .before .before .before .before .before .before .before .enter-superblock .last .1 .0) (c .before .before .before .before .before .before .before .before .before .before .before .n .given .0 .0) (c .before .before .before .before .before .before .before .before .before .before .before .before .before .before .before .enter-superblock .kept .1 .0) ((rw (c .before .before .before .before .before .before .before .before .before .before .before .n .given .1) at (c .before .before .before .before .before .before .before .before .before .before .before .before .before .before .before .enter-superblock .ensures)) (now (c .before .before .before .before .before .before .before .before .before .before .before .before .before .before .before .before .before .before .before .before .before .before .args .image))) (c .before .before .before .before .before .before .before .before .read .last .1 .1 .0) (c .before .before .before .before .tree .given .0 .1 .1 .0) (c .before .before .before .before .before .before .before .before .read .kept .1 .1 .0) (c .before .before .before .before .tree .given .0 .0) (c .before .before .before .before .tree .given .0 .1 .0) ((rw (c .before .before .before .before .tree .given .1) at (c .before .before .before .before .before .before .before .before .read .ensures)) .walked) _ _ (c .before .before .before .before .before .before .before .before .before .before .before .before .before .before .before .before .before .before .before .before .before .before .pre .1 .1))
+find-requires c κs =
+    let at-tree = c .before .before .before .before in
+    let at-read = at-tree .before .before .before .before in
+    let at-n = at-read .before .before .before in
+    let at-enter-superblock = at-n .before .before .before .before in
+    let start = at-enter-superblock .before .before .before .before .before .before .before in (
+      start .pre .0,
+      group-ready (now (start .args .image)) (now (start .args .name)) (now (start .args .list)) (start .args .superblock) (start .args .room)
+          (start .args .at) (start .args .last) (start .pre .1 .0) (at-enter-superblock .enter-superblock .last .1 .0) (at-n .n .given .0 .0)
+          (at-enter-superblock .enter-superblock .kept .1 .0)
+          ((rw (at-n .n .given .1) at (at-enter-superblock .enter-superblock .ensures)) (now (start .args .image))) (at-read .read .last .1 .1 .0)
+          (at-tree .tree .given .0 .1 .1 .0) (at-read .read .kept .1 .1 .0) (at-tree .tree .given .0 .0) (at-tree .tree .given .0 .1 .0)
+          ((rw (at-tree .tree .given .1) at (at-read .read .ensures)) .walked) _ _ (start .pre .1 .1),
+    )
 
 same-length : tie.Need-same-length
 same-length c = search needs
 
 returns : tie.Need-returns
-returns c = superblock-stopped (now (c .before .before .before .before .before .before .before .before .before .before .before .before .args .image)) (now (c .before .before .before .before .before .before .before .before .before .before .before .before .args .name)) (now (c .before .before .before .before .before .before .before .before .before .before .before .before .args .list)) (c .before .before .before .before .before .before .before .before .before .before .before .before .args .superblock) (c .before .before .before .before .before .before .before .before .before .before .before .before .args .room) (c .before .before .before .before .before .before .before .before .before .before .before .before .args .at) (c .before .before .before .before .before .before .before .before .before .before .before .before .args .last) (c .before .before .before .before .before .before .before .before .before .before .before .before .pre .1 .0) (c .before .before .before .before .before .enter-superblock .last .1 .0) _ _ _ ((rw (c .before .x .given .1) at (c .before .before .before .before .before .enter-superblock .ensures)) (now (c .before .before .before .before .before .before .before .before .before .before .before .before .args .image)))
+returns c =
+    let at-enter-superblock = c .before .before .before .before .before in
+    let start = at-enter-superblock .before .before .before .before .before .before .before in
+    superblock-stopped (now (start .args .image)) (now (start .args .name)) (now (start .args .list)) (start .args .superblock) (start .args .room)
+    (start .args .at) (start .args .last) (start .pre .1 .0) (at-enter-superblock .enter-superblock .last .1 .0) _ _ _
+    ((rw (c .before .x .given .1) at (at-enter-superblock .enter-superblock .ensures)) (now (start .args .image)))
 
 same-length-2 : tie.Need-same-length-2
 same-length-2 c = search needs
 
 returns-2 : tie.Need-returns-2
-returns-2 c = header-stopped (now (c .before .before .before .before .before .before .before .before .before .before .before .before .before .before .before .before .before .before .before .args .image)) (now (c .before .before .before .before .before .before .before .before .before .before .before .before .before .before .before .before .before .before .before .args .name)) (now (c .before .before .before .before .before .before .before .before .before .before .before .before .before .before .before .before .before .before .before .args .list)) (c .before .before .before .before .before .before .before .before .before .before .before .before .before .before .before .before .before .before .before .args .superblock) (c .before .before .before .before .before .before .before .before .before .before .before .before .before .before .before .before .before .before .before .args .room) (c .before .before .before .before .before .before .before .before .before .before .before .before .before .before .before .before .before .before .before .args .at) (c .before .before .before .before .before .before .before .before .before .before .before .before .before .before .before .before .before .before .before .args .last) (c .before .before .before .before .before .before .before .before .before .before .before .before .before .before .before .before .before .before .before .pre .1 .0) (c .before .before .before .before .before .before .before .before .before .before .before .before .enter-superblock .last .1 .0) (c .before .before .before .before .before .before .before .before .n .given .0 .0) (c .before .before .before .before .before .before .before .before .before .before .before .before .enter-superblock .kept .1 .0) ((rw (c .before .before .before .before .before .before .before .before .n .given .1) at (c .before .before .before .before .before .before .before .before .before .before .before .before .enter-superblock .ensures)) (now (c .before .before .before .before .before .before .before .before .before .before .before .before .before .before .before .before .before .before .before .args .image))) (c .before .before .before .before .before .read .last .1 .1 .0) _ _ _ ((rw (c .before .x2 .given .1) at (c .before .before .before .before .before .read .ensures)) .walked)
+returns-2 c =
+    let at-read = c .before .before .before .before .before in
+    let at-n = at-read .before .before .before in
+    let at-enter-superblock = at-n .before .before .before .before in
+    let start = at-enter-superblock .before .before .before .before .before .before .before in
+    header-stopped (now (start .args .image)) (now (start .args .name)) (now (start .args .list)) (start .args .superblock) (start .args .room)
+    (start .args .at) (start .args .last) (start .pre .1 .0) (at-enter-superblock .enter-superblock .last .1 .0) (at-n .n .given .0 .0)
+    (at-enter-superblock .enter-superblock .kept .1 .0)
+    ((rw (at-n .n .given .1) at (at-enter-superblock .enter-superblock .ensures)) (now (start .args .image))) (at-read .read .last .1 .1 .0) _ _ _
+    ((rw (c .before .x2 .given .1) at (at-read .read .ensures)) .walked)
 
 same-length-3 : tie.Need-same-length-3
 same-length-3 c = search needs
 
 returns-3 : tie.Need-returns-3
-returns-3 c = committed-found (now (c .before .before .before .before .before .before .before .before .before .before .before .before .before .before .before .before .before .before .args .image)) (now (c .before .before .before .before .before .before .before .before .before .before .before .before .before .before .before .before .before .before .args .name)) (now (c .before .before .before .before .before .before .before .before .before .before .before .before .before .before .before .before .before .before .args .list)) (c .before .before .before .before .before .before .before .before .before .before .before .before .before .before .before .before .before .before .args .superblock) (c .before .before .before .before .before .before .before .before .before .before .before .before .before .before .before .before .before .before .args .room) (c .before .before .before .before .before .before .before .before .before .before .before .before .before .before .before .before .before .before .args .at) (c .before .before .before .before .before .before .before .before .before .before .before .before .before .before .before .before .before .before .args .last) (c .before .before .before .before .before .before .before .before .before .before .before .before .before .before .before .before .before .before .pre .1 .0) (c .before .before .before .before .before .before .before .before .before .before .before .enter-superblock .last .1 .0) (c .before .before .before .before .before .before .before .n .given .0 .0) (c .before .before .before .before .before .before .before .before .before .before .before .enter-superblock .kept .1 .0) ((rw (c .before .before .before .before .before .before .before .n .given .1) at (c .before .before .before .before .before .before .before .before .before .before .before .enter-superblock .ensures)) (now (c .before .before .before .before .before .before .before .before .before .before .before .before .before .before .before .before .before .before .args .image))) (c .before .before .before .before .read .last .1 .1 .0) _ (c .before .before .before .before .read .kept .1 .1 .0) _ _ ((rw (c .enum-told .given .1) at (c .before .before .before .before .read .ensures)) .walked)
+returns-3 c =
+    let at-read = c .before .before .before .before in
+    let at-n = at-read .before .before .before in
+    let at-enter-superblock = at-n .before .before .before .before in
+    let start = at-enter-superblock .before .before .before .before .before .before .before in
+    committed-found (now (start .args .image)) (now (start .args .name)) (now (start .args .list)) (start .args .superblock) (start .args .room)
+    (start .args .at) (start .args .last) (start .pre .1 .0) (at-enter-superblock .enter-superblock .last .1 .0) (at-n .n .given .0 .0)
+    (at-enter-superblock .enter-superblock .kept .1 .0)
+    ((rw (at-n .n .given .1) at (at-enter-superblock .enter-superblock .ensures)) (now (start .args .image))) (at-read .read .last .1 .1 .0) _
+    (at-read .read .kept .1 .1 .0) _ _ ((rw (c .enum-told .given .1) at (at-read .read .ensures)) .walked)
 
 same-length-4 : tie.Need-same-length-4
 same-length-4 c = search needs
 
 returns-4 : tie.Need-returns-4
-returns-4 c = dataset-found (now (c .before .before .before .before .before .before .before .before .before .before .before .before .before .before .before .before .before .before .args .image)) (now (c .before .before .before .before .before .before .before .before .before .before .before .before .before .before .before .before .before .before .args .name)) (now (c .before .before .before .before .before .before .before .before .before .before .before .before .before .before .before .before .before .before .args .list)) (c .before .before .before .before .before .before .before .before .before .before .before .before .before .before .before .before .before .before .args .superblock) (c .before .before .before .before .before .before .before .before .before .before .before .before .before .before .before .before .before .before .args .room) (c .before .before .before .before .before .before .before .before .before .before .before .before .before .before .before .before .before .before .args .at) (c .before .before .before .before .before .before .before .before .before .before .before .before .before .before .before .before .before .before .args .last) (c .before .before .before .before .before .before .before .before .before .before .before .before .before .before .before .before .before .before .pre .1 .0) (c .before .before .before .before .before .before .before .before .before .before .before .enter-superblock .last .1 .0) (c .before .before .before .before .before .before .before .n .given .0 .0) (c .before .before .before .before .before .before .before .before .before .before .before .enter-superblock .kept .1 .0) ((rw (c .before .before .before .before .before .before .before .n .given .1) at (c .before .before .before .before .before .before .before .before .before .before .before .enter-superblock .ensures)) (now (c .before .before .before .before .before .before .before .before .before .before .before .before .before .before .before .before .before .before .args .image))) (c .before .before .before .before .read .last .1 .1 .0) _ (c .before .before .before .before .read .kept .1 .1 .0) _ _ _ _ _ ((rw (c .enum-told2 .given .1) at (c .before .before .before .before .read .ensures)) .walked)
+returns-4 c =
+    let at-read = c .before .before .before .before in
+    let at-n = at-read .before .before .before in
+    let at-enter-superblock = at-n .before .before .before .before in
+    let start = at-enter-superblock .before .before .before .before .before .before .before in
+    dataset-found (now (start .args .image)) (now (start .args .name)) (now (start .args .list)) (start .args .superblock) (start .args .room)
+    (start .args .at) (start .args .last) (start .pre .1 .0) (at-enter-superblock .enter-superblock .last .1 .0) (at-n .n .given .0 .0)
+    (at-enter-superblock .enter-superblock .kept .1 .0)
+    ((rw (at-n .n .given .1) at (at-enter-superblock .enter-superblock .ensures)) (now (start .args .image))) (at-read .read .last .1 .1 .0) _
+    (at-read .read .kept .1 .1 .0) _ _ _ _ _ ((rw (c .enum-told2 .given .1) at (at-read .read .ensures)) .walked)
 
 same-length-5 : tie.Need-same-length-5
 same-length-5 c = search needs
@@ -68,7 +121,19 @@ same-length-7 : tie.Need-same-length-7
 same-length-7 c = search needs
 
 returns-5 : tie.Need-returns-5
-returns-5 c = group-is (now (c .before .before .before .before .before .before .before .before .before .before .before .before .before .before .before .before .before .before .before .before .before .before .before .before .before .before .before .before .before .args .image)) (now (c .before .before .before .before .before .before .before .before .before .before .before .before .before .before .before .before .before .before .before .before .before .before .before .before .before .before .before .before .before .args .name)) (now (c .before .before .before .before .before .before .before .before .before .before .before .before .before .before .before .before .before .before .before .before .before .before .before .before .before .before .before .before .before .args .list)) (c .before .before .before .before .before .before .before .before .before .before .before .before .before .before .before .before .before .before .before .before .before .before .before .before .before .before .before .before .before .args .superblock) (c .before .before .before .before .before .before .before .before .before .before .before .before .before .before .before .before .before .before .before .before .before .before .before .before .before .before .before .before .before .args .room) (c .before .before .before .before .before .before .before .before .before .before .before .before .before .before .before .before .before .before .before .before .before .before .before .before .before .before .before .before .before .args .at) (c .before .before .before .before .before .before .before .before .before .before .before .before .before .before .before .before .before .before .before .before .before .before .before .before .before .before .before .before .before .args .last) (c .before .before .before .before .before .before .before .before .before .before .before .before .before .before .before .before .before .before .before .before .before .before .before .before .before .before .before .before .before .pre .1 .0) (c .before .before .before .before .before .before .before .before .before .before .before .before .before .before .before .before .before .before .before .before .before .before .enter-superblock .last .1 .0) (c .before .before .before .before .before .before .before .before .before .before .before .before .before .before .before .before .before .before .n .given .0 .0) (c .before .before .before .before .before .before .before .before .before .before .before .before .before .before .before .before .before .before .before .before .before .before .enter-superblock .kept .1 .0) ((rw (c .before .before .before .before .before .before .before .before .before .before .before .before .before .before .before .before .before .before .n .given .1) at (c .before .before .before .before .before .before .before .before .before .before .before .before .before .before .before .before .before .before .before .before .before .before .enter-superblock .ensures)) (now (c .before .before .before .before .before .before .before .before .before .before .before .before .before .before .before .before .before .before .before .before .before .before .before .before .before .before .before .before .before .args .image))) (c .before .before .before .before .before .before .before .before .before .before .before .before .before .before .before .read .last .1 .1 .0) (c .before .before .before .before .before .before .before .before .before .before .before .tree .given .0 .1 .1 .0) (c .before .before .before .before .before .before .before .before .before .before .before .before .before .before .before .read .kept .1 .1 .0) (c .before .before .before .before .before .before .before .before .before .before .before .tree .given .0 .0) (c .before .before .before .before .before .before .before .before .before .before .before .tree .given .0 .1 .0) ((rw (c .before .before .before .before .before .before .before .before .before .before .before .tree .given .1) at (c .before .before .before .before .before .before .before .before .before .before .before .before .before .before .before .read .ensures)) .walked) _ _ _ (c .before .before .before .before .before .before .find .ensures)
+returns-5 c =
+    let at-find = c .before .before .before .before .before .before in
+    let at-tree = at-find .before .before .before .before .before in
+    let at-read = at-tree .before .before .before .before in
+    let at-n = at-read .before .before .before in
+    let at-enter-superblock = at-n .before .before .before .before in
+    let start = at-enter-superblock .before .before .before .before .before .before .before in
+    group-is (now (start .args .image)) (now (start .args .name)) (now (start .args .list)) (start .args .superblock) (start .args .room) (start .args .at)
+    (start .args .last) (start .pre .1 .0) (at-enter-superblock .enter-superblock .last .1 .0) (at-n .n .given .0 .0)
+    (at-enter-superblock .enter-superblock .kept .1 .0)
+    ((rw (at-n .n .given .1) at (at-enter-superblock .enter-superblock .ensures)) (now (start .args .image))) (at-read .read .last .1 .1 .0)
+    (at-tree .tree .given .0 .1 .1 .0) (at-read .read .kept .1 .1 .0) (at-tree .tree .given .0 .0) (at-tree .tree .given .0 .1 .0)
+    ((rw (at-tree .tree .given .1) at (at-read .read .ensures)) .walked) _ _ _ (at-find .find .ensures)
 
 pub component-spec : {M : Type 1} → statement M
 component-spec =

@@ -27,7 +27,12 @@ same-length-3 : tie.Need-same-length-3
 same-length-3 c = search needs
 
 returns : tie.Need-returns
-returns c = group-stopped (now (c .before .before .before .before .before .before .before .before .before .before .before .before .before .before .before .before .before .before .args .image)) (now (c .before .before .before .before .before .before .before .before .before .before .before .before .before .before .before .before .before .before .args .name)) (now (c .before .before .before .before .before .before .before .before .before .before .before .before .before .before .before .before .before .before .args .list)) (now (c .before .before .before .before .before .before .before .before .before .before .before .before .before .before .before .before .before .before .args .addresses)) (now (c .before .before .before .before .before .before .before .before .before .before .before .before .before .before .before .before .before .before .args .counts)) (c .before .before .before .before .before .before .before .before .before .before .before .before .before .before .before .before .before .before .args .superblock) _ _ _ _ _ (c .before .before .before .before .before .before .before .before .before .read .last .1 .1 .0) (c .before .before .before .before .before .before .before .before .before .read .last .1 .1 .1 .0) (c .before .before .before .before .before .before .before .before .before .read .last .1 .1 .1 .1 .0) _ (rw (c .before .x .given .1) at (c .before .before .before .before .before .before .before .before .before .read .ensures))
+returns c =
+    let at-read = c .before .before .before .before .before .before .before .before .before in
+    let start = at-read .before .before .before .before .before .before .before .before .before in
+    group-stopped (now (start .args .image)) (now (start .args .name)) (now (start .args .list)) (now (start .args .addresses)) (now (start .args .counts))
+    (start .args .superblock) _ _ _ _ _ (at-read .read .last .1 .1 .0) (at-read .read .last .1 .1 .1 .0) (at-read .read .last .1 .1 .1 .1 .0) _
+    (rw (c .before .x .given .1) at (at-read .read .ensures))
 
 same-length-4 : tie.Need-same-length-4
 same-length-4 c = search needs
@@ -39,7 +44,12 @@ same-length-6 : tie.Need-same-length-6
 same-length-6 c = search needs
 
 returns-2 : tie.Need-returns-2
-returns-2 c = group-found (now (c .before .before .before .before .before .before .before .before .before .before .before .before .before .before .before .before .before .before .before .args .image)) (now (c .before .before .before .before .before .before .before .before .before .before .before .before .before .before .before .before .before .before .before .args .name)) (now (c .before .before .before .before .before .before .before .before .before .before .before .before .before .before .before .before .before .before .before .args .list)) (now (c .before .before .before .before .before .before .before .before .before .before .before .before .before .before .before .before .before .before .before .args .addresses)) (now (c .before .before .before .before .before .before .before .before .before .before .before .before .before .before .before .before .before .before .before .args .counts)) (c .before .before .before .before .before .before .before .before .before .before .before .before .before .before .before .before .before .before .before .args .superblock) _ _ _ _ _ (c .before .before .before .before .before .before .before .before .before .before .read .last .1 .1 .0) (c .before .before .before .before .before .before .before .before .before .before .read .last .1 .1 .1 .0) (c .before .before .before .before .before .before .before .before .before .before .read .last .1 .1 .1 .1 .0) _ _ (rw (c .before .before .s .given .1) at (c .before .before .before .before .before .before .before .before .before .before .read .ensures)) (c .target-of .ensures)
+returns-2 c =
+    let at-read = c .before .before .before .before .before .before .before .before .before .before in
+    let start = at-read .before .before .before .before .before .before .before .before .before in
+    group-found (now (start .args .image)) (now (start .args .name)) (now (start .args .list)) (now (start .args .addresses)) (now (start .args .counts))
+    (start .args .superblock) _ _ _ _ _ (at-read .read .last .1 .1 .0) (at-read .read .last .1 .1 .1 .0) (at-read .read .last .1 .1 .1 .1 .0) _ _
+    (rw (c .before .before .s .given .1) at (at-read .read .ensures)) (c .target-of .ensures)
 
 pub find-spec : {M : Type 1} → statement M
 find-spec =

@@ -22,75 +22,97 @@ abbrev μ-loop : tie.MeasureT-loop
 
 -- the next block, with what waits from there on
 turn : (c : tie.Else1 Inv-loop μ-loop) (waiting : List Message) →
-    Waiting (now (c .before .before .before .before .before .before .args .image)) (now (c .before .before .before .before .before .before .args .list))
-    (c .before .before .before .before .before .before .args .count)
-    (c .before .before .before .before .before .before .args .cursor) waiting →
-    Waiting (now (c .before .before .before .before .before .before .args .image)) (now (c .before .before .before .before .before .before .args .list))
-    (c .before .before .before .before .before .before .args .count)
-    (cursor (c .before .before .loop .block + 1) (getD (now (c .before .before .before .before .before .before .args .list))
-    (c .before .before .loop .block + 1 + (c .before .before .loop .block + 1)) 0)
-    (getD (now (c .before .before .before .before .before .before .args .list)) (c .before .before .loop .block + 1 + (c .before .before .loop .block + 1)) 0
-    + getD (now (c .before .before .before .before .before .before .args .list))
-    (c .before .before .loop .block + 1 + (c .before .before .loop .block + 1) + 1) 0))
+    let at-loop = c .before .before in
+    let start = at-loop .before .before .before .before in
+    Waiting (now (start .args .image)) (now (start .args .list))
+    (start .args .count)
+    (start .args .cursor) waiting →
+    Waiting (now (start .args .image)) (now (start .args .list))
+    (start .args .count)
+    (cursor (at-loop .loop .block + 1) (getD (now (start .args .list))
+    (at-loop .loop .block + 1 + (at-loop .loop .block + 1)) 0)
+    (getD (now (start .args .list)) (at-loop .loop .block + 1 + (at-loop .loop .block + 1)) 0
+    + getD (now (start .args .list))
+    (at-loop .loop .block + 1 + (at-loop .loop .block + 1) + 1) 0))
     waiting
 turn c waiting w = next-block _ _ _ _ _ _ waiting (c .before .loop-test .taken) (c .if1 .left) (c .before .before .loop .inv .1 waiting w)
 
 next-continuation-requires : tie.Need-next-continuation-requires Inv-loop μ-loop
-next-continuation-requires c κs = (c .before .before .pre .1 .1 .here, c .before .before .pre .1 .1 .holds)
+next-continuation-requires c κs =
+    let start = c .before .before in
+    (start .pre .1 .1 .here, start .pre .1 .1 .holds)
 
 loop-holds : tie.Need-loop-holds Inv-loop μ-loop
 loop-holds c = (c .before .before .before .pre .1 .1 .block, λ waiting w. searched _ _ _ _ waiting _ w (c .next-continuation .ensures))
 
 add-loop : tie.Need-add-loop Inv-loop μ-loop
-add-loop c = omega (arith, c .loop .inv .0, c .before .before .before .before .pre .0)
+add-loop c =
+    let start = c .before .before .before .before in
+    omega (arith, c .loop .inv .0, start .pre .0)
 
 returns : tie.Need-returns Inv-loop μ-loop
 returns c = λ waiting w. found-here _ _ _ _ _ _ waiting (c .if1 .taken) (c .before .before .loop .inv .1 waiting w)
 
 add-block : tie.Need-add-block Inv-loop μ-loop
-add-block c = omega (arith, c .before .before .loop .inv .0, c .before .before .before .before .before .before .pre .0)
+add-block c =
+    let start = c .before .before .before .before .before .before in
+    omega (arith, c .before .before .loop .inv .0, start .pre .0)
 
 add-from : tie.Need-add-from Inv-loop μ-loop
-add-from c = omega (arith, c .before .loop-test .taken, c .before .before .before .before .before .before .pre .0)
+add-from c =
+    let start = c .before .before .before .before .before .before in
+    omega (arith, c .before .loop-test .taken, start .pre .0)
 
 mul-from : tie.Need-mul-from Inv-loop μ-loop
-mul-from c = omega (arith, c .before .loop-test .taken, c .before .before .before .before .before .before .pre .0)
+mul-from c =
+    let start = c .before .before .before .before .before .before in
+    omega (arith, c .before .loop-test .taken, start .pre .0)
 
 shared-slice-read-from : tie.Need-shared-slice-read-from Inv-loop μ-loop
-shared-slice-read-from c = omega (arith, c .before .before .loop-test .taken, c .before .before .before .before .before .before .before .pre .0)
+shared-slice-read-from c =
+    let start = c .before .before .before .before .before .before .before in
+    omega (arith, c .before .before .loop-test .taken, start .pre .0)
 
 add-end : tie.Need-add-end Inv-loop μ-loop
-add-end c = omega (arith, c .before .before .loop-test .taken, c .before .before .before .before .before .before .before .pre .0)
+add-end c =
+    let start = c .before .before .before .before .before .before .before in
+    omega (arith, c .before .before .loop-test .taken, start .pre .0)
 
 add-end-2 : tie.Need-add-end-2 Inv-loop μ-loop
-add-end-2 c = omega (arith, c .before .before .loop-test .taken, c .before .before .before .before .before .before .before .pre .0)
+add-end-2 c =
+    let start = c .before .before .before .before .before .before .before in
+    omega (arith, c .before .before .loop-test .taken, start .pre .0)
 
 mul-end : tie.Need-mul-end Inv-loop μ-loop
-mul-end c = omega (arith, c .before .before .loop-test .taken, c .before .before .before .before .before .before .before .pre .0)
+mul-end c =
+    let start = c .before .before .before .before .before .before .before in
+    omega (arith, c .before .before .loop-test .taken, start .pre .0)
 
 shared-slice-read-end : tie.Need-shared-slice-read-end Inv-loop μ-loop
-shared-slice-read-end c = omega (arith, c .before .before .before .loop-test .taken, c .before .before .before .before .before .before .before .before .pre .0)
+shared-slice-read-end c =
+    let start = c .before .before .before .before .before .before .before .before in
+    omega (arith, c .before .before .before .loop-test .taken, start .pre .0)
 
 add-end-3 : tie.Need-add-end-3 Inv-loop μ-loop
 add-end-3 c =
-    let first = c .before .before in
-    let s = first .before .before .before .before .before .before in
-    omega (arith, turn first (s .pre .1 .0) (s .pre .1 .1) .holds .inside)
+    let start = c .before .before .before .before .before .before .before .before in
+    omega (arith, turn (c .before .before) (start .pre .1 .0) (start .pre .1 .1) .holds .inside)
 
 next-continuation-requires-2 : tie.Need-next-continuation-requires-2 Inv-loop μ-loop
 next-continuation-requires-2 c κs =
-    let first = c .before .before in
-    let s = first .before .before .before .before .before .before in
-    let w = turn first (s .pre .1 .0) (s .pre .1 .1) in
+    let start = c .before .before .before .before .before .before .before .before in
+    let w = turn (c .before .before) (start .pre .1 .0) (start .pre .1 .1) in
     (w .here, w .holds)
 
 loop-less : tie.Need-loop-less Inv-loop μ-loop
-loop-less c = omega (arith, c .before .before .before .before .loop-test .taken)
+loop-less c =
+    let at-loop-test = c .before .before .before .before in
+    omega (arith, at-loop-test .loop-test .taken)
 
 loop-again : tie.Need-loop-again Inv-loop μ-loop
 loop-again c =
-    let first = c .before .before .before in
-    (first .before .loop-test .taken, λ waiting w. searched _ _ _ _ waiting _ (turn first waiting w) (c .next-continuation2 .ensures))
+    let at-loop-test = c .before .before .before .before in
+    (at-loop-test .loop-test .taken, λ waiting w. searched _ _ _ _ waiting _ (turn (c .before .before .before) waiting w) (c .next-continuation2 .ensures))
 
 returns-2 : tie.Need-returns-2 Inv-loop μ-loop
 returns-2 c = λ waiting w. last-block _ _ _ _ _ _ waiting (c .loop-test .left) (c .before .loop .inv .1 waiting w)

@@ -13,7 +13,8 @@ use Rattle.dataspace.proofs.at_most.Tie as tie
 
 abbrev Inv-loop : tie.InvT-loop
 Inv-loop body sizes maxima rank i₀ i =
-    (i ≤ rank) × (allAtMost (toWords rank (drop sizes body)) (toWords rank (drop maxima body)) ≡ allAtMost (wordsFrom body sizes rank i) (wordsFrom body maxima rank i))
+    (i ≤ rank) × (allAtMost (toWords rank (drop sizes body)) (toWords rank (drop maxima body)) ≡ allAtMost (wordsFrom body sizes rank i)
+    (wordsFrom body maxima rank i))
 
 abbrev μ-loop : tie.MeasureT-loop
 μ-loop body sizes maxima rank i₀ i = rank - i
@@ -45,7 +46,8 @@ returns : tie.Need-returns Inv-loop μ-loop
 returns c =
     let s = c .before .before .before .before in
     let a = s .before .before .args in
-    maxima-below (now (a .body)) (a .sizes) (a .maxima) (a .rank) (s .loop .i) _ (s .loop .inv .1) (omega arith) (c .before .before .u64-at .ensures) (c .before .u64-at2 .ensures) (c .if1 .taken)
+    maxima-below (now (a .body)) (a .sizes) (a .maxima) (a .rank) (s .loop .i) _ (s .loop .inv .1) (omega arith) (c .before .before .u64-at .ensures)
+    (c .before .u64-at2 .ensures) (c .if1 .taken)
 
 add-i : tie.Need-add-i Inv-loop μ-loop
 add-i c = search needs
@@ -56,8 +58,11 @@ loop-less c = search needs
 loop-again : tie.Need-loop-again Inv-loop μ-loop
 loop-again c =
     let s = c .before .before .before .before in
-    let a = s .before .before .args in
-    (search needs, maxima-next (now (a .body)) (a .sizes) (a .maxima) (a .rank) (s .loop .i) _ (s .loop .inv .1) (omega arith) (c .before .before .u64-at .ensures) (c .before .u64-at2 .ensures) (c .if1 .left))
+    let a = s .before .before .args in (
+      search needs,
+      maxima-next (now (a .body)) (a .sizes) (a .maxima) (a .rank) (s .loop .i) _ (s .loop .inv .1) (omega arith)
+          (c .before .before .u64-at .ensures) (c .before .u64-at2 .ensures) (c .if1 .left),
+    )
 
 returns-2 : tie.Need-returns-2 Inv-loop μ-loop
 returns-2 c =

@@ -15,7 +15,8 @@ use Rattle.dataspace.proofs.multiplies_to.Tie as tie
 
 abbrev Inv-loop : tie.InvT-loop
 Inv-loop body rank element-size stored so-far₀ i₀ so-far i =
-    (i ≤ rank) × (so-far ≤ stored) × (contains 0 (wordsFrom body 8 rank i) ≡ false) × (product (toWords rank (drop 8 body)) * element-size ≡ so-far * product (wordsFrom body 8 rank i))
+    (i ≤ rank) × (so-far ≤ stored) × (contains 0 (wordsFrom body 8 rank i) ≡ false) × (product (toWords rank (drop 8 body)) * element-size ≡ so-far * product
+    (wordsFrom body 8 rank i))
 
 abbrev μ-loop : tie.MeasureT-loop
 μ-loop body rank element-size stored so-far₀ i₀ so-far i = rank - i
@@ -23,11 +24,13 @@ abbrev μ-loop : tie.MeasureT-loop
 turn : (c : tie.After-u64-at Inv-loop μ-loop) →
     let s = c .before .before in
     let a = s .before .before .before .args in
-    Turn (now (a .body)) (a .rank) (s .loop .i) (product (toWords (a .rank) (drop 8 (now (a .body)))) * a .element-size) (s .loop .so-far) (a .stored) (c .u64-at .result)
+    Turn (now (a .body)) (a .rank) (s .loop .i) (product (toWords (a .rank) (drop 8 (now (a .body)))) * a .element-size) (s .loop .so-far) (a .stored)
+    (c .u64-at .result)
 turn c =
     let s = c .before .before in
     let a = s .before .before .before .args in
-    product-turn (now (a .body)) (a .rank) (s .loop .i) _ (s .loop .so-far) (a .stored) (s .loop .inv .2) (s .loop .inv .3) (c .before .loop-test .taken) (c .u64-at .ensures)
+    product-turn (now (a .body)) (a .rank) (s .loop .i) _ (s .loop .so-far) (a .stored) (s .loop .inv .2) (s .loop .inv .3) (c .before .loop-test .taken)
+    (c .u64-at .ensures)
 
 returns : tie.Need-returns Inv-loop μ-loop
 returns c =

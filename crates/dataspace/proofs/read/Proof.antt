@@ -8,7 +8,8 @@ use Rattle.format.specs.Dataspace.{Dataspace, readDataspace}
 use Rattle.format.specs.Result.{Result, answer}
 use Rattle.walk.proofs.Tests.{field-most, field-above}
 use Rattle.laws.proofs.Results.{passes, fails}
-use Rattle.dataspace.proofs.SpaceChecks.{afterSizes, afterFlags, afterRank, afterVersion, afterLength, first-check, none-stored, maxima-short, maxima-low, maxima-stored, refused-space, plain-space, stored-space}
+use Rattle.dataspace.proofs.SpaceChecks.{afterSizes, afterFlags, afterRank, afterVersion, afterLength, first-check}
+use Rattle.dataspace.proofs.SpaceChecks.{none-stored, maxima-short, maxima-low, maxima-stored, refused-space, plain-space, stored-space}
 use native.Mathlib.Omega.{arith}
 use borrow.Author.Needs.{needs}
 use Rattle.dataspace.proofs.read.Statement.{statement}
@@ -18,7 +19,8 @@ use Rattle.dataspace.proofs.read.Tie as tie
 long : (c : tie.Else1) {x : Result Dataspace} → let b = now (c .before .before .before .args .body) in x ≡ afterLength b → x ≡ readDataspace b
 long c e = first-check _ (passes _ _ (le-leb _ _ (c .if1 .left)) e)
 
-versioned : (c : tie.Else2) {x : Result Dataspace} → let b = now (c .before .before .before .before .before .args .body) in x ≡ afterVersion b → x ≡ readDataspace b
+versioned : (c : tie.Else2) {x : Result Dataspace} → let b = now (c .before .before .before .before .before .args .body) in x ≡ afterVersion b →
+    x ≡ readDataspace b
 versioned c e = long (c .before .before) (passes _ _ (eq-eqb _ _ (c .if2 .left)) e)
 
 small : (c : tie.Else3) → c .before .before .wide .result ≤ rankMost
@@ -28,17 +30,22 @@ ranked : (c : tie.Else3) {x : Result Dataspace} → let b = now (c .before .befo
     x ≡ afterRank b → x ≡ readDataspace b
 ranked c e = versioned (c .before .before .before .before) (passes _ _ (field-most (sym (c .before .before .wide .ensures)) (small c)) e)
 
-flagged : (c : tie.Else4) {x : Result Dataspace} → let b = now (c .before .before .before .before .before .before .before .before .before .before .before .args .body) in
+flagged : (c : tie.Else4) {x : Result Dataspace} →
+    let b = now (c .before .before .before .before .before .before .before .before .before .before .before .args .body) in
     x ≡ afterFlags b → x ≡ readDataspace b
 flagged c e = ranked (c .before .before) (passes _ _ (le-leb _ _ (c .if4 .left)) e)
 
-sizes-outside : (c : tie.Then5) → let b = now (c .before .before .before .before .before .before .before .before .before .before .before .before .args .body) in
+sizes-outside : (c : tie.Then5) → let b = now (c .before .before .before .before .before .before .before .before .before .before .before .before .args .body)
+    in
     answer 11 ≡ afterFlags b
 sizes-outside c = fails _ _ (field-above (ap (λ (k : ℕ). 8 + 8 * k) (sym (c .before .before .before .before .before .wide .ensures))) (c .if5 .taken))
 
-inside : (c : tie.Else5) {x : Result Dataspace} → let b = now (c .before .before .before .before .before .before .before .before .before .before .before .before .args .body) in
+inside : (c : tie.Else5) {x : Result Dataspace} →
+    let b = now (c .before .before .before .before .before .before .before .before .before .before .before .before .args .body) in
     x ≡ afterSizes b → x ≡ readDataspace b
-inside c e = flagged (c .before) (passes _ _ (field-most (ap (λ (k : ℕ). 8 + 8 * k) (sym (c .before .before .before .before .before .wide .ensures))) (c .if5 .left)) e)
+inside c e =
+    flagged (c .before)
+    (passes _ _ (field-most (ap (λ (k : ℕ). 8 + 8 * k) (sym (c .before .before .before .before .before .wide .ensures))) (c .if5 .left)) e)
 
 the-limits-requires : tie.Need-the-limits-requires
 the-limits-requires c κs = search needs
@@ -61,7 +68,8 @@ wide-requires c κs = search needs
 returns-3 : tie.Need-returns-3
 returns-3 c =
     let limits = c .before .before .before .before .before .before .before .the-limits .ensures in
-    refused-space (versioned (c .before .before .before .before) (fails _ _ (field-above (sym (c .before .before .wide .ensures)) (omega (arith, c .if3 .taken, limits .rankMostEqual)))))
+    refused-space (versioned (c .before .before .before .before) (fails _ _
+    (field-above (sym (c .before .before .wide .ensures)) (omega (arith, c .if3 .taken, limits .rankMostEqual)))))
 
 shared-slice-read-flags : tie.Need-shared-slice-read-flags
 shared-slice-read-flags c = search needs
@@ -86,7 +94,8 @@ returns-6 : tie.Need-returns-6
 returns-6 c =
     let fifth = c .before in
     let b = now (fifth .before .before .before .before .before .before .before .before .before .before .before .before .args .body) in
-    plain-space (inside fifth (none-stored b (fifth .before .before .before .before .before .wide .ensures) (c .if6 .taken))) (small (fifth .before .before .before)) (fifth .if5 .left)
+    plain-space (inside fifth (none-stored b (fifth .before .before .before .before .before .wide .ensures) (c .if6 .taken)))
+    (small (fifth .before .before .before)) (fifth .if5 .left)
 
 mul-if7 : tie.Need-mul-if7
 mul-if7 c = search needs
@@ -108,14 +117,16 @@ returns-8 c =
     let sixth = c .before .before .before in
     let fifth = sixth .before in
     let b = now (fifth .before .before .before .before .before .before .before .before .before .before .before .before .args .body) in
-    refused-space (inside fifth (maxima-low b (fifth .before .before .before .before .before .wide .ensures) (sixth .if6 .left) (c .before .before .if7 .left) (c .before .at-most .ensures) (not-true _ (c .if8 .taken))))
+    refused-space (inside fifth (maxima-low b (fifth .before .before .before .before .before .wide .ensures) (sixth .if6 .left) (c .before .before .if7 .left)
+    (c .before .at-most .ensures) (not-true _ (c .if8 .taken))))
 
 returns-9 : tie.Need-returns-9
 returns-9 c =
     let sixth = c .before .before .before in
     let fifth = sixth .before in
     let b = now (fifth .before .before .before .before .before .before .before .before .before .before .before .before .args .body) in
-    stored-space (inside fifth (maxima-stored b (fifth .before .before .before .before .before .wide .ensures) (sixth .if6 .left) (c .before .before .if7 .left) (c .before .at-most .ensures) (not-false _ (c .if8 .left))))
+    stored-space (inside fifth (maxima-stored b (fifth .before .before .before .before .before .wide .ensures) (sixth .if6 .left)
+    (c .before .before .if7 .left) (c .before .at-most .ensures) (not-false _ (c .if8 .left))))
     (small (fifth .before .before .before)) (c .before .before .if7 .left)
 
 pub read-spec : {M : Type 1} → statement M

@@ -15,16 +15,21 @@ use Rattle.datatype.proofs.read.Tie as tie
 long : (c : tie.Else1) {x : Result Datatype} → let b = now (c .before .before .args .body) in x ≡ afterLength b → x ≡ readDatatype b
 long c e = first-check _ (passes _ _ (le-leb _ _ (c .if1 .left)) e)
 
-versioned : (c : tie.Else3) {x : Result Datatype} → let b = now (c .before .before .before .before .before .args .body) in x ≡ afterVersion b → x ≡ readDatatype b
+versioned : (c : tie.Else3) {x : Result Datatype} → let b = now (c .before .before .before .before .before .args .body) in x ≡ afterVersion b →
+    x ≡ readDatatype b
 versioned c e = long (c .before .before .before) (passes _ _ (range-inside 1 3 _ (c .before .if2 .left) (c .if3 .left)) e)
 
-classed : (c : tie.Else4) {x : Result Datatype} → let b = now (c .before .before .before .before .before .before .before .before .args .body) in x ≡ afterClass b → x ≡ readDatatype b
+classed : (c : tie.Else4) {x : Result Datatype} → let b = now (c .before .before .before .before .before .before .before .before .args .body) in
+    x ≡ afterClass b → x ≡ readDatatype b
 classed c e = versioned (c .before .before .before) (passes _ _ (sym (c .before .class-read .ensures) ∙ not-false _ (c .if4 .left)) e)
 
-sized : (c : tie.Else5) {x : Result Datatype} → let b = now (c .before .before .before .before .before .before .before .before .before .before .args .body) in x ≡ afterSize b → x ≡ readDatatype b
+sized : (c : tie.Else5) {x : Result Datatype} → let b = now (c .before .before .before .before .before .before .before .before .before .before .args .body) in
+    x ≡ afterSize b → x ≡ readDatatype b
 sized c e = classed (c .before .before) (passes _ _ (field-least (sym (c .before .u32-at .ensures .value)) (c .if5 .left)) e)
 
-held : (c : tie.Else6) {x : Result Datatype} → let b = now (c .before .before .before .before .before .before .before .before .before .before .before .before .args .body) in x ≡ afterExtent b → x ≡ readDatatype b
+held : (c : tie.Else6) {x : Result Datatype} →
+    let b = now (c .before .before .before .before .before .before .before .before .before .before .before .before .args .body) in x ≡ afterExtent b →
+    x ≡ readDatatype b
 held c e = sized (c .before .before) (passes _ _ (field-most (sym (c .before .needed .ensures)) (c .if6 .left)) e)
 
 returns : tie.Need-returns
@@ -77,7 +82,8 @@ cast-t14 c = search needs
 returns-8 : tie.Need-returns-8
 returns-8 c =
     let fifth = c .before .before .before .before .before in
-    held (c .before .before .before) (own-read _ (fifth .before .u32-at .ensures) (c .before .before .sound .ensures) (c .class-bits .ensures) (not-false _ (c .before .if7 .left)))
+    held (c .before .before .before)
+    (own-read _ (fifth .before .u32-at .ensures) (c .before .before .sound .ensures) (c .class-bits .ensures) (not-false _ (c .before .if7 .left)))
 
 pub read-spec : {M : Type 1} → statement M
 read-spec =

@@ -18,9 +18,12 @@ same-length c = search needs
 
 returns : tie.Need-returns
 returns c =
-    let a = c .before .before .before .before .before .before .before .before .before .args in
-    let sound = c .before .before .before .before .before .is-sound in
-    bad-is (now (a .image)) (now (a .path)) (now (a .list)) _ _ (sound .ensures) (not-true _ (c .before .before .before .before .if1 .taken)) (c .before .before .refused .ensures)
+    let at-if1 = c .before .before .before .before in
+    let at-is-sound = at-if1 .before in
+    let start = at-is-sound .before .before .before .before in
+    let a = start .args in
+    let sound = at-is-sound .is-sound in
+    bad-is (now (a .image)) (now (a .path)) (now (a .list)) _ _ (sound .ensures) (not-true _ (at-if1 .if1 .taken)) (c .before .before .refused .ensures)
 
 open-requires : tie.Need-open-requires
 open-requires c κs = search needs
@@ -36,26 +39,41 @@ enum-known-s c = search needs
 
 describe-path-requires : tie.Need-describe-path-requires
 describe-path-requires c κs =
-    let sound = c .before .before .before .before .before .before .is-sound in
-    ((rw (c .before .before .s .given .1) at (c .before .before .before .before .open .ensures)) .1, sound .ensures .begun (not-false _ (c .before .before .before .before .before .if1 .left)))
+    let at-open = c .before .before .before .before in
+    let at-if1 = at-open .before in
+    let at-is-sound = at-if1 .before in
+    let sound = at-is-sound .is-sound in
+    ((rw (c .before .before .s .given .1) at (at-open .open .ensures)) .1, sound .ensures .begun (not-false _ (at-if1 .if1 .left)))
 
 same-length-2 : tie.Need-same-length-2
 same-length-2 c = search needs
 
 returns-2 : tie.Need-returns-2
 returns-2 c =
-    let a = c .before .before .before .before .before .before .before .before .before .before .before .before .before .args in
-    let sound = c .before .before .before .before .before .before .before .before .before .is-sound in
-    not-opened-is (now (a .image)) (now (a .path)) (now (a .list)) _ _ (sound .ensures) (not-false _ (c .before .before .before .before .before .before .before .before .if1 .left)) (c .before .before .before .before .before .x .given .0 .0) ((rw (c .before .before .before .before .before .x .given .1) at (c .before .before .before .before .before .before .before .open .ensures)) .0) (c .before .before .refused2 .ensures)
+    let at-x = c .before .before .before .before .before in
+    let at-open = at-x .before .before in
+    let at-if1 = at-open .before in
+    let at-is-sound = at-if1 .before in
+    let start = at-is-sound .before .before .before .before in
+    let a = start .args in
+    let sound = at-is-sound .is-sound in
+    not-opened-is (now (a .image)) (now (a .path)) (now (a .list)) _ _ (sound .ensures) (not-false _ (at-if1 .if1 .left)) (at-x .x .given .0 .0)
+    ((rw (at-x .x .given .1) at (at-open .open .ensures)) .0) (c .before .before .refused2 .ensures)
 
 same-length-3 : tie.Need-same-length-3
 same-length-3 c = search needs
 
 returns-3 : tie.Need-returns-3
 returns-3 c =
-    let a = c .before .before .before .before .before .before .before .before .before .before .before .before .before .args in
-    let sound = c .before .before .before .before .before .before .before .before .before .is-sound in
-    opened-is (now (a .image)) (now (a .path)) (now (a .list)) _ _ (sound .ensures) (not-false _ (c .before .before .before .before .before .before .before .before .if1 .left)) (superblockOf (c .before .before .before .before .before .s .given .0 .0)) ((rw (c .before .before .before .before .before .s .given .1) at (c .before .before .before .before .before .before .before .open .ensures)) .0) (c .before .before .describe-path .ensures)
+    let at-s = c .before .before .before .before .before in
+    let at-open = at-s .before .before in
+    let at-if1 = at-open .before in
+    let at-is-sound = at-if1 .before in
+    let start = at-is-sound .before .before .before .before in
+    let a = start .args in
+    let sound = at-is-sound .is-sound in
+    opened-is (now (a .image)) (now (a .path)) (now (a .list)) _ _ (sound .ensures) (not-false _ (at-if1 .if1 .left)) (superblockOf (at-s .s .given .0 .0))
+    ((rw (at-s .s .given .1) at (at-open .open .ensures)) .0) (c .before .before .describe-path .ensures)
 
 pub describe-spec : {M : Type 1} → statement M
 describe-spec =

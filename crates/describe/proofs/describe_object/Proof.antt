@@ -7,7 +7,7 @@ use denote.Ref.{now}
 use lib.ListN.{length}
 use Rattle.superblock.specs.Superblock.{superblockOf}
 use Rattle.object.proofs.ObjectLaws.{opened, room-lent}
-use Rattle.describe.specs.Reader.{datasetAtWalk}
+use Rattle.dataset_at.specs.Reader.{datasetAtWalk}
 use Rattle.describe.proofs.ReplyLaws.{object-stopped, count-fits, count-small, object-described}
 
 room-requires : tie.Need-room-requires
@@ -15,10 +15,10 @@ room-requires c κs = search needs
 
 dataset-at-requires : tie.Need-dataset-at-requires
 dataset-at-requires c κs =
-    let s = c .before .before .before .before in
-    let a = s .args in
+    let start = c .before .before .before .before in
+    let a = start .args in
     let room = c .before .room in
-    (opened (now (a .image)) (a .superblock) _ (length (now (a .list))) (room .ensures) (s .pre), room-lent (now (a .list)) _ (room .ensures))
+    (opened (now (a .image)) (a .superblock) _ (length (now (a .list))) (room .ensures) (start .pre), room-lent (now (a .list)) _ (room .ensures))
 
 enum-known-x : tie.Need-enum-known-x
 enum-known-x c = search needs
@@ -31,48 +31,69 @@ enum-known-dataset c = search needs
 
 add-clear-from : tie.Need-add-clear-from
 add-clear-from c =
-    let s = c .before .before .before .before .before .before .before .before .before .before .before in
-    let a = s .args in
-    let room = c .before .before .before .before .before .before .before .before .room in
-    let read = c .before .before .before .before .before .before .dataset-at in
+    let at-dataset-at = c .before .before .before .before .before .before in
+    let at-room = at-dataset-at .before .before in
+    let start = at-room .before .before .before in
+    let a = start .args in
+    let room = at-room .room in
+    let read = at-dataset-at .dataset-at in
     let d = c .before .before .dataset .given in
-    omega (arith, count-small (now (a .image)) (a .superblock .«end_of_file») (room .result) (datasetAtWalk (superblockOf (a .superblock)) (a .at)) (now (a .list)) (read .last .1 .0) (room .ensures) (read .kept .1 .0) (d .0 .0) (d .0 .1 .0) (d .0 .1 .1 .0) (rw (d .1) at (read .ensures)))
+    omega (
+      arith,
+      count-small (now (a .image)) (a .superblock .«end_of_file») (room .result) (datasetAtWalk (superblockOf (a .superblock)) (a .at))
+          (now (a .list)) (read .last .1 .0) (room .ensures) (read .kept .1 .0) (d .0 .0) (d .0 .1 .0) (d .0 .1 .1 .0) (rw (d .1) at (read .ensures)),
+    )
 
 clear-from-requires : tie.Need-clear-from-requires
 clear-from-requires c κs =
-    let s = c .before .before .before .before .before .before .before .before .before .before .before in
-    let a = s .args in
-    let room = c .before .before .before .before .before .before .before .before .room in
-    let read = c .before .before .before .before .before .before .dataset-at in
+    let at-dataset-at = c .before .before .before .before .before .before in
+    let at-room = at-dataset-at .before .before in
+    let start = at-room .before .before .before in
+    let a = start .args in
+    let room = at-room .room in
+    let read = at-dataset-at .dataset-at in
     let d = c .before .before .dataset .given in
-    count-fits (now (a .image)) (a .superblock .«end_of_file») (room .result) (datasetAtWalk (superblockOf (a .superblock)) (a .at)) (now (a .list)) (read .last .1 .0) (room .ensures) (read .kept .1 .0) (d .0 .0) (d .0 .1 .0) (d .0 .1 .1 .0) (rw (d .1) at (read .ensures))
+    count-fits (now (a .image)) (a .superblock .«end_of_file») (room .result) (datasetAtWalk (superblockOf (a .superblock)) (a .at)) (now (a .list))
+    (read .last .1 .0) (room .ensures) (read .kept .1 .0) (d .0 .0) (d .0 .1 .0) (d .0 .1 .1 .0) (rw (d .1) at (read .ensures))
 
 described-requires : tie.Need-described-requires
-described-requires c κs = (rw (c .before .before .before .before .before .dataset .given .1) at (c .before .before .before .before .before .before .before .before .before .dataset-at .ensures)) .readable
+described-requires c κs =
+    let at-dataset = c .before .before .before .before .before in
+    let at-dataset-at = at-dataset .before .before .before .before in
+    (rw (at-dataset .dataset .given .1) at (at-dataset-at .dataset-at .ensures)) .readable
 
 same-length : tie.Need-same-length
 same-length c = search needs
 
 returns : tie.Need-returns
 returns c =
-    let s = c .before .before .before .before .before .before .before .before .before .before .before .before .before .before in
-    let a = s .args in
-    let room = c .before .before .before .before .before .before .before .before .before .before .before .room in
-    let read = c .before .before .before .before .before .before .before .before .before .dataset-at in
-    let x = c .before .before .before .before .before .x .given in
-    object-stopped (now (a .image)) (a .superblock .«end_of_file») (room .result) (datasetAtWalk (superblockOf (a .superblock)) (a .at)) (now (a .list)) (read .last .1 .0) (room .ensures) (read .kept .1 .0) (x .0 .0) (rw (x .1) at (read .ensures)) _ _ (c .before .before .refused .ensures)
+    let at-x = c .before .before .before .before .before in
+    let at-dataset-at = at-x .before .before .before .before in
+    let at-room = at-dataset-at .before .before in
+    let start = at-room .before .before .before in
+    let a = start .args in
+    let room = at-room .room in
+    let read = at-dataset-at .dataset-at in
+    let x = at-x .x .given in
+    object-stopped (now (a .image)) (a .superblock .«end_of_file») (room .result) (datasetAtWalk (superblockOf (a .superblock)) (a .at)) (now (a .list))
+    (read .last .1 .0) (room .ensures) (read .kept .1 .0) (x .0 .0) (rw (x .1) at (read .ensures)) _ _ (c .before .before .refused .ensures)
 
 same-length-2 : tie.Need-same-length-2
 same-length-2 c = search needs
 
 returns-2 : tie.Need-returns-2
 returns-2 c =
-    let s = c .before .before .before .before .before .before .before .before .before .before .before .before .before .before .before in
-    let a = s .args in
-    let room = c .before .before .before .before .before .before .before .before .before .before .before .before .room in
-    let read = c .before .before .before .before .before .before .before .before .before .before .dataset-at in
-    let d = c .before .before .before .before .before .before .dataset .given in
-    object-described (now (a .image)) (a .superblock .«end_of_file») (room .result) (datasetAtWalk (superblockOf (a .superblock)) (a .at)) (now (a .list)) (read .last .1 .0) (room .ensures) (read .kept .1 .0) (d .0 .0) (d .0 .1 .0) (d .0 .1 .1 .0) (rw (d .1) at (read .ensures)) _ _ (c .before .before .before .clear-from .ensures) (c .described .ensures)
+    let at-dataset = c .before .before .before .before .before .before in
+    let at-dataset-at = at-dataset .before .before .before .before in
+    let at-room = at-dataset-at .before .before in
+    let start = at-room .before .before .before in
+    let a = start .args in
+    let room = at-room .room in
+    let read = at-dataset-at .dataset-at in
+    let d = at-dataset .dataset .given in
+    object-described (now (a .image)) (a .superblock .«end_of_file») (room .result) (datasetAtWalk (superblockOf (a .superblock)) (a .at)) (now (a .list))
+    (read .last .1 .0) (room .ensures) (read .kept .1 .0) (d .0 .0) (d .0 .1 .0) (d .0 .1 .1 .0) (rw (d .1) at (read .ensures)) _ _
+    (c .before .before .before .clear-from .ensures) (c .described .ensures)
 
 pub describe-object-spec : {M : Type 1} → statement M
 describe-object-spec =

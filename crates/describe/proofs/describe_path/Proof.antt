@@ -33,27 +33,39 @@ same-length c = search needs
 
 returns : tie.Need-returns
 returns c =
-    let a = c .before .before .before .before .before .before .before .before .before .before .before .before .before .before .args in
-    let found = c .before .before .before .before .before .before .before .before .before .find-object in
-    path-stopped (now (a .image)) (superblockOf (a .superblock)) (now (a .list)) (found .last .1 .1 .0) (found .kept .1 .1 .0) (componentsOf (now (a .path))) _ _ (c .before .before .before .before .before .x .given .0 .0) (rw (c .before .before .before .before .before .x .given .1) at (found .ensures)) (c .before .before .refused .ensures)
+    let at-x = c .before .before .before .before .before in
+    let at-find-object = at-x .before .before .before .before in
+    let start = at-find-object .before .before .before .before .before in
+    let a = start .args in
+    let found = at-find-object .find-object in
+    path-stopped (now (a .image)) (superblockOf (a .superblock)) (now (a .list)) (found .last .1 .1 .0) (found .kept .1 .1 .0) (componentsOf (now (a .path)))
+    _ _ (at-x .x .given .0 .0) (rw (at-x .x .given .1) at (found .ensures)) (c .before .before .refused .ensures)
 
 same-length-2 : tie.Need-same-length-2
 same-length-2 c = search needs
 
 returns-2 : tie.Need-returns-2
 returns-2 c =
-    let a = c .before .before .before .before .before .before .before .before .before .before .before .before .before .args in
-    let found = c .before .before .before .before .before .before .before .before .find-object in
-    path-symbolic (now (a .image)) (superblockOf (a .superblock)) (now (a .list)) (found .last .1 .1 .0) (found .kept .1 .1 .0) (componentsOf (now (a .path))) _ _ (rw (c .before .before .before .before .enum-told .given .1) at (found .ensures)) (c .before .before .refused2 .ensures)
+    let at-enum-told = c .before .before .before .before in
+    let at-find-object = at-enum-told .before .before .before .before in
+    let start = at-find-object .before .before .before .before .before in
+    let a = start .args in
+    let found = at-find-object .find-object in
+    path-symbolic (now (a .image)) (superblockOf (a .superblock)) (now (a .list)) (found .last .1 .1 .0) (found .kept .1 .1 .0)
+    (componentsOf (now (a .path))) _ _ (rw (at-enum-told .enum-told .given .1) at (found .ensures)) (c .before .before .refused2 .ensures)
 
 same-length-3 : tie.Need-same-length-3
 same-length-3 c = search needs
 
 returns-3 : tie.Need-returns-3
 returns-3 c =
-    let a = c .before .before .before .before .before .before .before .before .before .before .before .before .before .before .args in
-    let found = c .before .before .before .before .before .before .before .before .before .find-object in
-    path-object (now (a .image)) (superblockOf (a .superblock)) (now (a .list)) (found .last .1 .1 .0) (found .kept .1 .1 .0) (componentsOf (now (a .path))) _ _ (c .before .before .before .before .before .a .given .0 .0) (rw (c .before .before .before .before .before .a .given .1) at (found .ensures)) (c .before .before .describe-object .ensures)
+    let at-a = c .before .before .before .before .before in
+    let at-find-object = at-a .before .before .before .before in
+    let start = at-find-object .before .before .before .before .before in
+    let a = start .args in
+    let found = at-find-object .find-object in
+    path-object (now (a .image)) (superblockOf (a .superblock)) (now (a .list)) (found .last .1 .1 .0) (found .kept .1 .1 .0) (componentsOf (now (a .path)))
+    _ _ (at-a .a .given .0 .0) (rw (at-a .a .given .1) at (found .ensures)) (c .before .before .describe-object .ensures)
 
 pub describe-path-spec : {M : Type 1} → statement M
 describe-path-spec =

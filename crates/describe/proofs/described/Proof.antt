@@ -21,7 +21,8 @@ layout-fields-requires c κs = search needs
 returns : tie.Need-returns
 returns c =
     let a = c .before .before .before .before .before .args in
-    fields-are (bodyOf (now (a .image)) (a .space)) (a .dataset) (a .count) _ _ (c .before .type-fields .result) (c .layout-fields .result) (c .before .before .before .words-in .ensures) (c .before .before .maxima-in .ensures) (c .before .type-fields .ensures) (c .layout-fields .ensures)
+    fields-are (bodyOf (now (a .image)) (a .space)) (a .dataset) (a .count) _ _ (c .before .type-fields .result) (c .layout-fields .result)
+    (c .before .before .before .words-in .ensures) (c .before .before .maxima-in .ensures) (c .before .type-fields .ensures) (c .layout-fields .ensures)
 
 pub described-spec : {M : Type 1} → statement M
 described-spec =

@@ -17,7 +17,11 @@ same-length c = search needs
 
 returns : tie.Need-returns
 unfolding rankMost
-returns c = λ bs. rw (c .number-of .ensures, all-cleared (now (c .before .before .before .before .before .before .args .list)) _ (c .before .before .before .clear-from .ensures))
+returns c = λ bs. rw (
+  c .number-of .ensures,
+  all-cleared (now (c .before .before .before .before .before .before .args .list)) _
+      (c .before .before .before .clear-from .ensures),
+)
 
 pub refused-spec : {M : Type 1} → statement M
 refused-spec = tie.close (tie.spec clear-from-requires number-of-requires same-length returns)

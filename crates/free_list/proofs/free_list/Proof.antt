@@ -8,7 +8,8 @@ use lib.ListN.{length}
 use Rattle.format.specs.Bytes.{undefinedAddress}
 use Rattle.format.specs.FreeList.{freeBlocks, freeList}
 use Rattle.free_list.specs.FreeBlocks.{chain, Chained, blockSound}
-use Rattle.free_list.proofs.FreeLaws.{follow, free-none, free-undefined, free-start, sound-fields, block-unsound, block-last, block-more, follow-more, chained-more, free-long}
+use Rattle.free_list.proofs.FreeLaws.{follow, free-none, free-undefined, free-start, sound-fields}
+use Rattle.free_list.proofs.FreeLaws.{block-unsound, block-last, block-more, follow-more, chained-more, free-long}
 use borrow.Author.Needs.{needs}
 use native.Mathlib.Omega.{arith}
 use Rattle.free_list.proofs.free_list.Statement.{statement}
@@ -16,7 +17,8 @@ use Rattle.free_list.proofs.free_list.Tie as tie
 
 abbrev Inv-loop : tie.InvT-loop
 Inv-loop segment head at₀ met₀ at met =
-    (met ≤ length segment) × (at ≡ follow met segment head) × Chained met segment head × (freeList segment head ≡ freeBlocks (length segment - met) segment at (chain met segment head))
+    (met ≤ length segment) × (at ≡ follow met segment head) × Chained met segment
+    head × (freeList segment head ≡ freeBlocks (length segment - met) segment at (chain met segment head))
 
 abbrev μ-loop : tie.MeasureT-loop
 μ-loop segment head at₀ met₀ at met = length segment - met
@@ -50,7 +52,11 @@ returns-3 : tie.Need-returns-3 Inv-loop μ-loop
 returns-3 c =
     let l = c .before .before .before in
     let a = l .before .before .before .before .args in
-    record { value = block-unsound (now (a .segment)) (a .head) (l .loop .met) (l .loop .at) (omega arith) (l .loop .inv .1) (l .loop .inv .3) (sym (c .before .block-sound .ensures) ∙ not-true _ (c .if3 .taken)); chained = tt }
+    record {
+      value = block-unsound (now (a .segment)) (a .head) (l .loop .met) (l .loop .at) (omega arith) (l .loop .inv .1) (l .loop .inv .3)
+          (sym (c .before .block-sound .ensures) ∙ not-true _ (c .if3 .taken));
+      chained = tt;
+    }
 
 u64-at-requires : tie.Need-u64-at-requires Inv-loop μ-loop
 u64-at-requires c κs =
@@ -66,8 +72,12 @@ returns-4 c =
     let l = c .before .before .before .before .before in
     let a = l .before .before .before .before .args in
     record {
-      value = block-last (now (a .segment)) (a .head) (l .loop .met) (l .loop .at) (omega arith) (l .loop .inv .1) (l .loop .inv .3) (sound (c .before .before)) (sym (c .before .u64-at .ensures .value) ∙ c .if4 .taken);
-      chained = chained-more (now (a .segment)) (a .head) (l .loop .met) (l .loop .at) (omega arith) (l .loop .inv .1) (l .loop .inv .3) (sound (c .before .before)) (l .loop .inv .2);
+      value =
+          block-last (now (a .segment)) (a .head) (l .loop .met) (l .loop .at) (omega arith) (l .loop .inv .1) (l .loop .inv .3) (sound (c .before .before))
+          (sym (c .before .u64-at .ensures .value) ∙ c .if4 .taken);
+      chained =
+          chained-more (now (a .segment)) (a .head) (l .loop .met) (l .loop .at) (omega arith) (l .loop .inv .1) (l .loop .inv .3) (sound (c .before .before))
+          (l .loop .inv .2);
     }
 
 loop-less : tie.Need-loop-less Inv-loop μ-loop
@@ -80,8 +90,10 @@ loop-again c =
     let u = c .before .u64-at .ensures .value in (
       omega arith,
       u ∙ follow-more (now (a .segment)) (a .head) (l .loop .met) (l .loop .at) (omega arith) (l .loop .inv .1) (l .loop .inv .3),
-      chained-more (now (a .segment)) (a .head) (l .loop .met) (l .loop .at) (omega arith) (l .loop .inv .1) (l .loop .inv .3) (sound (c .before .before)) (l .loop .inv .2),
-      rw u (block-more (now (a .segment)) (a .head) (l .loop .met) (l .loop .at) (omega arith) (l .loop .inv .1) (l .loop .inv .3) (sound (c .before .before)) (λ e. c .if4 .left (u ∙ e))),
+      chained-more (now (a .segment)) (a .head) (l .loop .met) (l .loop .at) (omega arith) (l .loop .inv .1) (l .loop .inv .3) (sound (c .before .before))
+          (l .loop .inv .2),
+      rw u (block-more (now (a .segment)) (a .head) (l .loop .met) (l .loop .at) (omega arith) (l .loop .inv .1) (l .loop .inv .3) (sound (c .before .before))
+          (λ e. c .if4 .left (u ∙ e))),
     )
 
 returns-5 : tie.Need-returns-5 Inv-loop μ-loop

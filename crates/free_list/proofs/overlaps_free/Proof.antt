@@ -34,11 +34,13 @@ turn : (c : tie.After-u64-at Inv-loop μ-loop) →
     let l = c .before .before in
     let a = l .before .before .args in
     overlapsAny (chain (a .count) (now (a .segment)) (a .head)) (a .off) (a .size)
-    ≡ overlapsAny (block (l .loop .at) (c .u64-at .result) ∷ chain (a .count - (l .loop .i + 1)) (now (a .segment)) (u64 (now (a .segment)) (l .loop .at))) (a .off) (a .size)
+    ≡ overlapsAny (block (l .loop .at) (c .u64-at .result) ∷ chain (a .count - (l .loop .i + 1)) (now (a .segment)) (u64 (now (a .segment)) (l .loop .at)))
+    (a .off) (a .size)
 turn c =
     let l = c .before .before in
     let a = l .before .before .args in
-    search-turn (now (a .segment)) (a .count) (l .loop .i) (l .loop .at) (c .u64-at .result) (a .off) (a .size) _ (omega arith) (c .u64-at .ensures .value) (l .loop .inv .2)
+    search-turn (now (a .segment)) (a .count) (l .loop .i) (l .loop .at) (c .u64-at .result) (a .off) (a .size) _ (omega arith) (c .u64-at .ensures .value)
+    (l .loop .inv .2)
 
 add-end : tie.Need-add-end Inv-loop μ-loop
 add-end c = search needs

@@ -19,8 +19,11 @@ same-length-2 c = search needs
 
 returns : tie.Need-returns
 returns c =
-    let a = c .before .before .before .before .before .before .before .before .before .before .args in
-    (all-zero (now (a .blocks)) _ (c .before .before .before .before .before .before .clear-from .ensures), all-zero (now (a .reply)) _ (c .before .before .clear-from2 .ensures))
+    let a = c .before .before .before .before .before .before .before .before .before .before .args in (
+      all-zero (now (a .blocks)) _ (c .before .before .before .before .before .before .clear-from .ensures),
+      all-zero (now (a .reply)) _
+          (c .before .before .clear-from2 .ensures),
+    )
 
 pub clear-both-spec : {M : Type 1} → statement M
 clear-both-spec =

@@ -15,27 +15,37 @@ use Rattle.front_audit.proofs.audit_bytes.Statement.{statement}
 use Rattle.front_audit.proofs.audit_bytes.Tie as tie
 
 -- the reply is long enough
-reply-long : (c : tie.Else1) → 2 + 3 * objectsMost ≤ length (now (c .before .before .before .before .before .before .args .reply)) / 8
+reply-long : (c : tie.Else1) →
+    let start = c .before .before .before .before .before .before in
+    2 + 3 * objectsMost ≤ length (now (start .args .reply)) / 8
 reply-long c = omega (arith, c .if1 .left, c .before .before .the-limits .ensures .objectsMostEqual)
 
 -- the list has the words that are lent
 room-fits : (c : tie.After-room) → 2 * c .room .result ≤ 2048
-room-fits c = omega (arith, c .room .ensures, room-most (length (now (c .before .before .before .before .before .before .before .args .blocks)) / 8))
+room-fits c =
+    let start = c .before .before .before .before .before .before .before in
+    omega (arith, c .room .ensures, room-most (length (now (start .args .blocks)) / 8))
 
 -- the blocks entered fit the bytes lent
-count-fits : (c : tie.After-audit-into) → c .audit-into .result .«block_count» ≤ roomOf (length (now (c .before .before .before .before .before .before .before .before .before .before .before .before .args .blocks)) / 8)
+count-fits : (c : tie.After-audit-into) →
+    let start = c .before .before .before .before .before .before .before .before .before .before .before .before in
+    c .audit-into .result .«block_count» ≤ roomOf (length (now (start .args .blocks)) / 8)
 count-fits c =
-    let a = c .before .before .before .before .before .before .before .before .before .before .before .before .args in
+    let at-room = c .before .before .before .before .before in
+    let start = at-room .before .before .before .before .before .before .before in
+    let a = start .args in
     blocks-fit (now (a .image)) (length (now (a .blocks))) (length (now (a .reply))) _ _ _ _ _ _
-    (lent-words _ _ _ (c .before .before .before .before .before .room .ensures) (room-most _))
+    (lent-words _ _ _ (at-room .room .ensures) (room-most _))
     (c .audit-into .ensures)
 
 -- and the words lent
 words-fit : (c : tie.After-audit-into) → 2 * c .audit-into .result .«block_count» ≤ length (c .audit-into .last .1 .0)
 words-fit c =
-    let a = c .before .before .before .before .before .before .before .before .before .before .before .before .args in
+    let at-room = c .before .before .before .before .before in
+    let start = at-room .before .before .before .before .before .before .before in
+    let a = start .args in
     used-fit (now (a .image)) (length (now (a .blocks))) (length (now (a .reply))) _ _ _ _ _ _
-    (lent-words _ _ _ (c .before .before .before .before .before .room .ensures) (room-most _))
+    (lent-words _ _ _ (at-room .room .ensures) (room-most _))
     (c .audit-into .ensures)
     (c .audit-into .kept .1 .0)
 
@@ -61,11 +71,14 @@ same-length-2 c = search needs
 
 returns : tie.Need-returns
 returns c =
-    let a = c .before .before .before .before .before .before .before .before .before .before .before .before .before .args in
-    let t = c .before .before .before .before .clear-both .ensures in
-    let d = c .before .before .before .before .before .before .before in
+    let at-clear-both = c .before .before .before .before in
+    let at-if1 = at-clear-both .before .before .before in
+    let at-the-limits = at-if1 .before .before in
+    let start = at-the-limits .before .before .before .before in
+    let a = start .args in
+    let t = at-clear-both .clear-both .ensures in
     short-reply (now (a .image)) (length (now (a .blocks))) (length (now (a .reply))) _ _
-    (omega (arith, d .if1 .taken, d .before .before .the-limits .ensures .objectsMostEqual))
+    (omega (arith, at-if1 .if1 .taken, at-the-limits .the-limits .ensures .objectsMostEqual))
     (t .0)
     (t .1)
 
@@ -108,37 +121,53 @@ same-length-4 c = search needs
 
 returns-2 : tie.Need-returns-2
 returns-2 c =
-    let d = c .before .before .before .before .before .before .before .before .before .before .before .before .before .before in
-    let a = d .before .before .before .before .before .before .before .before .before .before .before .before .args in
-    let t = c .before .before .before .before .before .clear-both2 .ensures in
+    let at-clear-both2 = c .before .before .before .before .before in
+    let at-if2 = at-clear-both2 .before .before .before in
+    let at-audit-into = at-if2 .before .before .before .before .before .before in
+    let at-room = at-audit-into .before .before .before .before .before in
+    let place = at-room .before in
+    let start = place .before .before .before .before .before .before in
+    let a = start .args in
+    let t = at-clear-both2 .clear-both2 .ensures in
     refused-reply (now (a .image)) (length (now (a .blocks))) (length (now (a .reply))) _ _ _ _ _ _
-    (lent-words _ _ _ (d .before .before .before .before .before .room .ensures) (room-most _))
-    (d .audit-into .ensures)
+    (lent-words _ _ _ (at-room .room .ensures) (room-most _))
+    (at-audit-into .audit-into .ensures)
     _ _
-    (reply-long (d .before .before .before .before .before .before))
-    (c .before .before .before .before .before .before .before .before .if2 .taken)
+    (reply-long place)
+    (at-if2 .if2 .taken)
     (t .0)
     (t .1)
 
 mul-used : tie.Need-mul-used
 mul-used c =
-    let d = c .before .before .before .before .before .before .before in
-    record { fits = omega (arith, count-fits d, room-most (length (now (d .before .before .before .before .before .before .before .before .before .before .before .before .args .blocks)) / 8)) }
+    let place = c .before .before .before .before .before .before .before in
+    let start = place .before .before .before .before .before .before .before .before .before .before .before .before in
+    record { fits = omega (arith, count-fits place, room-most (length (now (start .args .blocks)) / 8)) }
 
 array-share-prefix-list : tie.Need-array-share-prefix-list
 array-share-prefix-list c =
-    let d = c .before .before .before .before .before .before .before in
-    part-fits (d .audit-into .last .1 .0) _ (2 * d .before .before .before .before .before .room .result) _ (d .audit-into .kept .1 .0) (words-fit d)
+    let at-audit-into = c .before .before .before .before .before .before .before in
+    let at-room = at-audit-into .before .before .before .before .before in
+    part-fits (at-audit-into .audit-into .last .1 .0) _ (2 * at-room .room .result) _ (at-audit-into .audit-into .kept .1 .0) (words-fit at-audit-into)
 
 slice-aggregate-spill : tie.Need-slice-aggregate-spill
 slice-aggregate-spill c =
-    let d = c .before .before .before .before .before .before .before .before in
-    part-long (d .audit-into .last .1 .0) _ (2 * d .before .before .before .before .before .room .result) _ (d .audit-into .kept .1 .0) (words-fit d)
+    let at-audit-into = c .before .before .before .before .before .before .before .before in
+    let at-room = at-audit-into .before .before .before .before .before in
+    part-long (at-audit-into .audit-into .last .1 .0) _ (2 * at-room .room .result) _ (at-audit-into .audit-into .kept .1 .0) (words-fit at-audit-into)
 
 spill-requires : tie.Need-spill-requires
 spill-requires c κs =
-    let d = c .before .before .before .before .before .before .before .before .before in
-    omega (arith, part-long (d .audit-into .last .1 .0) _ (2 * d .before .before .before .before .before .room .result) _ (d .audit-into .kept .1 .0) (words-fit d), count-fits d, room-lent (length (now (d .before .before .before .before .before .before .before .before .before .before .before .before .args .blocks)) / 8))
+    let at-audit-into = c .before .before .before .before .before .before .before .before .before in
+    let at-room = at-audit-into .before .before .before .before .before in
+    let start = at-room .before .before .before .before .before .before .before in
+    omega (
+      arith,
+      part-long (at-audit-into .audit-into .last .1 .0) _ (2 * at-room .room .result) _ (at-audit-into .audit-into .kept .1 .0)
+          (words-fit at-audit-into),
+      count-fits at-audit-into,
+      room-lent (length (now (start .args .blocks)) / 8),
+    )
 
 slice-aggregate-write-reply : tie.Need-slice-aggregate-write-reply
 slice-aggregate-write-reply c = search needs
@@ -152,10 +181,11 @@ slice-aggregate-write-reply-3 c = search needs
 write-reply-requires : tie.Need-write-reply-requires
 unfolding objectsMost
 write-reply-requires c κs =
-    let d = c .before .before .before .before .before .before .before .before .before .before .before .before .before .before .before .before in
-    let r = d .audit-into in
+    let at-audit-into = c .before .before .before .before .before .before .before .before .before .before .before .before .before .before .before .before in
+    let place = at-audit-into .before .before .before .before .before .before in
+    let r = at-audit-into .audit-into in
     record {
-      room = omega (arith, r .ensures .fits, reply-long (d .before .before .before .before .before .before));
+      room = omega (arith, r .ensures .fits, reply-long place);
       addressesLong = omega (arith, r .ensures .fits, r .kept .1 .1 .0);
       storedLong = omega (arith, r .ensures .fits, r .kept .1 .1 .1 .0);
       countsLong = omega (arith, r .ensures .fits, r .kept .1 .1 .1 .1 .0);
@@ -169,16 +199,22 @@ same-length-6 c = search needs
 
 returns-3 : tie.Need-returns-3
 returns-3 c =
-    let d = c .before .before .before .before .before .before .before .before .before .before .before .before .before .before .before .before .before .before .before in
-    let a = d .before .before .before .before .before .before .before .before .before .before .before .before .args in
+    let at-spill = c .before .before .before .before .before .before .before .before .before in
+    let at-if2 = at-spill .before .before .before .before in
+    let at-audit-into = at-if2 .before .before .before .before .before .before in
+    let at-room = at-audit-into .before .before .before .before .before in
+    let place = at-room .before in
+    let start = place .before .before .before .before .before .before in
+    let a = start .args in
     done-reply (now (a .image)) (length (now (a .blocks))) (length (now (a .reply))) _ _ _ _ _ _
-    (lent-words _ _ _ (d .before .before .before .before .before .room .ensures) (room-most _))
-    (d .audit-into .ensures)
+    (lent-words _ _ _ (at-room .room .ensures) (room-most _))
+    (at-audit-into .audit-into .ensures)
     _ _
-    (reply-long (d .before .before .before .before .before .before))
-    (c .before .before .before .before .before .before .before .before .before .before .before .before .before .if2 .left)
-    (c .before .before .before .before .before .before .before .before .before .spill .ensures
-    ∙ ap (paddedBytes (length (now (a .blocks)))) (part-left (d .audit-into .last .1 .0) _ (2 * d .before .before .before .before .before .room .result) _ (d .audit-into .kept .1 .0) (words-fit d)))
+    (reply-long place)
+    (at-if2 .if2 .left)
+    (at-spill .spill .ensures
+    ∙ ap (paddedBytes (length (now (a .blocks))))
+    (part-left (at-audit-into .audit-into .last .1 .0) _ (2 * at-room .room .result) _ (at-audit-into .audit-into .kept .1 .0) (words-fit at-audit-into)))
     (c .before .before .write-reply .ensures)
 
 pub audit-bytes-spec : {M : Type 1} → statement M

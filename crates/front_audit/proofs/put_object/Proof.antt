@@ -27,9 +27,13 @@ same-length c = search needs
 
 returns : tie.Need-returns
 returns c =
-    let a = c .before .before .before .before .before .before .before .before .before .before .before .before .before .args in
+    let at-put-word2 = c .before .before .before .before .before .before in
+    let at-put-word = at-put-word2 .before .before .before .before in
+    let start = at-put-word .before .before .before in
+    let a = start .args in
     let b = now (a .reply) in
-    let two = put-next b _ _ (a .address ∷ []) (a .at) _ (a .stored) (put-first b _ (a .at) (a .address) (c .before .before .before .before .before .before .before .before .before .before .put-word .ensures)) refl (c .before .before .before .before .before .before .put-word2 .ensures) in
+    let two = put-next b _ _ (a .address ∷ []) (a .at) _ (a .stored) (put-first b _ (a .at) (a .address) (at-put-word .put-word .ensures)) refl
+    (at-put-word2 .put-word2 .ensures) in
     put-next b _ _ (a .address ∷ a .stored ∷ []) (a .at) _ (a .true-count) two refl (c .before .before .put-word3 .ensures)
 
 pub put-object-spec : {M : Type 1} → statement M

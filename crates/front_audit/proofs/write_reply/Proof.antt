@@ -18,7 +18,8 @@ abbrev μ-loop : tie.MeasureT-loop
 μ-loop reply₀ block-count objects addresses stored true-counts i₀ reply i = objects - i
 
 -- no turn changes the length
-same : (c : tie.At-loop Inv-loop μ-loop) → length (c .loop .reply) ≡ length (now (c .before .before .before .before .before .before .before .before .before .before .before .before .before .args .reply))
+same : (c : tie.At-loop Inv-loop μ-loop) → length (c .loop .reply) ≡ length
+    (now (c .before .before .before .before .before .before .before .before .before .before .before .before .before .args .reply))
 same c = c .loop .inv .1 ∙ c .before .before .before .put-word2 .kept .0 ∙ c .before .before .before .before .before .before .before .put-word .kept .0
 
 put-word-requires : tie.Need-put-word-requires Inv-loop μ-loop
@@ -32,7 +33,8 @@ loop-holds c =
     let st = c .before .before .before .before .before .before .before .before .before .before .before .before in (
       omega arith,
       refl,
-      reply-start _ _ _ _ _ (now (st .args .reply)) _ _ (omega (arith, st .pre .room)) (c .before .before .before .before .before .before .put-word .ensures) (c .before .before .put-word2 .ensures),
+      reply-start _ _ _ _ _ (now (st .args .reply)) _ _ (omega (arith, st .pre .room)) (c .before .before .before .before .before .before .put-word .ensures)
+          (c .before .before .put-word2 .ensures),
     )
 
 mul-put-object : tie.Need-mul-put-object Inv-loop μ-loop
@@ -75,7 +77,9 @@ loop-again c =
     let p = c .before .before .put-object in (
       omega arith,
       p .kept .0 ∙ l .inv .1,
-      reply-more _ _ _ _ _ (l .reply) _ (l .i) (l .inv .2) (omega (arith, d .before .before .before .before .before .before .before .before .before .before .before .before .before .pre .room, same d)) (p .ensures),
+      reply-more _ _ _ _ _ (l .reply) _ (l .i) (l .inv .2)
+          (omega (arith, d .before .before .before .before .before .before .before .before .before .before .before .before .before .pre .room, same d))
+          (p .ensures),
     )
 
 mul-clear-from : tie.Need-mul-clear-from Inv-loop μ-loop

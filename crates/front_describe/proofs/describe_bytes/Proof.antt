@@ -23,7 +23,8 @@ room-fits : (c : tie.After-room) → 2 * c .room .result ≤ 2048
 room-fits c = omega (arith, c .room .ensures, room-most (length (now (c .before .before .before .before .before .before .before .before .args .blocks)) / 8))
 
 -- the blocks entered fit the bytes lent
-count-fits : (c : tie.After-describe) → c .describe .result .«block_count» ≤ roomOf (length (now (c .before .before .before .before .before .before .before .before .before .before .args .blocks)) / 8)
+count-fits : (c : tie.After-describe) → c .describe .result .«block_count» ≤ roomOf
+    (length (now (c .before .before .before .before .before .before .before .before .before .before .args .blocks)) / 8)
 count-fits c =
     let a = c .before .before .before .before .before .before .before .before .before .before .args in
     blocks-fit (now (a .image)) (now (a .path)) (length (now (a .blocks))) (length (now (a .reply))) _ _ _
@@ -130,11 +131,17 @@ spill-requires : tie.Need-spill-requires
 spill-requires c κs =
     let d = c .before .before .before .before .before .before in
     let a = d .before .before .before .before .before .before .before .before .before .before .args in
-    omega (arith, part-long (d .describe .last .1 .1 .0) _ (2 * d .before .before .room .result) _ (d .describe .kept .1 .1 .0) (words-fit d), count-fits d, room-lent (length (now (a .blocks)) / 8))
+    omega (
+      arith,
+      part-long (d .describe .last .1 .1 .0) _ (2 * d .before .before .room .result) _ (d .describe .kept .1 .1 .0) (words-fit d),
+      count-fits d,
+      room-lent (length (now (a .blocks)) / 8),
+    )
 
 write-description-requires : tie.Need-write-description-requires
 unfolding rankMost
-write-description-requires c κs = omega (arith, reply-long (c .before .before .before .before .before .before .before .before .before .before .before .before .before))
+write-description-requires c κs =
+    omega (arith, reply-long (c .before .before .before .before .before .before .before .before .before .before .before .before .before))
 
 same-length-5 : tie.Need-same-length-5
 same-length-5 c = search needs
@@ -152,7 +159,8 @@ returns-3 c =
     _ _
     (reply-long (d .before .before .before))
     (c .before .before .before .before .before .before .before .before .before .before .if2 .left)
-    (c .before .before .before .before .before .before .spill .ensures ∙ ap (paddedBytes (length (now (a .blocks)))) (part-left (d .describe .last .1 .1 .0) _ (2 * d .before .before .room .result) _ (d .describe .kept .1 .1 .0) (words-fit d)))
+    (c .before .before .before .before .before .before .spill .ensures ∙ ap (paddedBytes (length (now (a .blocks))))
+    (part-left (d .describe .last .1 .1 .0) _ (2 * d .before .before .room .result) _ (d .describe .kept .1 .1 .0) (words-fit d)))
     (c .before .before .write-description .ensures)
 
 pub describe-bytes-spec : {M : Type 1} → statement M

@@ -34,20 +34,28 @@ put-words-requires : tie.Need-put-words-requires
 put-words-requires c κs = search needs
 
 slice-aggregate-put-words-2 : tie.Need-slice-aggregate-put-words-2
-slice-aggregate-put-words-2 c = omega (arith, arrays-long (c .before .before .before .before .before .before .before .before .before .before .before .before .before .before .before))
+slice-aggregate-put-words-2 c =
+    let place = c .before .before .before .before .before .before .before .before .before .before .before .before .before .before .before in
+    omega (arith, arrays-long place)
 
 put-words-requires-2 : tie.Need-put-words-requires-2
 put-words-requires-2 c κs =
-    let s = c .before .before .before .before .before .before .before .before .before .before .before .before .before .before .before in
-    omega (arith, arrays-long s, s .pre, c .before .before .before .before .put-words .kept .0)
+    let at-put-words = c .before .before .before .before in
+    let start = at-put-words .before .before .before .before .before .before .before .before .before .before .before in
+    omega (arith, arrays-long start, start .pre, at-put-words .put-words .kept .0)
 
 slice-aggregate-put-words-3 : tie.Need-slice-aggregate-put-words-3
-slice-aggregate-put-words-3 c = omega (arith, arrays-long (c .before .before .before .before .before .before .before .before .before .before .before .before .before .before .before .before .before .before .before .before))
+slice-aggregate-put-words-3 c =
+    let place = c .before .before .before .before .before .before .before .before .before .before .before .before .before .before .before .before .before
+    .before .before .before in
+    omega (arith, arrays-long place)
 
 put-words-requires-3 : tie.Need-put-words-requires-3
 put-words-requires-3 c κs =
-    let s = c .before .before .before .before .before .before .before .before .before .before .before .before .before .before .before .before .before .before .before .before in
-    omega (arith, arrays-long s, s .pre, c .before .before .before .before .before .before .before .before .before .put-words .kept .0, c .before .before .before .before .put-words2 .kept .0)
+    let at-put-words2 = c .before .before .before .before in
+    let at-put-words = at-put-words2 .before .before .before .before .before in
+    let start = at-put-words .before .before .before .before .before .before .before .before .before .before .before in
+    omega (arith, arrays-long start, start .pre, at-put-words .put-words .kept .0, at-put-words2 .put-words2 .kept .0)
 
 slice-aggregate-put-words-4 : tie.Need-slice-aggregate-put-words-4
 slice-aggregate-put-words-4 c = search needs
@@ -63,17 +71,21 @@ same-length c = search needs
 
 returns : tie.Need-returns
 returns c =
-    let s = c .before .before .before .before .before .before .before .before .before .before .before .before .before .before .before .before .before .before .before .before .before .before .before .before .before .before .before .before .before .before .before .before in
-    let d = s .args .d in
-    description-bytes (now (s .args .reply)) _ _ _ _ _ (d .«block_count») (d .rank) (d .sizes) (d .maxima) _
-    (arrays-long s .0)
-    (arrays-long s .1)
+    let at-put-words4 = c .before .before .before .before .before .before in
+    let at-put-words3 = at-put-words4 .before .before .before .before .before in
+    let at-put-words2 = at-put-words3 .before .before .before .before .before in
+    let at-put-words = at-put-words2 .before .before .before .before .before in
+    let start = at-put-words .before .before .before .before .before .before .before .before .before .before .before in
+    let d = start .args .d in
+    description-bytes (now (start .args .reply)) _ _ _ _ _ (d .«block_count») (d .rank) (d .sizes) (d .maxima) _
+    (arrays-long start .0)
+    (arrays-long start .1)
     refl
-    (s .pre)
-    (c .before .before .before .before .before .before .before .before .before .before .before .before .before .before .before .before .before .before .before .before .before .put-words .ensures)
-    (c .before .before .before .before .before .before .before .before .before .before .before .before .before .before .before .before .put-words2 .ensures)
-    (c .before .before .before .before .before .before .before .before .before .before .before .put-words3 .ensures)
-    (c .before .before .before .before .before .before .put-words4 .ensures)
+    (start .pre)
+    (at-put-words .put-words .ensures)
+    (at-put-words2 .put-words2 .ensures)
+    (at-put-words3 .put-words3 .ensures)
+    (at-put-words4 .put-words4 .ensures)
     (c .before .before .clear-from .ensures)
 
 pub write-description-spec : {M : Type 1} → statement M

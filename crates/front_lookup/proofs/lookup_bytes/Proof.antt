@@ -14,7 +14,9 @@ use Rattle.front_lookup.proofs.lookup_bytes.Tie as tie
 
 -- the list has the words that are lent
 room-fits : (c : tie.After-room) → 2 * c .room .result ≤ 2048
-room-fits c = omega (arith, c .room .ensures, room-most (length (now (c .before .before .before .before .before .before .args .blocks)) / 8))
+room-fits c =
+    let start = c .before .before .before .before .before .before in
+    omega (arith, c .room .ensures, room-most (length (now (start .args .blocks)) / 8))
 
 clear-both-requires : tie.Need-clear-both-requires
 clear-both-requires c κs = search needs
@@ -27,9 +29,12 @@ same-length-2 c = search needs
 
 returns : tie.Need-returns
 returns c =
-    let a = c .before .before .before .before .before .before .before .before .before .before .before .before .args in
-    let t = c .before .before .before .before .clear-both .ensures in
-    short-reply (now (a .image)) (now (a .path)) (length (now (a .blocks))) (length (now (a .reply))) _ _ (omega (arith, c .before .before .before .before .before .before .before .if1 .taken)) (t .0) (t .1)
+    let at-clear-both = c .before .before .before .before in
+    let at-if1 = at-clear-both .before .before .before in
+    let start = at-if1 .before .before .before .before .before in
+    let a = start .args in
+    let t = at-clear-both .clear-both .ensures in
+    short-reply (now (a .image)) (now (a .path)) (length (now (a .blocks))) (length (now (a .reply))) _ _ (omega (arith, at-if1 .if1 .taken)) (t .0) (t .1)
 
 room-requires : tie.Need-room-requires
 room-requires c κs = search needs
@@ -60,15 +65,20 @@ same-length-4 c = search needs
 
 returns-2 : tie.Need-returns-2
 returns-2 c =
-    let d = c .before .before .before .before .before .before .before .before .before .before .before in
-    let a = d .before .before .before .before .before .before .before .before .args in
-    let t = c .before .before .before .before .before .clear-both2 .ensures in
+    let at-clear-both2 = c .before .before .before .before .before in
+    let at-if2 = at-clear-both2 .before .before .before in
+    let at-lookup = at-if2 .before .before .before in
+    let at-room = at-lookup .before .before in
+    let at-if1 = at-room .before in
+    let start = at-if1 .before .before .before .before .before in
+    let a = start .args in
+    let t = at-clear-both2 .clear-both2 .ensures in
     refused-reply (now (a .image)) (now (a .path)) (length (now (a .blocks))) (length (now (a .reply))) _ _ _
-    (lent-words _ _ _ (d .before .before .room .ensures) (room-most _))
-    (d .lookup .ensures)
-    (omega (arith, d .before .before .before .if1 .left))
+    (lent-words _ _ _ (at-room .room .ensures) (room-most _))
+    (at-lookup .lookup .ensures)
+    (omega (arith, at-if1 .if1 .left))
     _ _
-    (c .before .before .before .before .before .before .before .before .if2 .taken)
+    (at-if2 .if2 .taken)
     (t .0)
     (t .1)
 
@@ -92,15 +102,20 @@ same-length-6 c = search needs
 
 returns-3 : tie.Need-returns-3
 returns-3 c =
-    let d = c .before .before .before .before .before .before .before .before .before .before .before .before .before in
-    let a = d .before .before .before .before .before .before .before .before .args in
+    let at-clear-from = c .before .before .before .before .before .before .before in
+    let at-if2 = at-clear-from .before .before .before in
+    let at-lookup = at-if2 .before .before .before in
+    let at-room = at-lookup .before .before in
+    let at-if1 = at-room .before in
+    let start = at-if1 .before .before .before .before .before in
+    let a = start .args in
     done-reply (now (a .image)) (now (a .path)) (length (now (a .blocks))) (length (now (a .reply))) _ _ _
-    (lent-words _ _ _ (d .before .before .room .ensures) (room-most _))
-    (d .lookup .ensures)
-    (omega (arith, d .before .before .before .if1 .left))
+    (lent-words _ _ _ (at-room .room .ensures) (room-most _))
+    (at-lookup .lookup .ensures)
+    (omega (arith, at-if1 .if1 .left))
     _ _
-    (c .before .before .before .before .before .before .before .before .before .before .if2 .left)
-    (all-zero (now (a .blocks)) _ (c .before .before .before .before .before .before .before .clear-from .ensures))
+    (at-if2 .if2 .left)
+    (all-zero (now (a .blocks)) _ (at-clear-from .clear-from .ensures))
     (c .before .before .spill .ensures)
 
 pub lookup-bytes-spec : {M : Type 1} → statement M

@@ -22,8 +22,10 @@ same-length-3 c = search needs
 
 returns : tie.Need-returns
 returns c =
-    let t = c .before .before .before .before .before .before .before .before .clear-both .ensures in
-    (t .0, (all-zero (now (c .before .before .before .before .before .before .before .before .before .before .before .before .before .before .args .log)) _ (c .before .before .clear-from .ensures), t .1))
+    let b = c .before .before .before .before .before .before .before .before in
+    let t = b .clear-both .ensures in
+    let log = now (b .before .before .before .before .before .before .args .log) in
+    (t .0, (all-zero log _ (c .before .before .clear-from .ensures), t .1))
 
 pub clear-all-spec : {M : Type 1} → statement M
 clear-all-spec =

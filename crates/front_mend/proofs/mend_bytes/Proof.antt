@@ -1,5 +1,6 @@
 -- The laws of Mended.antt, at the three ends of the code.
-use Prim.Native.Nat.{_*_, _/_, _≤_}
+use Prim.Native.Nat.{ℕ, _*_, _/_, _≤_}
+use mathlib.Core.List.{List}
 use mathlib.Core.Path.{sym, ap, _∙_}
 use lib.ListN.{length}
 use lib.Seq.{length-take-le}
@@ -25,23 +26,43 @@ room-fits c = omega (arith, c .room .ensures, room-most (length (now (c .before 
 log-fits : (c : tie.After-log-room) → c .log-room .result ≤ 512
 log-fits c = omega (arith, c .log-room .ensures, log-most)
 
--- what the mending returned and left
-mended : (c : tie.After-mend) → Taken (length (now (c .before .before .before .before .before .before .before .before .before .before .before .args .blocks))) (length (now (c .before .before .before .before .before .before .before .before .before .before .before .args .log))) (length (now (c .before .before .before .before .before .before .before .before .before .before .before .args .reply)))
-    (replyOf (c .mend .last .1 .0) (c .mend .last .1 .1 .0) (c .mend .last .0) (c .mend .result))
-    (definitions.mend (now (c .before .before .before .before .before .before .before .before .before .before .before .args .image)) (length (now (c .before .before .before .before .before .before .before .before .before .before .before .args .blocks)) / 8) (length (now (c .before .before .before .before .before .before .before .before .before .before .before .args .log)) / 8) (c .before .before .before .before .before .before .before .before .before .before .before .args .limit))
+-- Where the mending has returned: the entry, the list and the log that were lent, as they came back, and the words used of them.
+abbrev start : tie.After-mend → tie.Start
+start c = c .before .before .before .before .before .before .before .before .before .before .before
+
+abbrev list : tie.After-mend → List ℕ
+list c = c .mend .last .1 .0
+
+abbrev entries : tie.After-mend → List ℕ
+entries c = c .mend .last .1 .1 .0
+
+abbrev room : tie.After-mend → ℕ
+room c = 2 * c .before .before .before .before .before .room .result
+
+abbrev log-room : tie.After-mend → ℕ
+log-room c = c .before .before .before .before .log-room .result
+
+-- what it returned and left
+mended : (c : tie.After-mend) →
+    let a = start c .args in
+    Taken (length (now (a .blocks))) (length (now (a .log))) (length (now (a .reply))) (replyOf (list c) (entries c) (c .mend .last .0) (c .mend .result))
+    (definitions.mend (now (a .image)) (length (now (a .blocks)) / 8) (length (now (a .log)) / 8) (a .limit))
 mended c =
-    let a = c .before .before .before .before .before .before .before .before .before .before .before .args in
+    let a = start c .args in
     taken (now (a .image)) (length (now (a .blocks))) (length (now (a .log))) (length (now (a .reply))) (a .limit) _ _ _
     (lent-words _ _ _ (c .before .before .before .before .before .room .ensures) (room-most _))
     (log-words _ _ _ (c .before .before .before .before .log-room .ensures) log-most)
-    (c .mend .ensures)
+    (c .mend .ensures .reply)
+    (c .mend .ensures .most)
 
 -- the words used are among the words lent
-blocks-fit : (c : tie.After-mend) → 2 * c .mend .result .«block_count» ≤ length (c .mend .last .1 .0)
-blocks-fit c = within _ _ _ _ (c .mend .kept .1 .0) (lent-words _ _ _ (c .before .before .before .before .before .room .ensures) (room-most _)) (mended c .blocksFit)
+blocks-fit : (c : tie.After-mend) → 2 * c .mend .result .«block_count» ≤ length (list c)
+blocks-fit c =
+    within _ _ _ _ (c .mend .kept .1 .0) (lent-words _ _ _ (c .before .before .before .before .before .room .ensures) (room-most _)) (mended c .blocksFit)
 
-entries-fit : (c : tie.After-mend) → 2 * c .mend .result .entries ≤ length (c .mend .last .1 .1 .0)
-entries-fit c = within _ _ _ _ (c .mend .kept .1 .1 .0) (log-words _ _ _ (c .before .before .before .before .log-room .ensures) log-most) (mended c .entriesFit)
+entries-fit : (c : tie.After-mend) → 2 * c .mend .result .entries ≤ length (entries c)
+entries-fit c =
+    within _ _ _ _ (c .mend .kept .1 .1 .0) (log-words _ _ _ (c .before .before .before .before .log-room .ensures) log-most) (mended c .entriesFit)
 
 clear-all-requires : tie.Need-clear-all-requires
 clear-all-requires c κs = search needs
@@ -59,7 +80,9 @@ returns : tie.Need-returns
 returns c =
     let a = c .before .before .before .before .before .before .before .before .before .before .before .before .before .before .before .args in
     let t = c .before .before .before .before .before .before .clear-all .ensures in
-    short-reply (now (a .image)) (length (now (a .blocks))) (length (now (a .log))) (length (now (a .reply))) (a .limit) _ _ _ (omega (arith, c .before .before .before .before .before .before .before .before .before .before .if1 .taken)) (t .0) (t .1 .0) (t .1 .1)
+    let short = c .before .before .before .before .before .before .before .before .before .before .if1 .taken in
+    short-reply (now (a .image)) (length (now (a .blocks))) (length (now (a .log))) (length (now (a .reply))) (a .limit) _ _ _ (omega (arith, short)) (t .0)
+    (t .1 .0) (t .1 .1)
 
 room-requires : tie.Need-room-requires
 room-requires c κs = search needs
@@ -106,20 +129,16 @@ same-length-7 c = search needs
 returns-2 : tie.Need-returns-2
 returns-2 c =
     let d = c .before .before .before .before .before .before .before .before .before .before .before .before .before .before .before .before .before in
-    let a = d .before .before .before .before .before .before .before .before .before .before .before .args in
+    let a = start d .args in
     let t = c .before .before .before .before .before .before .before .clear-all2 .ensures in
     refused-reply (now (a .image)) (length (now (a .blocks))) (length (now (a .log))) (length (now (a .reply))) (a .limit) _ (mended d)
-    (reply-long (d .before .before .before .before .before .before))
-    _ _ _
-    (c .before .before .before .before .before .before .before .before .before .before .before .if2 .taken)
-    (t .0)
-    (t .1 .0)
-    (t .1 .1)
+    (reply-long (d .before .before .before .before .before .before)) _ _ _
+    (c .before .before .before .before .before .before .before .before .before .before .before .if2 .taken) (t .0) (t .1 .0) (t .1 .1)
 
 mul-used : tie.Need-mul-used
 mul-used c =
     let d = c .before .before .before .before .before .before .before in
-    record { fits = omega (arith, mended d .blocksFit, room-most (length (now (d .before .before .before .before .before .before .before .before .before .before .before .args .blocks)) / 8)) }
+    record { fits = omega (arith, mended d .blocksFit, room-most (length (now (start d .args .blocks)) / 8)) }
 
 mul-logged : tie.Need-mul-logged
 mul-logged c =
@@ -129,32 +148,34 @@ mul-logged c =
 array-share-prefix-list : tie.Need-array-share-prefix-list
 array-share-prefix-list c =
     let d = c .before .before .before .before .before .before .before .before in
-    part-fits (d .mend .last .1 .0) _ (2 * d .before .before .before .before .before .room .result) _ (d .mend .kept .1 .0) (blocks-fit d)
+    part-fits (list d) _ (room d) _ (d .mend .kept .1 .0) (blocks-fit d)
 
 slice-aggregate-spill : tie.Need-slice-aggregate-spill
 slice-aggregate-spill c =
     let d = c .before .before .before .before .before .before .before .before .before in
-    part-long (d .mend .last .1 .0) _ (2 * d .before .before .before .before .before .room .result) _ (d .mend .kept .1 .0) (blocks-fit d)
+    part-long (list d) _ (room d) _ (d .mend .kept .1 .0) (blocks-fit d)
 
 spill-requires : tie.Need-spill-requires
 spill-requires c κs =
     let d = c .before .before .before .before .before .before .before .before .before .before in
-    omega (arith, part-long (d .mend .last .1 .0) _ (2 * d .before .before .before .before .before .room .result) _ (d .mend .kept .1 .0) (blocks-fit d), mended d .blocksFit, room-lent (length (now (d .before .before .before .before .before .before .before .before .before .before .before .args .blocks)) / 8))
+    let long = part-long (list d) _ (room d) _ (d .mend .kept .1 .0) (blocks-fit d) in
+    omega (arith, long, mended d .blocksFit, room-lent (length (now (start d .args .blocks)) / 8))
 
 array-share-prefix-entries : tie.Need-array-share-prefix-entries
 array-share-prefix-entries c =
     let d = c .before .before .before .before .before .before .before .before .before .before .before .before .before in
-    part-fits (d .mend .last .1 .1 .0) _ (d .before .before .before .before .log-room .result) _ (d .mend .kept .1 .1 .0) (entries-fit d)
+    part-fits (entries d) _ (log-room d) _ (d .mend .kept .1 .1 .0) (entries-fit d)
 
 slice-aggregate-spill-2 : tie.Need-slice-aggregate-spill-2
 slice-aggregate-spill-2 c =
     let d = c .before .before .before .before .before .before .before .before .before .before .before .before .before .before in
-    part-long (d .mend .last .1 .1 .0) _ (d .before .before .before .before .log-room .result) _ (d .mend .kept .1 .1 .0) (entries-fit d)
+    part-long (entries d) _ (log-room d) _ (d .mend .kept .1 .1 .0) (entries-fit d)
 
 spill-requires-2 : tie.Need-spill-requires-2
 spill-requires-2 c κs =
     let d = c .before .before .before .before .before .before .before .before .before .before .before .before .before .before .before in
-    omega (arith, part-long (d .mend .last .1 .1 .0) _ (d .before .before .before .before .log-room .result) _ (d .mend .kept .1 .1 .0) (entries-fit d), mended d .entriesFit)
+    let long = part-long (entries d) _ (log-room d) _ (d .mend .kept .1 .1 .0) (entries-fit d) in
+    omega (arith, long, mended d .entriesFit)
 
 slice-aggregate-spill-3 : tie.Need-slice-aggregate-spill-3
 slice-aggregate-spill-3 c = search needs
@@ -176,14 +197,15 @@ same-length-11 c = search needs
 
 returns-3 : tie.Need-returns-3
 returns-3 c =
-    let d = c .before .before .before .before .before .before .before .before .before .before .before .before .before .before .before .before .before .before .before .before .before .before .before in
-    let a = d .before .before .before .before .before .before .before .before .before .before .before .args in
+    let e = c .before .before .before .before .before .before .before .before .before .before .before .before in
+    let d = e .before .before .before .before .before .before .before .before .before .before .before in
+    let a = start d .args in
+    let blocks = part-left (list d) _ (room d) _ (d .mend .kept .1 .0) (blocks-fit d) in
+    let log = part-left (entries d) _ (log-room d) _ (d .mend .kept .1 .1 .0) (entries-fit d) in
     done-reply (now (a .image)) (length (now (a .blocks))) (length (now (a .log))) (length (now (a .reply))) (a .limit) _ (mended d)
-    (reply-long (d .before .before .before .before .before .before))
-    _ _ _
-    (c .before .before .before .before .before .before .before .before .before .before .before .before .before .before .before .before .before .if2 .left)
-    (c .before .before .before .before .before .before .before .before .before .before .before .before .spill .ensures ∙ ap (paddedBytes (length (now (a .blocks)))) (part-left (d .mend .last .1 .0) _ (2 * d .before .before .before .before .before .room .result) _ (d .mend .kept .1 .0) (blocks-fit d)))
-    (c .before .before .before .before .before .before .before .spill2 .ensures ∙ ap (paddedBytes (length (now (a .log)))) (part-left (d .mend .last .1 .1 .0) _ (d .before .before .before .before .log-room .result) _ (d .mend .kept .1 .1 .0) (entries-fit d)))
+    (reply-long (d .before .before .before .before .before .before)) _ _ _ (e .before .before .before .before .before .if2 .left)
+    (e .spill .ensures ∙ ap (paddedBytes (length (now (a .blocks)))) blocks)
+    (c .before .before .before .before .before .before .before .spill2 .ensures ∙ ap (paddedBytes (length (now (a .log)))) log)
     (c .before .before .spill3 .ensures)
 
 pub mend-bytes-spec : {M : Type 1} → statement M

@@ -17,11 +17,12 @@ same-length c = search needs
 returns : tie.Need-returns
 returns c =
     let a = c .before .before .before .before .before .before .before .before .args in
-    short-reply (now (a .image)) (now (a .log)) (length (now (a .reply))) (a .entries) (a .limit) _ (omega (arith, c .before .before .before .before .if1 .taken))
+    short-reply (now (a .image)) (now (a .log)) (length (now (a .reply))) (a .entries) (a .limit) _
+    (omega (arith, c .before .before .before .before .if1 .taken))
     (all-zero (now (a .reply)) _ (c .before .before .clear-from .ensures))
 
-undo-bytes-requires : tie.Need-undo-bytes-requires
-undo-bytes-requires c κs = search needs
+undo-requires : tie.Need-undo-requires
+undo-requires c κs = search needs
 
 clear-from-requires-2 : tie.Need-clear-from-requires-2
 clear-from-requires-2 c κs = search needs
@@ -39,7 +40,8 @@ returns-2 : tie.Need-returns-2
 returns-2 c =
     let d = c .before .before .before .before .before .before .before .before .before in
     let a = d .before .before .before .before .before .before .args in
-    refused-reply (now (a .image)) (now (a .log)) (length (now (a .reply))) (a .entries) (a .limit) _ _ (d .undo-bytes .ensures) (omega (arith, d .before .before .if1 .left)) _
+    refused-reply (now (a .image)) (now (a .log)) (length (now (a .reply))) (a .entries) (a .limit) _ _ (d .undo .ensures)
+    (omega (arith, d .before .before .if1 .left)) _
     (c .before .before .before .before .before .if2 .taken)
     (all-zero (now (a .reply)) _ (c .before .before .before .clear-from2 .ensures))
 
@@ -59,7 +61,8 @@ returns-3 : tie.Need-returns-3
 returns-3 c =
     let d = c .before .before .before .before .before .before .before .before .before in
     let a = d .before .before .before .before .before .before .args in
-    done-reply (now (a .image)) (now (a .log)) (length (now (a .reply))) (a .entries) (a .limit) _ _ (d .undo-bytes .ensures) (omega (arith, d .before .before .if1 .left)) _
+    done-reply (now (a .image)) (now (a .log)) (length (now (a .reply))) (a .entries) (a .limit) _ _ (d .undo .ensures)
+    (omega (arith, d .before .before .if1 .left)) _
     (c .before .before .before .before .before .if2 .left)
     (c .before .before .spill .ensures)
 
@@ -70,7 +73,7 @@ undo-bytes-spec =
     clear-from-requires
     same-length
     returns
-    undo-bytes-requires
+    undo-requires
     clear-from-requires-2
     cast-result
     same-length-2

@@ -43,7 +43,8 @@ returns : tie.Need-returns Inv-loop μ-loop
 returns c =
     let k = c .before .before .before .before in
     let l = k .before .before .before in
-    keys-fault _ _ _ _ (l .loop .i) (l .loop .inv .1) (omega arith) _ (k .before .u64-at .ensures .value) _ _ (c .before .before .f .given .1) (k .key .ensures) (c .fault-number .ensures)
+    keys-fault _ _ _ _ (l .loop .i) (l .loop .inv .1) (omega arith) _ (k .before .u64-at .ensures .value) _ _ (c .before .before .f .given .1)
+    (k .key .ensures) (c .fault-number .ensures)
 
 enum-told : tie.Need-enum-told Inv-loop μ-loop
 enum-told c = search needs
@@ -57,8 +58,11 @@ loop-less c = search needs
 loop-again : tie.Need-loop-again Inv-loop μ-loop
 loop-again c =
     let k = c .before .before in
-    let l = k .before .before .before in
-    (omega arith, keys-next _ _ _ _ (l .loop .i) (l .loop .inv .1) (omega arith) _ (k .before .u64-at .ensures .value) _ (c .enum-told .given .1) (k .key .ensures))
+    let l = k .before .before .before in (
+      omega arith,
+      keys-next _ _ _ _ (l .loop .i) (l .loop .inv .1) (omega arith) _ (k .before .u64-at .ensures .value) _ (c .enum-told .given .1)
+          (k .key .ensures),
+    )
 
 returns-2 : tie.Need-returns-2 Inv-loop μ-loop
 returns-2 c = keys-end _ _ _ _ _ (c .before .loop .inv .1) (omega arith)

@@ -40,7 +40,8 @@ returns-4 c =
     let third = c .before .before .before in
     let second = third .before .before in
     passes _ _ (le-leb _ _ (second .before .before .if1 .left))
-    (passes _ _ (eq-eqb _ _ (second .if2 .left)) (passes _ _ (le-leb _ _ (third .if3 .left)) (takes-then _ _ (eq-eqb _ _ (c .before .if4 .taken)) (c .read-compact .ensures))))
+    (passes _ _ (eq-eqb _ _ (second .if2 .left)) (passes _ _ (le-leb _ _ (third .if3 .left))
+    (takes-then _ _ (eq-eqb _ _ (c .before .if4 .taken)) (c .read-compact .ensures))))
 
 read-contiguous-requires : tie.Need-read-contiguous-requires
 read-contiguous-requires c κs = search needs
@@ -51,7 +52,8 @@ returns-5 c =
     let third = c .before .before .before in
     let second = third .before .before in
     passes _ _ (le-leb _ _ (second .before .before .if1 .left))
-    (passes _ _ (eq-eqb _ _ (second .if2 .left)) (passes _ _ (le-leb _ _ (third .if3 .left)) (takes-else _ _ (ne-eqb _ _ (c .before .if4 .left)) (c .read-contiguous .ensures))))
+    (passes _ _ (eq-eqb _ _ (second .if2 .left)) (passes _ _ (le-leb _ _ (third .if3 .left))
+    (takes-else _ _ (ne-eqb _ _ (c .before .if4 .left)) (c .read-contiguous .ensures))))
 
 pub read-spec : {M : Type 1} → statement M
 read-spec =

@@ -5,11 +5,19 @@ use Prim.Native.Nat.{ℕ}
 use mathlib.Core.Path.{ap, _∙_}
 use denote.Ref.{now}
 use lib.ListN.{length, replicate}
-use Rattle.mend.proofs.WrittenLaws.{fields-inside, places-below}
-use Rattle.mend.proofs.AuditLaws.{counts-inside}
+use Rattle.undo_log.specs.Entries.{CountsBelow}
+use Rattle.undo_log.proofs.WrittenLaws.{fields-inside, places-below}
 use Rattle.mend.proofs.ReplyLaws.{audit-refused, log-short, mended-is}
 use Rattle.mend.proofs.mend.Statement.{statement}
 use Rattle.mend.proofs.mend.Tie as tie
+
+-- Where the audit is done: the entry.
+abbrev start : tie.After-audit → tie.Start
+start c = c .before .before .before .before .before .before
+
+-- every count lies inside the image
+inside : (c : tie.After-audit) → CountsBelow (length (now (start c .args .image))) (c .audit .result .ledger)
+inside c = c .audit .ensures .readable .inside
 
 audit-requires : tie.Need-audit-requires
 audit-requires c κs = search needs
@@ -28,11 +36,12 @@ same-length-3 c = search needs
 
 returns : tie.Need-returns
 returns c =
-    let a = c .before .before .before .before .before .before .before .before .before .before .before .before .before .before .before .before .args in
-    let audit = c .before .before .before .before .before .before .before .before .before .before .audit in
+    let d = c .before .before .before .before .before .before .before .before .before .before in
+    let a = start d .args in
     let r = c .before .before .before .before .refused in
-    audit-refused (now (a .image)) (length (now (a .list))) (length (now (a .log))) (a .limit) _ (audit .result) (audit .ensures) (c .before .before .before .before .before .before .before .if1 .taken) _ _ (r .result)
-    (r .ensures .0) (r .ensures .1 ∙ ap (λ (n : ℕ). replicate n 0) (audit .kept .1 .0)) (r .ensures .2)
+    audit-refused (now (a .image)) (length (now (a .list))) (length (now (a .log))) (a .limit) _ (d .audit .result) (d .audit .ensures)
+    (c .before .before .before .before .before .before .before .if1 .taken) _ _ (r .result) (r .ensures .0)
+    (r .ensures .1 ∙ ap (λ (n : ℕ). replicate n 0) (d .audit .kept .1 .0)) (r .ensures .2)
 
 wrong-requires : tie.Need-wrong-requires
 wrong-requires c κs = search needs
@@ -51,32 +60,34 @@ same-length-6 c = search needs
 
 returns-2 : tie.Need-returns-2
 returns-2 c =
-    let a = c .before .before .before .before .before .before .before .before .before .before .before .before .before .before .before .before .before .before .before .args in
-    let audit = c .before .before .before .before .before .before .before .before .before .before .before .before .before .audit in
+    let w = c .before .before .before .before .before .before .before .before in
+    let d = w .before .before .before .before .before in
+    let a = start d .args in
     let r = c .before .before .before .before .refused2 in
-    log-short (now (a .image)) (length (now (a .list))) (length (now (a .log))) (a .limit) _ (audit .result) (audit .ensures) (c .before .before .before .before .before .before .before .before .before .before .if1 .left)
-    (omega (arith, c .before .before .before .before .before .before .before .before .wrong .ensures, c .before .before .before .before .before .before .before .if2 .taken)) _ _ (r .result) (r .ensures .0) (r .ensures .1 ∙ ap (λ (n : ℕ). replicate n 0) (audit .kept .1 .0)) (r .ensures .2)
+    log-short (now (a .image)) (length (now (a .list))) (length (now (a .log))) (a .limit) _ (d .audit .result) (d .audit .ensures) (w .wrong .result)
+    (w .wrong .ensures) (w .before .before .if1 .left) (omega (arith, c .before .before .before .before .before .before .before .if2 .taken)) _ _ (r .result)
+    (r .ensures .0) (r .ensures .1 ∙ ap (λ (n : ℕ). replicate n 0) (d .audit .kept .1 .0)) (r .ensures .2)
 
 write-log-requires : tie.Need-write-log-requires
 write-log-requires c κs =
-    let s = c .before .before .before .before .before .before .before .before .before .before .before .before .before in
-    let audit = c .before .before .before .before .before .before .before .audit in
-    let inside = counts-inside (now (s .args .image)) _ _ (audit .result) (audit .ensures) (c .before .before .before .before .if1 .left) in
-    (audit .ensures .fits, (λ k l. omega (arith, inside k l, s .good .0 .0), omega (arith, c .before .before .wrong .ensures, c .before .if2 .left)))
+    let w = c .before .before in
+    let d = w .before .before .before .before .before in
+    (d .audit .ensures .fits, (λ k l. omega (arith, inside d k l, start d .good .0 .0), omega (arith, w .wrong .ensures .wrong, c .before .if2 .left)))
 
 least-requires : tie.Need-least-requires
 least-requires c κs = search needs
 
 perform-requires : tie.Need-perform-requires
 perform-requires c κs =
-    let a = c .before .before .before .before .before .before .before .before .before .before .before .before .before .before .before .before .before .before .before .args in
-    let audit = c .before .before .before .before .before .before .before .before .before .before .before .before .before .audit in
-    let l = audit .result .ledger in
+    let w = c .before .before .before .before .before .before .before .before in
+    let d = w .before .before .before .before .before in
+    let long = length (now (start d .args .image)) in
+    let l = d .audit .result .ledger in
     let log = c .before .before .before .before .before .write-log in
-    let inside = counts-inside (now (a .image)) _ _ (audit .result) (audit .ensures) (c .before .before .before .before .before .before .before .before .before .before .if1 .left) in (
-      omega (arith, c .before .before .least .ensures, c .before .before .before .before .before .before .before .if2 .left, log .kept .0),
-      fields-inside (length (now (a .image))) (c .before .before .least .result) _ _ (log .last .0) (log .ensures .0) (omega (arith, c .before .before .least .ensures, c .before .before .before .before .before .before .before .before .wrong .ensures))
-          (places-below (length (now (a .image))) (l .objects) (l .addresses) (l .stored) (l .«true_counts») inside),
+    let least = c .before .before .least in (
+      omega (arith, least .ensures, c .before .before .before .before .before .before .before .if2 .left, log .kept .0),
+      fields-inside long (least .result) _ _ (log .last .0) (log .ensures .0) (omega (arith, least .ensures, w .wrong .ensures .wrong))
+          (places-below long (l .objects) (l .addresses) (l .stored) (l .«true_counts») (inside d)),
     )
 
 same-length-7 : tie.Need-same-length-7
@@ -90,11 +101,16 @@ same-length-9 c = search needs
 
 returns-3 : tie.Need-returns-3
 returns-3 c =
-    let a = c .before .before .before .before .before .before .before .before .before .before .before .before .before .before .before .before .before .before .before .before .before .before .args in
-    let audit = c .before .before .before .before .before .before .before .before .before .before .before .before .before .before .before .before .audit in
+    let w = c .before .before .before .before .before .before .before .before .before .before .before in
+    let d = w .before .before .before .before .before in
+    let a = start d .args in
     let log = c .before .before .before .before .before .before .before .before .write-log in
-    mended-is (now (a .image)) (length (now (a .list))) (length (now (a .log))) (a .limit) _ (audit .result) (audit .ensures) (c .before .before .before .before .before .before .before .before .before .before .before .before .before .if1 .left) (log .last .0) (c .before .before .perform .last .0)
-    (c .before .before .before .before .before .before .before .before .before .before .before .wrong .result) (c .before .before .before .before .before .least .result) (c .before .before .before .before .before .before .before .before .before .before .before .wrong .ensures) (omega (arith, c .before .before .before .before .before .before .before .before .before .before .if2 .left)) (c .before .before .before .before .before .least .ensures) (log .ensures .0) (log .ensures .1) (c .before .before .perform .ensures)
+    let least = c .before .before .before .before .before .least in
+    let perform = c .before .before .perform in
+    mended-is (now (a .image)) (length (now (a .list))) (length (now (a .log))) (a .limit) _ (d .audit .result) (d .audit .ensures) (w .wrong .result)
+    (w .wrong .ensures) (w .before .before .if1 .left) (log .last .0) (perform .last .0) (least .result)
+    (omega (arith, c .before .before .before .before .before .before .before .before .before .before .if2 .left)) (least .ensures) (log .ensures .0)
+    (log .ensures .1) (perform .ensures)
 
 pub mend-spec : {M : Type 1} → statement M
 mend-spec =

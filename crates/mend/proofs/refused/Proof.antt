@@ -21,7 +21,8 @@ same-length-2 c = search needs
 returns : tie.Need-returns
 returns c =
     let a = c .before .before .before .before .before .before .before .before .before .before .args in
-    (refl, all-cleared (now (a .list)) _ (c .before .before .before .before .before .before .clear-from .ensures), all-cleared (now (a .log)) _ (c .before .before .clear-from2 .ensures))
+    let list = all-cleared (now (a .list)) _ (c .before .before .before .before .before .before .clear-from .ensures) in
+    (refl, list, all-cleared (now (a .log)) _ (c .before .before .clear-from2 .ensures))
 
 pub refused-spec : {M : Type 1} → statement M
 refused-spec =

@@ -4,7 +4,8 @@ use mathlib.Core.Logic.{inl, inr}
 use mathlib.Core.Path.{_≡_, refl, sym, _∙_}
 use Prim.Native.Nat.{_%_, _≤_}
 use borrow.Author.Tests.{not-true, not-false, leb-true}
-use Rattle.message.proofs.MessageLaws.{fields-long, too-short, type-refused, size-odd, size-long, flags-refused, fields-refused, continuation-refused, message-done}
+use Rattle.message.proofs.MessageLaws.{fields-long, too-short, type-refused, size-odd, size-long, flags-refused, fields-refused, continuation-refused}
+use Rattle.message.proofs.MessageLaws.{message-done}
 use native.Mathlib.Omega.{arith}
 use borrow.Author.Needs.{needs}
 use Rattle.message.proofs.message.Statement.{statement}
@@ -30,7 +31,11 @@ returns-2 c =
     let two = c in
     let s = two .before .before .before .before .before in
     let a = s .args in
-    record { walk = type-refused (now (a .image)) (a .at) (a .end) (s .pre .1) (s .pre .0) (omega arith) (two .before .before .u16-at .result) (two .before .before .u16-at .ensures .value) (sym (not-true _ (c .if2 .taken)) ∙ c .before .type-allowed .ensures); fields = tt }
+    record {
+      walk = type-refused (now (a .image)) (a .at) (a .end) (s .pre .1) (s .pre .0) (omega arith) (two .before .before .u16-at .result)
+          (two .before .before .u16-at .ensures .value) (sym (not-true _ (c .if2 .taken)) ∙ c .before .type-allowed .ensures);
+      fields = tt;
+    }
 
 add-u16-at : tie.Need-add-u16-at
 add-u16-at c = search needs
@@ -45,7 +50,11 @@ returns-3 c =
     let a = s .args in
     let yes2 = sym (not-false _ (two .if2 .left)) ∙ two .before .type-allowed .ensures in
     let size = c .before .u16-at2 in
-    record { walk = size-odd (now (a .image)) (a .at) (a .end) (s .pre .1) (s .pre .0) (omega arith) (two .before .before .u16-at .result) (two .before .before .u16-at .ensures .value) yes2 (size .result) (size .ensures .value) (c .if3 .taken); fields = tt }
+    record {
+      walk = size-odd (now (a .image)) (a .at) (a .end) (s .pre .1) (s .pre .0) (omega arith) (two .before .before .u16-at .result)
+          (two .before .before .u16-at .ensures .value) yes2 (size .result) (size .ensures .value) (c .if3 .taken);
+      fields = tt;
+    }
 
 sub-if4 : tie.Need-sub-if4
 sub-if4 c = search needs
@@ -62,7 +71,11 @@ returns-4 c =
     let three = c .before in
     let size = three .before .u16-at2 in
     let even : size .result % 8 ≡ 0 = omega arith in
-    record { walk = size-long (now (a .image)) (a .at) (a .end) (s .pre .1) (s .pre .0) (omega arith) (two .before .before .u16-at .result) (two .before .before .u16-at .ensures .value) yes2 (size .result) (size .ensures .value) even (omega arith); fields = tt }
+    record {
+      walk = size-long (now (a .image)) (a .at) (a .end) (s .pre .1) (s .pre .0) (omega arith) (two .before .before .u16-at .result)
+          (two .before .before .u16-at .ensures .value) yes2 (size .result) (size .ensures .value) even (omega arith);
+      fields = tt;
+    }
 
 add-flags : tie.Need-add-flags
 add-flags c = search needs
@@ -82,7 +95,12 @@ returns-5 c =
     let three = c .before .before .before .before in
     let size = three .before .u16-at2 in
     let even : size .result % 8 ≡ 0 = omega arith in
-    record { walk = flags-refused (now (a .image)) (a .at) (a .end) (s .pre .1) (s .pre .0) (omega arith) (two .before .before .u16-at .result) (two .before .before .u16-at .ensures .value) yes2 (size .result) (size .ensures .value) even (omega arith) _ refl (sym (not-true _ (c .if5 .taken)) ∙ c .before .flags-allowed .ensures); fields = tt }
+    record {
+      walk = flags-refused (now (a .image)) (a .at) (a .end) (s .pre .1) (s .pre .0) (omega arith) (two .before .before .u16-at .result)
+          (two .before .before .u16-at .ensures .value) yes2 (size .result) (size .ensures .value) even (omega arith) _ refl
+          (sym (not-true _ (c .if5 .taken)) ∙ c .before .flags-allowed .ensures);
+      fields = tt;
+    }
 
 fields-there-requires : tie.Need-fields-there-requires
 fields-there-requires c κs = search needs
@@ -98,7 +116,9 @@ returns-6 c =
     let even : size .result % 8 ≡ 0 = omega arith in
     let five = c .before .before in
     record {
-      walk = fields-refused (now (a .image)) (a .at) (a .end) (s .pre .1) (s .pre .0) (omega arith) (two .before .before .u16-at .result) (two .before .before .u16-at .ensures .value) yes2 (size .result) (size .ensures .value) even (omega arith) _ refl (sym (not-false _ (five .if5 .left)) ∙ five .before .flags-allowed .ensures) (sym (not-true _ (c .if6 .taken)) ∙ c .before .fields-there .ensures);
+      walk = fields-refused (now (a .image)) (a .at) (a .end) (s .pre .1) (s .pre .0) (omega arith) (two .before .before .u16-at .result)
+          (two .before .before .u16-at .ensures .value) yes2 (size .result) (size .ensures .value) even (omega arith) _ refl
+          (sym (not-false _ (five .if5 .left)) ∙ five .before .flags-allowed .ensures) (sym (not-true _ (c .if6 .taken)) ∙ c .before .fields-there .ensures);
       fields = tt;
     }
 
@@ -123,7 +143,10 @@ returns-7 c =
     let six = c .before .before in
     let five = six .before .before in
     record {
-      walk = continuation-refused (now (a .image)) (a .at) (a .end) (s .pre .1) (s .pre .0) (omega arith) (two .before .before .u16-at .result) (two .before .before .u16-at .ensures .value) yes2 (size .result) (size .ensures .value) even (omega arith) _ refl (sym (not-false _ (five .if5 .left)) ∙ five .before .flags-allowed .ensures) (sym (not-false _ (six .if6 .left)) ∙ six .before .fields-there .ensures)
+      walk = continuation-refused (now (a .image)) (a .at) (a .end) (s .pre .1) (s .pre .0) (omega arith) (two .before .before .u16-at .result)
+          (two .before .before .u16-at .ensures .value) yes2 (size .result) (size .ensures .value) even (omega arith) _ refl
+          (sym (not-false _ (five .if5 .left)) ∙ five .before .flags-allowed .ensures)
+          (sym (not-false _ (six .if6 .left)) ∙ six .before .fields-there .ensures)
           (sym (not-true _ (c .if7 .taken)) ∙ c .before .continuation-sound .ensures);
       fields = tt;
     }
@@ -140,9 +163,18 @@ returns-8 c =
     let six = c .before .before in
     let five = six .before .before in
     record {
-      walk = message-done (now (a .image)) (a .at) (a .end) (s .pre .1) (s .pre .0) (omega arith) (two .before .before .u16-at .result) (two .before .before .u16-at .ensures .value) yes2 (size .result) (size .ensures .value) even (omega arith) _ refl (sym (not-false _ (five .if5 .left)) ∙ five .before .flags-allowed .ensures) (sym (not-false _ (six .if6 .left)) ∙ six .before .fields-there .ensures)
+      walk = message-done (now (a .image)) (a .at) (a .end) (s .pre .1) (s .pre .0) (omega arith) (two .before .before .u16-at .result)
+          (two .before .before .u16-at .ensures .value) yes2 (size .result) (size .ensures .value) even (omega arith) _ refl
+          (sym (not-false _ (five .if5 .left)) ∙ five .before .flags-allowed .ensures)
+          (sym (not-false _ (six .if6 .left)) ∙ six .before .fields-there .ensures)
           (sym (not-false _ (c .if7 .left)) ∙ c .before .continuation-sound .ensures);
-      fields = record { kindThere = two .before .before .u16-at .ensures .value; sizeThere = size .ensures .value; flagsThere = refl; inside = omega arith; long = λ e. fields-long _ _ (sym (not-false _ (six .if6 .left)) ∙ six .before .fields-there .ensures) (inr e) };
+      fields = record {
+        kindThere = two .before .before .u16-at .ensures .value;
+        sizeThere = size .ensures .value;
+        flagsThere = refl;
+        inside = omega arith;
+        long = λ e. fields-long _ _ (sym (not-false _ (six .if6 .left)) ∙ six .before .fields-there .ensures) (inr e);
+      };
     }
 
 pub message-spec : {M : Type 1} → statement M

@@ -14,7 +14,9 @@ use Rattle.names.proofs.is_name.Tie as tie
 
 -- there are 1 to 255 bytes
 sized : (c : tie.Else2) → inRange 1 nameMost (length (now (c .before .before .before .before .before .args .t))) ≡ true
-sized c = range-inside 1 nameMost (length (now (c .before .before .before .before .before .args .t))) (omega arith) (omega (arith, c .before .before .before .the-limits .ensures .nameMostEqual))
+sized c =
+    range-inside 1 nameMost (length (now (c .before .before .before .before .before .args .t))) (omega arith)
+    (omega (arith, c .before .before .before .the-limits .ensures .nameMostEqual))
 
 the-limits-requires : tie.Need-the-limits-requires
 the-limits-requires c κs = search needs
@@ -25,7 +27,8 @@ returns c = all-fails _ (range-below 1 nameMost (length (now (c .before .before 
 
 returns-2 : tie.Need-returns-2
 unfolding isName
-returns-2 c = all-fails _ (range-above 1 nameMost (length (now (c .before .before .before .before .before .args .t))) (omega (arith, c .before .before .before .the-limits .ensures .nameMostEqual)))
+returns-2 c = all-fails _ (range-above 1 nameMost (length (now (c .before .before .before .before .before .args .t)))
+    (omega (arith, c .before .before .before .the-limits .ensures .nameMostEqual)))
 
 contains-requires : tie.Need-contains-requires
 contains-requires c κs = search needs

@@ -28,7 +28,9 @@ returns-3 c =
     λ free.
     let a = c .before .before .before .before .args in
     let nul = c .before .nul-from in record {
-      value = key-sound (now (a .segment)) free (a .off) (nul .result) (nul .ensures .value) (omega arith) (nul .result - a .off) (omega (arith, nul .ensures .value)) (omega arith);
+      value =
+          key-sound (now (a .segment)) free (a .off) (nul .result) (nul .ensures .value) (omega arith) (nul .result - a .off)
+          (omega (arith, nul .ensures .value)) (omega arith);
       inside = omega (arith, nul .ensures .value);
     }
 

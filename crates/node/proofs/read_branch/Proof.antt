@@ -21,26 +21,45 @@ use Rattle.node.proofs.read_branch.Statement.{statement}
 use Rattle.node.proofs.read_branch.Tie as tie
 
 node-is : (c : tie.After-own) →
-    NodeIs (now (c .before .before .before .before .before .before .before .before .before .args .image)) (now (c .before .before .before .before .before .before .before .before .before .args .list)) (c .before .before .before .before .before .before .before .before .before .args .group) (c .before .before .before .before .before .before .before .before .before .args .count) (c .before .before .before .before .before .before .before .before .before .args .at) (c .before .before .before .before .read-node .last .1 .0)
+    let at-read-node = c .before .before .before .before in
+    let start = at-read-node .before .before .before .before .before in
+    NodeIs (now (start .args .image)) (now (start .args .list)) (start .args .group) (start .args .count) (start .args .at)
+    (at-read-node .read-node .last .1 .0)
     (NodeRead.the-variants.Read (c .own .given .0 .0) (c .own .given .0 .1 .0) (c .own .given .0 .1 .1 .0))
 node-is c =
-    subst (λ (r : NodeRead). NodeIs (now (c .before .before .before .before .before .before .before .before .before .args .image)) (now (c .before .before .before .before .before .before .before .before .before .args .list)) (c .before .before .before .before .before .before .before .before .before .args .group) (c .before .before .before .before .before .before .before .before .before .args .count) (c .before .before .before .before .before .before .before .before .before .args .at) (c .before .before .before .before .read-node .last .1 .0) r) (c .own .given .1)
-    (c .before .before .before .before .read-node .ensures)
+    let at-read-node = c .before .before .before .before in
+    let start = at-read-node .before .before .before .before .before in
+    subst (λ (r : NodeRead). NodeIs (now (start .args .image)) (now (start .args .list)) (start .args .group) (start .args .count) (start .args .at)
+    (at-read-node .read-node .last .1 .0) r) (c .own .given .1)
+    (at-read-node .read-node .ensures)
 
 node-walked : (c : tie.After-own) →
-    Walked (now (c .before .before .before .before .before .before .before .before .before .args .list)) (c .before .before .before .before .read-node .last .1 .0) (ended (nodeBytes (now (c .before .before .before .before .before .before .before .before .before .args .image)) (c .before .before .before .before .before .before .before .before .before .args .group) (c .before .before .before .before .before .before .before .before .before .args .at)) (c .own .given .0 .1 .1 .0))
-    (run (now (c .before .before .before .before .before .before .before .before .before .args .image)) (c .before .before .before .before .before .before .before .before .before .args .group .«end_of_file») (c .before .before .before .before .before .before .before .before .before .args .group .room) (nodeWalk (c .before .before .before .before .before .before .before .before .before .args .group .«internal_k») (c .before .before .before .before .before .before .before .before .before .args .at)) (blocksOf (c .before .before .before .before .before .before .before .before .before .args .count) (now (c .before .before .before .before .before .before .before .before .before .args .list))))
+    let at-read-node = c .before .before .before .before in
+    let start = at-read-node .before .before .before .before .before in
+    Walked (now (start .args .list)) (at-read-node .read-node .last .1 .0)
+    (ended (nodeBytes (now (start .args .image)) (start .args .group) (start .args .at)) (c .own .given .0 .1 .1 .0))
+    (run (now (start .args .image)) (start .args .group .«end_of_file») (start .args .group .room)
+    (nodeWalk (start .args .group .«internal_k») (start .args .at)) (blocksOf (start .args .count) (now (start .args .list))))
 node-walked c = node-is c .walked
 
-fields : (c : tie.After-own) → NodeFields (now (c .before .before .before .before .before .before .before .before .before .args .image)) (c .before .before .before .before .before .before .before .before .before .args .group) (c .before .before .before .before .before .before .before .before .before .args .at) (c .before .before .before .before .before .before .before .before .before .args .count) (NodeRead.the-variants.Read (c .own .given .0 .0) (c .own .given .0 .1 .0) (c .own .given .0 .1 .1 .0))
+fields : (c : tie.After-own) →
+    let start = c .before .before .before .before .before .before .before .before .before in
+    NodeFields (now (start .args .image)) (start .args .group) (start .args .at) (start .args .count)
+    (NodeRead.the-variants.Read (c .own .given .0 .0) (c .own .given .0 .1 .0) (c .own .given .0 .1 .1 .0))
 fields c = node-is c .fields
 
 -- the keys, as part of the node
-keys : (c : tie.After-check-keys) (h : Heap) → h .segment ≡ now (c .before .before .before .before .before .before .before .before .before .before .before .before .before .args .segment) →
-    keysOf (c .check-keys .result) ≡ keysWalk h (c .before .before .before .before .own .given .0 .1 .0 + 1) (c .before .before .before .before .before .before .before .before .before .before .before .before .before .args .at + 24) (part (now (c .before .before .before .before .before .before .before .before .before .before .before .before .before .args .image)) (c .before .before .before .before .before .before .before .before .before .before .before .before .before .args .at + 24) (8 + 32 * c .before .before .before .before .before .before .before .before .before .before .before .before .before .args .group .«internal_k»))
+keys : (c : tie.After-check-keys) (h : Heap) →
+    let at-own = c .before .before .before .before in
+    let start = at-own .before .before .before .before .before .before .before .before .before in
+    h .segment ≡ now (start .args .segment) →
+    keysOf (c .check-keys .result) ≡ keysWalk h (at-own .own .given .0 .1 .0 + 1) (start .args .at + 24)
+    (part (now (start .args .image)) (start .args .at + 24) (8 + 32 * start .args .group .«internal_k»))
 keys c h e =
-    let f = fields (c .before .before .before .before) in
-    c .check-keys .ensures h (8 + 32 * c .before .before .before .before .before .before .before .before .before .before .before .before .before .args .group .«internal_k») e (omega (arith, f .3)) (omega (arith, f .0))
+    let place = c .before .before .before .before in
+    let start = place .before .before .before .before .before .before .before .before .before in
+    let f = fields place in
+    c .check-keys .ensures h (8 + 32 * start .args .group .«internal_k») e (omega (arith, f .3)) (omega (arith, f .0))
 
 read-node-requires : tie.Need-read-node-requires
 read-node-requires c κs = search needs
@@ -58,19 +77,39 @@ same-length : tie.Need-same-length
 same-length c = search needs
 
 returns : tie.Need-returns
-returns c = record { walked = λ h e. own-level-wrong (now (c .before .before .before .before .before .before .before .before .before .before .before .args .image)) _ _ _ _ _ _ _ h (c .before .before .before .before .before .before .before .before .before .before .before .pre .0) _ _ (c .before .before .before .before .before .before .read-node .kept .1 .0) (node-walked (c .before .before)) _ (fields (c .before .before) .1) (c .if1 .taken); fields = tt }
+returns c =
+    let place = c .before .before in
+    let at-read-node = place .before .before .before .before in
+    let start = at-read-node .before .before .before .before .before in
+    record {
+      walked = λ h e. own-level-wrong (now (start .args .image)) _ _ _ _ _ _ _ h (start .pre .0) _ _ (at-read-node .read-node .kept .1 .0)
+          (node-walked place) _ (fields place .1) (c .if1 .taken);
+      fields = tt;
+    }
 
 same-length-2 : tie.Need-same-length-2
 same-length-2 c = search needs
 
 returns-2 : tie.Need-returns-2
-returns-2 c = record { walked = λ h e. empty-node (now (c .before .before .before .before .before .before .before .before .before .before .before .before .args .image)) _ _ _ _ _ _ _ h (c .before .before .before .before .before .before .before .before .before .before .before .before .pre .0) _ _ (c .before .before .before .before .before .before .before .read-node .kept .1 .0) (node-walked (c .before .before .before)) _ (fields (c .before .before .before) .1) (c .before .if1 .left) _ (fields (c .before .before .before) .2) (c .if2 .taken); fields = tt }
+returns-2 c =
+    let place = c .before .before .before in
+    let at-read-node = place .before .before .before .before in
+    let start = at-read-node .before .before .before .before .before in
+    record {
+      walked = λ h e. empty-node (now (start .args .image)) _ _ _ _ _ _ _ h (start .pre .0) _ _ (at-read-node .read-node .kept .1 .0)
+          (node-walked place) _ (fields place .1) (c .before .if1 .left) _ (fields place .2) (c .if2 .taken);
+      fields = tt;
+    }
 
 add-check-keys : tie.Need-add-check-keys
-add-check-keys c = let f = fields (c .before .before .before) in omega (arith, f .0, c .before .before .before .before .before .before .before .before .before .before .before .before .good .0 .0)
+add-check-keys c =
+    let start = c .before .before .before .before .before .before .before .before .before .before .before .before in
+    let f = fields (c .before .before .before) in omega (arith, f .0, start .good .0 .0)
 
 add-check-keys-2 : tie.Need-add-check-keys-2
-add-check-keys-2 c = let f = fields (c .before .before .before) in omega (arith, f .3, c .before .before .before .before .before .before .before .before .before .before .before .before .pre .1 .1)
+add-check-keys-2 c =
+    let start = c .before .before .before .before .before .before .before .before .before .before .before .before in
+    let f = fields (c .before .before .before) in omega (arith, f .3, start .pre .1 .1)
 
 check-keys-requires : tie.Need-check-keys-requires
 check-keys-requires c κs = let f = fields (c .before .before .before) in omega (arith, f .0, f .3)
@@ -85,39 +124,60 @@ same-length-3 : tie.Need-same-length-3
 same-length-3 c = search needs
 
 returns-3 : tie.Need-returns-3
-returns-3 c = record {
-  walked = λ h e.
-      branch-stopped (now (c .before .before .before .before .before .before .before .before .before .before .args .image)) _ _ _ _ _ _ _ h (c .before .before .before .before .before .before .before .before .before .before .pre .0) _ _
-      (subst (λ (r : NodeRead). NodeIs (now (c .before .before .before .before .before .before .before .before .before .before .args .image)) (now (c .before .before .before .before .before .before .before .before .before .before .args .list)) (c .before .before .before .before .before .before .before .before .before .before .args .group) (c .before .before .before .before .before .before .before .before .before .before .args .count) (c .before .before .before .before .before .before .before .before .before .before .args .at) (c .before .before .before .before .before .read-node .last .1 .0) r) (c .before .x .given .1) (c .before .before .before .before .before .read-node .ensures) .walked);
-  fields = tt;
-}
+returns-3 c =
+    let at-read-node = c .before .before .before .before .before in
+    let start = at-read-node .before .before .before .before .before in
+    record {
+      walked = λ h e.
+          branch-stopped (now (start .args .image)) _ _ _ _ _ _ _ h (start .pre .0) _ _
+          (subst (λ (r : NodeRead). NodeIs (now (start .args .image)) (now (start .args .list)) (start .args .group) (start .args .count) (start .args .at)
+          (at-read-node .read-node .last .1 .0) r) (c .before .x .given .1) (at-read-node .read-node .ensures) .walked);
+      fields = tt;
+    }
 
 same-length-4 : tie.Need-same-length-4
 same-length-4 c = search needs
 
 returns-4 : tie.Need-returns-4
-returns-4 c = record {
-  walked = λ h e.
-      keys-wrong (now (c .before .before .before .before .before .before .before .before .before .before .before .before .before .before .before .before .args .image)) _ _ _ _ _ _ _ h (c .before .before .before .before .before .before .before .before .before .before .before .before .before .before .before .before .pre .0) _ _ (c .before .before .before .before .before .before .before .before .before .before .before .read-node .kept .1 .0) (node-walked (c .before .before .before .before .before .before .before)) _ (fields (c .before .before .before .before .before .before .before) .1) (c .before .before .before .before .before .if1 .left) _ (fields (c .before .before .before .before .before .before .before) .2) (c .before .before .before .before .if2 .left) _ (sym (ap keysOf (c .before .x2 .given .1)) ∙ keys (c .before .before .before) h e);
-  fields = tt;
-}
+returns-4 c =
+    let at-if2 = c .before .before .before .before in
+    let at-if1 = at-if2 .before in
+    let place = at-if1 .before .before in
+    let at-read-node = place .before .before .before .before in
+    let start = at-read-node .before .before .before .before .before in
+    record {
+      walked = λ h e.
+          keys-wrong (now (start .args .image)) _ _ _ _ _ _ _ h (start .pre .0) _ _ (at-read-node .read-node .kept .1 .0) (node-walked place) _
+          (fields place .1)
+          (at-if1 .if1 .left) _ (fields place .2) (at-if2 .if2 .left) _ (sym (ap keysOf (c .before .x2 .given .1)) ∙ keys (c .before .before .before) h e);
+      fields = tt;
+    }
 
 same-length-5 : tie.Need-same-length-5
 same-length-5 c = search needs
 
 returns-5 : tie.Need-returns-5
-returns-5 c = record {
-  walked = λ h e. branch-read (now (c .before .before .before .before .before .before .before .before .before .before .before .before .before .before .before .args .image)) _ _ _ _ _ _ _ h (c .before .before .before .before .before .before .before .before .before .before .before .before .before .before .before .pre .0) _ _ (c .before .before .before .before .before .before .before .before .before .before .read-node .kept .1 .0) (node-walked (c .before .before .before .before .before .before)) _ (fields (c .before .before .before .before .before .before) .1) (c .before .before .before .before .if1 .left) _ (fields (c .before .before .before .before .before .before) .2) (c .before .before .before .if2 .left) (sym (ap keysOf (c .enum-told .given .1)) ∙ keys (c .before .before) h e);
-  fields =
-      let f = fields (c .before .before .before .before .before .before) in (
-        f .0,
-        f .2,
-        f .3,
-        f .4,
-        keys-sound (heapWith (now (c .before .before .before .before .before .before .before .before .before .before .before .before .before .before .before .args .segment)) []) (now (c .before .before .before .before .before .before .before .before .before .before .before .before .before .before .before .args .image)) (now (c .before .before .before .before .before .before .before .before .before .before .before .before .before .before .before .args .segment)) (c .before .before .before .before .before .before .own .given .0 .1 .0 + 1) (c .before .before .before .before .before .before .before .before .before .before .before .before .before .before .before .args .at + 24) (8 + 32 * c .before .before .before .before .before .before .before .before .before .before .before .before .before .before .before .args .group .«internal_k»)
-            (sym (keys (c .before .before) (heapWith (now (c .before .before .before .before .before .before .before .before .before .before .before .before .before .before .before .args .segment)) []) refl) ∙ ap keysOf (c .enum-told .given .1)) refl (omega (arith, f .3)) (omega (arith, f .0)),
-      );
-}
+returns-5 c =
+    let place = c .before .before in
+    let at-if1 = place .before .before in
+    let at-own = at-if1 .before .before in
+    let at-read-node = at-own .before .before .before .before in
+    let start = at-read-node .before .before .before .before .before in
+    record {
+      walked = λ h e. branch-read (now (start .args .image)) _ _ _ _ _ _ _ h (start .pre .0) _ _ (at-read-node .read-node .kept .1 .0) (node-walked at-own) _
+          (fields at-own .1) (at-if1 .if1 .left) _ (fields at-own .2) (place .before .if2 .left) (sym (ap keysOf (c .enum-told .given .1)) ∙ keys place h e);
+      fields =
+          let f = fields at-own in (
+            f .0,
+            f .2,
+            f .3,
+            f .4,
+            keys-sound (heapWith (now (start .args .segment)) []) (now (start .args .image)) (now (start .args .segment)) (at-own .own .given .0 .1 .0 + 1)
+                (start .args .at + 24) (8 + 32 * start .args .group .«internal_k»)
+                (sym (keys place (heapWith (now (start .args .segment)) []) refl) ∙ ap keysOf (c .enum-told .given .1)) refl (omega (arith, f .3))
+                (omega (arith, f .0)),
+          );
+    }
 
 pub read-branch-spec : {M : Type 1} → statement M
 read-branch-spec =

@@ -20,10 +20,10 @@ abbrev μ-loop : tie.MeasureT-loop
 loop-holds : tie.Need-loop-holds Inv-loop μ-loop
 unfolding objectsMost
 loop-holds c =
-    let s = c .before .before .before .before .before in
+    let start-2 = c .before .before .before .before .before in
     record {
-      listed = s .pre .1;
-      come = start _ _ _ _ _ _ (s .pre .1 .lent);
+      listed = start-2 .pre .1;
+      come = start _ _ _ _ _ _ (start-2 .pre .1 .lent);
       addressesSame = refl;
       countsSame = refl;
       marksSame = refl;
@@ -33,23 +33,26 @@ mul-at : tie.Need-mul-at Inv-loop μ-loop
 mul-at c = search needs
 
 slice-read-at : tie.Need-slice-read-at Inv-loop μ-loop
-slice-read-at c = omega (
-  arith,
-  c .before .before .loop .inv .listed .counting .table .fits,
-  c .before .before .loop .inv .listed .counting .table .addressesLong,
-)
+slice-read-at c =
+    let at-loop = c .before .before in
+    omega (
+      arith,
+      at-loop .loop .inv .listed .counting .table .fits,
+      at-loop .loop .inv .listed .counting .table .addressesLong,
+    )
 
 read-requires : tie.Need-read-requires Inv-loop μ-loop
 read-requires c κs =
-    let loop = c .before .before .before .before .before .before in
-    let s = loop .before .before .before .before .before .before in (
-      s .pre .0,
+    let at-loop-test = c .before .before .before .before .before in
+    let at-loop = at-loop-test .before in
+    let start = at-loop .before .before .before .before .before .before in (
+      start .pre .0,
       (
-        loop .loop .inv .listed,
+        at-loop .loop .inv .listed,
         omega (
           arith,
-          c .before .before .before .before .before .loop-test .taken,
-          loop .loop .inv .listed .counting .table .fits,
+          at-loop-test .loop-test .taken,
+          at-loop .loop .inv .listed .counting .table .fits,
         ),
       ),
     )
@@ -58,47 +61,59 @@ enum-known-x : tie.Need-enum-known-x Inv-loop μ-loop
 enum-known-x c = search needs
 
 same-length : tie.Need-same-length Inv-loop μ-loop
-same-length c = omega (
-  arith,
-  c .before .before .before .before .before .before .before .before .before .before .before .read .kept .1 .0,
-  c .before .before .before .before .before .before .before .before .before .before .before .before .before .before .before .before .before .before .loop
-      .inv .come .sameLength,
-)
+same-length c =
+    let at-read = c .before .before .before .before .before .before .before .before .before .before .before in
+    let at-loop = at-read .before .before .before .before .before .before .before in
+    omega (
+      arith,
+      at-read .read .kept .1 .0,
+      at-loop .loop
+          .inv .come .sameLength,
+    )
 
 same-length-2 : tie.Need-same-length-2 Inv-loop μ-loop
-same-length-2 c = omega (
-  arith,
-  c .before .before .before .before .before .before .before .before .before .before .before .read .kept .1 .1 .0,
-  c .before .before .before .before .before .before .before .before .before .before .before .before .before .before .before .before .before .before .loop
-      .inv .addressesSame,
-)
+same-length-2 c =
+    let at-read = c .before .before .before .before .before .before .before .before .before .before .before in
+    let at-loop = at-read .before .before .before .before .before .before .before in
+    omega (
+      arith,
+      at-read .read .kept .1 .1 .0,
+      at-loop .loop
+          .inv .addressesSame,
+    )
 
 same-length-3 : tie.Need-same-length-3 Inv-loop μ-loop
-same-length-3 c = omega (
-  arith,
-  c .before .before .before .before .before .before .before .before .before .before .before .read .kept .1 .1 .1 .0,
-  c .before .before .before .before .before .before .before .before .before .before .before .before .before .before .before .before .before .before .loop
-      .inv .countsSame,
-)
+same-length-3 c =
+    let at-read = c .before .before .before .before .before .before .before .before .before .before .before in
+    let at-loop = at-read .before .before .before .before .before .before .before in
+    omega (
+      arith,
+      at-read .read .kept .1 .1 .1 .0,
+      at-loop .loop
+          .inv .countsSame,
+    )
 
 same-length-4 : tie.Need-same-length-4 Inv-loop μ-loop
-same-length-4 c = omega (
-  arith,
-  c .before .before .before .before .before .before .before .before .before .before .before .read .kept .1 .1 .1 .1 .0,
-  c .before .before .before .before .before .before .before .before .before .before .before .before .before .before .before .before .before .before .loop
-      .inv .marksSame,
-)
+same-length-4 c =
+    let at-read = c .before .before .before .before .before .before .before .before .before .before .before in
+    let at-loop = at-read .before .before .before .before .before .before .before in
+    omega (
+      arith,
+      at-read .read .kept .1 .1 .1 .1 .0,
+      at-loop .loop
+          .inv .marksSame,
+    )
 
 returns : tie.Need-returns Inv-loop μ-loop
 returns c =
-    let read = c .before .before .before .before .before .before .before .before .before .before .before in
-    let loop = read .before .before .before .before .before .before .before in
-    let s = loop .before .before .before .before .before .before in
-    let inv = loop .loop .inv in
-    let r = rw (c .before .x .given .1) at (read .read .ensures) in
+    let at-read = c .before .before .before .before .before .before .before .before .before .before .before in
+    let at-loop-test = at-read .before .before .before .before .before .before in
+    let at-loop = at-loop-test .before in
+    let inv = at-loop .loop .inv in
+    let r = rw (c .before .x .given .1) at (at-read .read .ensures) in
     record {
       walked = object-stopped _ _ _ _ _ _ _ _ _ (inv .listed .counting .table) (inv .come)
-          (read .before .before .before .before .before .before .loop-test .taken) _ _ (r .walked);
+          (at-loop-test .loop-test .taken) _ _ (r .walked);
       listed = tt;
     }
 
@@ -106,37 +121,41 @@ enum-known-c : tie.Need-enum-known-c Inv-loop μ-loop
 enum-known-c c = search needs
 
 add-i : tie.Need-add-i Inv-loop μ-loop
-add-i c = omega (
-  arith,
-  c .before .before .before .before .before .before .before .before .before .before .before .before .before .before .before .before
-      .before .loop-test .taken,
-  c .before .before .before .before .before .before .before .before .before .before .before .before .before .before .before
-      .before .before .before .loop .inv .listed .counting .table .fits,
-)
+add-i c =
+    let at-loop-test = c .before .before .before .before .before .before .before .before .before .before .before .before .before .before .before .before
+    .before in
+    let at-loop = at-loop-test .before in
+    omega (
+      arith,
+      at-loop-test .loop-test .taken,
+      at-loop .loop .inv .listed .counting .table .fits,
+    )
 
 loop-less : tie.Need-loop-less Inv-loop μ-loop
-loop-less c = omega (
-  arith,
-  c .before .before .before .before .before .before .before .before .before .before .before .before .before .before .before .before
-      .before .loop-test .taken,
-  c .before .before .before .before .before .before .before .before .before .before .before .before .before .before .before
-      .before .before .before .loop .inv .listed .counting .table .fits,
-)
+loop-less c =
+    let at-loop-test = c .before .before .before .before .before .before .before .before .before .before .before .before .before .before .before .before
+    .before in
+    let at-loop = at-loop-test .before in
+    omega (
+      arith,
+      at-loop-test .loop-test .taken,
+      at-loop .loop .inv .listed .counting .table .fits,
+    )
 
 loop-again : tie.Need-loop-again Inv-loop μ-loop
 loop-again c =
-    let read = c .before .before .before .before .before .before .before .before .before .before .before in
-    let loop = read .before .before .before .before .before .before .before in
-    let s = loop .before .before .before .before .before .before in
-    let inv = loop .loop .inv in
-    let r = rw (c .before .c .given .1) at (read .read .ensures) in
+    let at-read = c .before .before .before .before .before .before .before .before .before .before .before in
+    let at-loop-test = at-read .before .before .before .before .before .before in
+    let at-loop = at-loop-test .before in
+    let inv = at-loop .loop .inv in
+    let r = rw (c .before .c .given .1) at (at-read .read .ensures) in
     record {
       listed = r .listed;
-      come = object-done _ _ _ _ _ _ _ _ _ (inv .listed .counting .table) (inv .come) (read .before .before .before .before .before .before .loop-test .taken)
-          _ _ _ (read .read .kept .1 .0) (r .walked);
-      addressesSame = omega (arith, read .read .kept .1 .1 .0, inv .addressesSame);
-      countsSame = omega (arith, read .read .kept .1 .1 .1 .0, inv .countsSame);
-      marksSame = omega (arith, read .read .kept .1 .1 .1 .1 .0, inv .marksSame);
+      come = object-done _ _ _ _ _ _ _ _ _ (inv .listed .counting .table) (inv .come) (at-loop-test .loop-test .taken)
+          _ _ _ (at-read .read .kept .1 .0) (r .walked);
+      addressesSame = omega (arith, at-read .read .kept .1 .1 .0, inv .addressesSame);
+      countsSame = omega (arith, at-read .read .kept .1 .1 .1 .0, inv .countsSame);
+      marksSame = omega (arith, at-read .read .kept .1 .1 .1 .1 .0, inv .marksSame);
     }
 
 same-length-5 : tie.Need-same-length-5 Inv-loop μ-loop

@@ -32,7 +32,8 @@ returns c = all-fails _ (range-below 1 nameMost (length (now (c .before .before 
 
 returns-2 : tie.Need-returns-2
 unfolding isComponent
-returns-2 c = all-fails _ (range-above 1 nameMost (length (now (c .before .before .before .before .before .args .part))) (omega (arith, c .before .before .before .the-limits .ensures .nameMostEqual)))
+returns-2 c = all-fails _ (range-above 1 nameMost (length (now (c .before .before .before .before .before .args .part)))
+    (omega (arith, c .before .before .before .the-limits .ensures .nameMostEqual)))
 
 slice-aggregate-same : tie.Need-slice-aggregate-same
 slice-aggregate-same c = search needs

@@ -18,7 +18,8 @@ lower-requires c κs = search needs
 returns-2 : tie.Need-returns-2
 returns-2 c =
     let a = c .before .before .before .before .before .before .before .args in
-    narrowed-more (now (a .segment)) (a .range) (a .low) (a .high) _ _ (not-false _ (c .before .before .before .before .if1 .left)) (c .before .higher .ensures) (c .lower .ensures)
+    narrowed-more (now (a .segment)) (a .range) (a .low) (a .high) _ _ (not-false _ (c .before .before .before .before .if1 .left))
+    (c .before .higher .ensures) (c .lower .ensures)
 
 pub narrowed-spec : {M : Type 1} → statement M
 narrowed-spec = tie.close (tie.spec returns higher-requires lower-requires returns-2)

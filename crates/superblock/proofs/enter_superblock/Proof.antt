@@ -20,7 +20,8 @@ unfolding superblockWalk blocksOf
 returns c = λ im.
     let a = c .before .before .before .before .before .args in
     let e = c .before .before .enter .ensures in
-    one-block im (a .superblock .«end_of_file») (a .room) superblockBlock 0 (a .superblock .size) 0 (now (a .blocks)) _ _ (c .before .before .before .before .before .pre) (e .0) (e .1)
+    one-block im (a .superblock .«end_of_file») (a .room) superblockBlock 0 (a .superblock .size) 0 (now (a .blocks)) _ _
+    (c .before .before .before .before .before .pre) (e .0) (e .1)
 
 pub enter-superblock-spec : {M : Type 1} → statement M
 enter-superblock-spec = tie.close (tie.spec enter-requires same-length returns)

@@ -10,7 +10,8 @@ use Rattle.format.specs.Limits.{imageLeast, imageMost}
 use Rattle.format.specs.Bytes.{inRange, littleEndian, u64}
 use Rattle.format.specs.Superblock.{opened, signature, superblockSound}
 use Rattle.walk.proofs.Tests.{range-below, range-above, range-inside, field-equal, field-unequal}
-use Rattle.superblock.proofs.SuperblockLaws.{superblock-fits, opening-1, opening-2, opening-3, opening-4, opening-done, end-inside, end-small, size-least}
+use Rattle.superblock.proofs.SuperblockLaws.{superblock-fits, opening-1, opening-2, opening-3}
+use Rattle.superblock.proofs.SuperblockLaws.{opening-4, opening-done, end-inside, end-small, size-least}
 use native.Mathlib.Omega.{arith}
 use borrow.Author.Needs.{needs}
 use Rattle.superblock.proofs.open.Statement.{statement}
@@ -20,7 +21,8 @@ use Rattle.superblock.proofs.open.Tie as tie
 in-range : (c : tie.Else2) → inRange imageLeast imageMost (length (now (c .before .before .before .before .before .before .args .image))) ≡ true
 in-range c =
     let limits = c .before .before .before .before .the-limits .ensures in
-    range-inside imageLeast imageMost _ (omega (arith, c .before .before .if1 .left, limits .imageLeastEqual)) (omega (arith, c .if2 .left, limits .imageMostEqual))
+    range-inside imageLeast imageMost _ (omega (arith, c .before .before .if1 .left, limits .imageLeastEqual))
+    (omega (arith, c .if2 .left, limits .imageMostEqual))
 
 -- and so it holds a superblock
 holds : (c : tie.Else2) → 96 ≤ length (now (c .before .before .before .before .before .before .args .image))
@@ -70,8 +72,11 @@ superblock-sound-requires c κs = search needs
 returns-5 : tie.Need-returns-5
 returns-5 c =
     let fourth = c .before .before in
-    let third = fourth .before .before .before in
-    (opening-4 _ (in-range (third .before .before)) (signed third) (sym (fourth .before .superblock-read .ensures) ∙ not-false _ (fourth .if4 .left)) (sym (c .before .superblock-sound .ensures) ∙ not-true _ (c .if5 .taken)), tt)
+    let third = fourth .before .before .before in (
+      opening-4 _ (in-range (third .before .before)) (signed third) (sym (fourth .before .superblock-read .ensures) ∙ not-false _ (fourth .if4 .left))
+          (sym (c .before .superblock-sound .ensures) ∙ not-true _ (c .if5 .taken)),
+      tt,
+    )
 
 superblock-fields-requires : tie.Need-superblock-fields-requires
 superblock-fields-requires c κs = search needs
@@ -85,7 +90,8 @@ returns-6 c =
     let sound : superblockSound image ≡ true = sym (fifth .before .superblock-sound .ensures) ∙ not-false _ (fifth .if5 .left) in
     let f = c .superblock-fields .ensures in
     let inside = end-inside image _ (f .0) sound in (
-      ap opened (f .0) ∙ opening-done _ (in-range (third .before .before)) (signed third) (sym (fourth .before .superblock-read .ensures) ∙ not-false _ (fourth .if4 .left)) sound,
+      ap opened (f .0) ∙ opening-done _ (in-range (third .before .before)) (signed third)
+          (sym (fourth .before .superblock-read .ensures) ∙ not-false _ (fourth .if4 .left)) sound,
       (f .1 .0, f .1 .1, inside, end-small image _ inside (in-range (third .before .before)), size-least image _ (f .0)),
     )
 

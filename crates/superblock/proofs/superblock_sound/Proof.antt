@@ -78,7 +78,8 @@ returns-5 c =
     (all-passes _ (field-least (sym (second .before .u16-at .ensures .value)) (second .if2 .left))
     (all-passes _ (field-least (sym (third .before .u16-at2 .ensures .value)) (third .if3 .left))
     (all-passes _ (field-most (shifted-field (now (s .args .image)) (s .args .shift) 72 4 _ (s .pre) (fourth .before .u32-at .ensures)) (fourth .if4 .left))
-    (sym (ap (λ (x : ℕ). leb x (length (now (s .args .image)))) (shifted-field (now (s .args .image)) (s .args .shift) 40 8 _ (s .pre) (c .u64-at .ensures))) ∙ all-last _))))
+    (sym (ap (λ (x : ℕ). leb x (length (now (s .args .image)))) (shifted-field (now (s .args .image)) (s .args .shift) 40 8 _ (s .pre) (c .u64-at .ensures)))
+    ∙ all-last _))))
 
 pub superblock-sound-spec : {M : Type 1} → statement M
 superblock-sound-spec =

@@ -8,31 +8,48 @@ use Rattle.format.specs.Bytes.{littleEndian}
 use Rattle.format.specs.Symbols.{SNOD}
 use Rattle.format.specs.Blocks.{Block}
 use Rattle.walk.specs.Lent.{blocksOf, lengthSum, Lent}
-use Rattle.laws.proofs.Disjoint.{Fresh}
-use Rattle.laws.proofs.Growth.{Inside, Grown}
+use Rattle.laws.specs.Blocks.{Fresh, Inside}
+use Rattle.laws.proofs.Growth.{Grown}
 use Rattle.laws.proofs.SumOfLengths.{grown-apart, grown-inside}
 use Rattle.ledger.specs.Links.{linkSum}
 use Rattle.ledger.specs.Table.{linkedOf}
 use Rattle.symbol.specs.Entry.{groupOf, stateOf}
 use Rattle.symbol.specs.declared.entry.State.{State}
-use Rattle.symbol_node.proofs.SymbolLaws.{symbols-refused, symbols-inside, symbols-lent, symbols-grown, symbols-lengths, signature-wrong, version-wrong, count-low, count-high, symbols-end, links-small, sound-after, kept-count}
+use Rattle.symbol_node.proofs.SymbolLaws.{symbols-refused, symbols-inside, symbols-lent, symbols-grown, symbols-lengths, signature-wrong}
+use Rattle.symbol_node.proofs.SymbolLaws.{version-wrong, count-low, count-high, symbols-end, links-small, sound-after, kept-count}
 use native.Mathlib.Omega.{arith}
 use borrow.Author.Needs.{needs}
 use Rattle.symbol_node.proofs.symbol_node.Statement.{statement}
 use Rattle.symbol_node.proofs.symbol_node.Tie as tie
 
 -- the node lies inside the image
-whole : (c : tie.After-c) → c .before .before .before .before .before .before .before .before .before .before .before .before .args .at + (8 + 80 * c .before .before .before .before .before .before .before .before .before .before .before .before .args .group .«leaf_k») ≤ length (now (c .before .before .before .before .before .before .before .before .before .before .before .before .args .image))
+whole : (c : tie.After-c) →
+    let start = c .before .before .before .before .before .before .before .before .before .before .before .before in
+    start .args .at + (8 + 80 * start .args .group .«leaf_k») ≤ length (now (start .args .image))
 whole c =
-    let i = symbols-inside (now (c .before .before .before .before .before .before .before .before .before .before .before .before .args .image)) _ _ _ _ _ (c .before .before .before .before .before .before .before .before .before .before .before .before .pre .sound .lent) _ _ (c .before .before .before .before .enter .ensures .1) (groupOf (now (c .before .before .before .before .before .before .before .before .before .before .before .before .args .segment)) (now (c .before .before .before .before .before .before .before .before .before .before .before .before .args .wanted)) (c .before .before .before .before .before .before .before .before .before .before .before .before .args .group)) refl [] (stateOf (now (c .before .before .before .before .before .before .before .before .before .before .before .before .args .segment)) (now (c .before .before .before .before .before .before .before .before .before .before .before .before .args .addresses)) (now (c .before .before .before .before .before .before .before .before .before .before .before .before .args .counts)) (c .before .before .before .before .before .before .before .before .before .before .before .before .args .state)) _ (sym (c .c .given .1) ∙ c .before .before .before .before .enter .ensures .0) in
-    omega (arith, i, c .before .before .before .before .before .before .before .before .before .before .before .before .pre .fixed .file)
+    let at-enter = c .before .before .before .before in
+    let start = at-enter .before .before .before .before .before .before .before .before in
+    let i = symbols-inside (now (start .args .image)) _ _ _ _ _ (start .pre .sound .lent) _ _ (at-enter .enter .ensures .1)
+    (groupOf (now (start .args .segment)) (now (start .args .wanted)) (start .args .group)) refl []
+    (stateOf (now (start .args .segment)) (now (start .args .addresses)) (now (start .args .counts)) (start .args .state)) _
+    (sym (c .c .given .1) ∙ at-enter .enter .ensures .0) in
+    omega (arith, i, start .pre .fixed .file)
 
 signed : (c : tie.Else1) → c .before .u32-at .result ≡ SNOD
 unfolding SNOD littleEndian
 signed c = c .if1 .left
 
-lent : (c : tie.After-c) → Lent (c .before .before .before .before .enter .last .1 .0) (c .c .given .0 .0) (c .before .before .before .before .before .before .before .before .before .before .before .before .args .group .room)
-lent c = symbols-lent (now (c .before .before .before .before .before .before .before .before .before .before .before .before .args .image)) _ _ _ _ _ (c .before .before .before .before .before .before .before .before .before .before .before .before .pre .sound .lent) _ _ (c .before .before .before .before .enter .ensures .1) (groupOf (now (c .before .before .before .before .before .before .before .before .before .before .before .before .args .segment)) (now (c .before .before .before .before .before .before .before .before .before .before .before .before .args .wanted)) (c .before .before .before .before .before .before .before .before .before .before .before .before .args .group)) refl [] (stateOf (now (c .before .before .before .before .before .before .before .before .before .before .before .before .args .segment)) (now (c .before .before .before .before .before .before .before .before .before .before .before .before .args .addresses)) (now (c .before .before .before .before .before .before .before .before .before .before .before .before .args .counts)) (c .before .before .before .before .before .before .before .before .before .before .before .before .args .state)) _ (sym (c .c .given .1) ∙ c .before .before .before .before .enter .ensures .0)
+lent : (c : tie.After-c) →
+    let at-enter = c .before .before .before .before in
+    let start = at-enter .before .before .before .before .before .before .before .before in
+    Lent (at-enter .enter .last .1 .0) (c .c .given .0 .0) (start .args .group .room)
+lent c =
+    let at-enter = c .before .before .before .before in
+    let start = at-enter .before .before .before .before .before .before .before .before in
+    symbols-lent (now (start .args .image)) _ _ _ _ _ (start .pre .sound .lent) _ _ (at-enter .enter .ensures .1)
+    (groupOf (now (start .args .segment)) (now (start .args .wanted)) (start .args .group)) refl []
+    (stateOf (now (start .args .segment)) (now (start .args .addresses)) (now (start .args .counts)) (start .args .state)) _
+    (sym (c .c .given .1) ∙ at-enter .enter .ensures .0)
 
 abbrev first : tie.After-c → tie.Start
 first c = c .before .before .before .before .before .before .before .before .before .before .before .before
@@ -49,8 +66,9 @@ grown : (c : tie.After-c) →
     let s = first c in
     Grown (s .args .group .«end_of_file») (s .args .group .room) (blocksOf (s .args .state .count) (now (s .args .list))) (blocks c)
 grown c =
+    let at-enter = c .before .before .before .before in
     let s = first c in
-    let e = c .before .before .before .before .enter .ensures in
+    let e = at-enter .enter .ensures in
     symbols-grown (now (s .args .image)) _ _ _ _ _ (s .pre .sound .lent) _ _ (e .1) _ (sym (c .c .given .1) ∙ e .0)
 
 apart : (c : tie.After-c) → Fresh [] (blocks c)
@@ -62,25 +80,34 @@ inside c = grown-inside (grown c) (first c .pre .sound .inside)
 -- the links found before, and one for every byte of the node
 lengths : (c : tie.After-c) → links (first c) + (8 + 80 * first c .args .group .«leaf_k») ≤ lengthSum (blocks c)
 lengths c =
+    let at-enter = c .before .before .before .before in
     let s = first c in
-    let e = c .before .before .before .before .enter .ensures in
+    let e = at-enter .enter .ensures in
     let sum = symbols-lengths (now (s .args .image)) _ _ _ _ _ (s .pre .sound .lent) _ _ (e .1) _ (sym (c .c .given .1) ∙ e .0) in
     omega (arith, s .pre .sound .links, sum)
 
 -- the node has no more entries than bytes
 links-fit : (c : tie.Else4) →
-    let e = c .before .before .before .before .before .before .before .before in
-    links (first e) + c .before .before .u16-at .result ≤ lengthSum (blocks e)
-links-fit c = omega (arith, lengths (c .before .before .before .before .before .before .before .before), c .if4 .left)
+    let place = c .before .before .before .before .before .before .before .before in
+    links (first place) + c .before .before .u16-at .result ≤ lengthSum (blocks place)
+links-fit c =
+    let place = c .before .before .before .before .before .before .before .before in
+    omega (arith, lengths place, c .if4 .left)
 
 mul-enter : tie.Need-mul-enter
-mul-enter c = omega (arith, c .before .before .before .before .before .before .before .pre .fixed .leaf)
+mul-enter c =
+    let start = c .before .before .before .before .before .before .before in
+    omega (arith, start .pre .fixed .leaf)
 
 add-enter : tie.Need-add-enter
-add-enter c = omega (arith, c .before .before .before .before .before .before .before .pre .fixed .leaf)
+add-enter c =
+    let start = c .before .before .before .before .before .before .before in
+    omega (arith, start .pre .fixed .leaf)
 
 enter-requires : tie.Need-enter-requires
-enter-requires c κs = c .before .before .before .before .before .before .before .pre .sound .lent
+enter-requires c κs =
+    let start = c .before .before .before .before .before .before .before in
+    start .pre .sound .lent
 
 enum-known-x : tie.Need-enum-known-x
 enum-known-x c = search needs
@@ -89,57 +116,122 @@ enum-known-c : tie.Need-enum-known-c
 enum-known-c c = search needs
 
 u32-at-requires : tie.Need-u32-at-requires
-u32-at-requires c κs = let i = whole (c .before) in omega (arith, i, c .before .before .before .before .before .before .before .before .before .before .before .before .before .good .0 .0, c .before .before .before .before .before .before .before .before .before .before .before .before .before .pre .fixed .leaf)
+u32-at-requires c κs =
+    let start = c .before .before .before .before .before .before .before .before .before .before .before .before .before in
+    let i = whole (c .before) in omega (arith, i, start .good .0 .0, start .pre .fixed .leaf)
 
 same-length : tie.Need-same-length
 same-length c = search needs
 
 returns : tie.Need-returns
 unfolding SNOD littleEndian
-returns c = record { walked = λ bounds t. signature-wrong (now (c .before .before .before .before .before .before .before .before .before .before .before .before .before .before .before .args .image)) _ _ _ _ _ (c .before .before .before .before .before .before .before .before .before .before .before .before .before .before .before .pre .sound .lent) _ _ (c .before .before .before .before .before .before .before .enter .ensures .1) (groupOf (now (c .before .before .before .before .before .before .before .before .before .before .before .before .before .before .before .args .segment)) (now (c .before .before .before .before .before .before .before .before .before .before .before .before .before .before .before .args .wanted)) (c .before .before .before .before .before .before .before .before .before .before .before .before .before .before .before .args .group)) refl bounds (stateOf (now (c .before .before .before .before .before .before .before .before .before .before .before .before .before .before .before .args .segment)) (now (c .before .before .before .before .before .before .before .before .before .before .before .before .before .before .before .args .addresses)) (now (c .before .before .before .before .before .before .before .before .before .before .before .before .before .before .before .args .counts)) (c .before .before .before .before .before .before .before .before .before .before .before .before .before .before .before .args .state)) _ (sym (c .before .before .before .c .given .1) ∙ c .before .before .before .before .before .before .before .enter .ensures .0) _ (c .before .u32-at .ensures) (c .if1 .taken); sound = tt }
+returns c =
+    let at-enter = c .before .before .before .before .before .before .before in
+    let start = at-enter .before .before .before .before .before .before .before .before in
+    record {
+      walked = λ bounds t. signature-wrong (now (start .args .image)) _ _ _ _ _ (start .pre .sound .lent) _ _ (at-enter .enter .ensures .1)
+          (groupOf (now (start .args .segment)) (now (start .args .wanted)) (start .args .group)) refl bounds
+          (stateOf (now (start .args .segment)) (now (start .args .addresses)) (now (start .args .counts)) (start .args .state)) _
+          (sym (c .before .before .before .c .given .1) ∙ at-enter .enter .ensures .0) _ (c .before .u32-at .ensures) (c .if1 .taken);
+      sound = tt;
+    }
 
 add-if2 : tie.Need-add-if2
-add-if2 c = let i = whole (c .before .before .before) in omega (arith, i, c .before .before .before .before .before .before .before .before .before .before .before .before .before .before .before .good .0 .0, c .before .before .before .before .before .before .before .before .before .before .before .before .before .before .before .pre .fixed .leaf)
+add-if2 c =
+    let start = c .before .before .before .before .before .before .before .before .before .before .before .before .before .before .before in
+    let i = whole (c .before .before .before) in omega (arith, i, start .good .0 .0, start .pre .fixed .leaf)
 
 shared-slice-read-if2 : tie.Need-shared-slice-read-if2
-shared-slice-read-if2 c = let i = whole (c .before .before .before .before) in omega (arith, i, c .before .before .before .before .before .before .before .before .before .before .before .before .before .before .before .before .good .0 .0, c .before .before .before .before .before .before .before .before .before .before .before .before .before .before .before .before .pre .fixed .leaf)
+shared-slice-read-if2 c =
+    let place = c .before .before .before .before in
+    let start = place .before .before .before .before .before .before .before .before .before .before .before .before in
+    let i = whole place in omega (arith, i, start .good .0 .0, start .pre .fixed .leaf)
 
 same-length-2 : tie.Need-same-length-2
 same-length-2 c = search needs
 
 returns-2 : tie.Need-returns-2
-returns-2 c = record { walked = λ bounds t. version-wrong (now (c .before .before .before .before .before .before .before .before .before .before .before .before .before .before .before .before .before .args .image)) _ _ _ _ _ (c .before .before .before .before .before .before .before .before .before .before .before .before .before .before .before .before .before .pre .sound .lent) _ _ (c .before .before .before .before .before .before .before .before .before .enter .ensures .1) (groupOf (now (c .before .before .before .before .before .before .before .before .before .before .before .before .before .before .before .before .before .args .segment)) (now (c .before .before .before .before .before .before .before .before .before .before .before .before .before .before .before .before .before .args .wanted)) (c .before .before .before .before .before .before .before .before .before .before .before .before .before .before .before .before .before .args .group)) refl bounds (stateOf (now (c .before .before .before .before .before .before .before .before .before .before .before .before .before .before .before .before .before .args .segment)) (now (c .before .before .before .before .before .before .before .before .before .before .before .before .before .before .before .before .before .args .addresses)) (now (c .before .before .before .before .before .before .before .before .before .before .before .before .before .before .before .before .before .args .counts)) (c .before .before .before .before .before .before .before .before .before .before .before .before .before .before .before .before .before .args .state)) _ (sym (c .before .before .before .before .before .c .given .1) ∙ c .before .before .before .before .before .before .before .before .before .enter .ensures .0) _ (c .before .before .before .u32-at .ensures) (signed (c .before .before)) (c .if2 .taken); sound = tt }
+returns-2 c =
+    let at-c = c .before .before .before .before .before in
+    let at-enter = at-c .before .before .before .before in
+    let start = at-enter .before .before .before .before .before .before .before .before in
+    record {
+      walked = λ bounds t. version-wrong (now (start .args .image)) _ _ _ _ _ (start .pre .sound .lent) _ _ (at-enter .enter .ensures .1)
+          (groupOf (now (start .args .segment)) (now (start .args .wanted)) (start .args .group)) refl bounds
+          (stateOf (now (start .args .segment)) (now (start .args .addresses)) (now (start .args .counts)) (start .args .state)) _
+          (sym (at-c .c .given .1) ∙ at-enter .enter .ensures .0) _ (c .before .before .before .u32-at .ensures) (signed (c .before .before)) (c .if2 .taken);
+      sound = tt;
+    }
 
 add-u16-at : tie.Need-add-u16-at
-add-u16-at c = let i = whole (c .before .before .before .before .before) in omega (arith, i, c .before .before .before .before .before .before .before .before .before .before .before .before .before .before .before .before .before .good .0 .0, c .before .before .before .before .before .before .before .before .before .before .before .before .before .before .before .before .before .pre .fixed .leaf)
+add-u16-at c =
+    let place = c .before .before .before .before .before in
+    let start = place .before .before .before .before .before .before .before .before .before .before .before .before in
+    let i = whole place in omega (arith, i, start .good .0 .0, start .pre .fixed .leaf)
 
 u16-at-requires : tie.Need-u16-at-requires
-u16-at-requires c κs = let i = whole (c .before .before .before .before .before) in omega (arith, i, c .before .before .before .before .before .before .before .before .before .before .before .before .before .before .before .before .before .good .0 .0, c .before .before .before .before .before .before .before .before .before .before .before .before .before .before .before .before .before .pre .fixed .leaf)
+u16-at-requires c κs =
+    let place = c .before .before .before .before .before in
+    let start = place .before .before .before .before .before .before .before .before .before .before .before .before in
+    let i = whole place in omega (arith, i, start .good .0 .0, start .pre .fixed .leaf)
 
 same-length-3 : tie.Need-same-length-3
 same-length-3 c = search needs
 
 returns-3 : tie.Need-returns-3
-returns-3 c = record { walked = λ bounds t. count-low (now (c .before .before .before .before .before .before .before .before .before .before .before .before .before .before .before .before .before .before .before .args .image)) _ _ _ _ _ (c .before .before .before .before .before .before .before .before .before .before .before .before .before .before .before .before .before .before .before .pre .sound .lent) _ _ (c .before .before .before .before .before .before .before .before .before .before .before .enter .ensures .1) (groupOf (now (c .before .before .before .before .before .before .before .before .before .before .before .before .before .before .before .before .before .before .before .args .segment)) (now (c .before .before .before .before .before .before .before .before .before .before .before .before .before .before .before .before .before .before .before .args .wanted)) (c .before .before .before .before .before .before .before .before .before .before .before .before .before .before .before .before .before .before .before .args .group)) refl bounds (stateOf (now (c .before .before .before .before .before .before .before .before .before .before .before .before .before .before .before .before .before .before .before .args .segment)) (now (c .before .before .before .before .before .before .before .before .before .before .before .before .before .before .before .before .before .before .before .args .addresses)) (now (c .before .before .before .before .before .before .before .before .before .before .before .before .before .before .before .before .before .before .before .args .counts)) (c .before .before .before .before .before .before .before .before .before .before .before .before .before .before .before .before .before .before .before .args .state)) _ (sym (c .before .before .before .before .before .before .before .c .given .1) ∙ c .before .before .before .before .before .before .before .before .before .before .before .enter .ensures .0) _ (c .before .before .before .before .before .u32-at .ensures) (signed (c .before .before .before .before)) (c .before .before .if2 .left) _ (c .before .u16-at .ensures) (c .if3 .taken); sound = tt }
+returns-3 c =
+    let place = c .before .before .before .before in
+    let at-u32-at = place .before in
+    let at-c = at-u32-at .before .before in
+    let at-enter = at-c .before .before .before .before in
+    let start = at-enter .before .before .before .before .before .before .before .before in
+    record {
+      walked = λ bounds t. count-low (now (start .args .image)) _ _ _ _ _ (start .pre .sound .lent) _ _ (at-enter .enter .ensures .1)
+          (groupOf (now (start .args .segment)) (now (start .args .wanted)) (start .args .group)) refl bounds
+          (stateOf (now (start .args .segment)) (now (start .args .addresses)) (now (start .args .counts)) (start .args .state)) _
+          (sym (at-c .c .given .1) ∙ at-enter .enter .ensures .0) _ (at-u32-at .u32-at .ensures) (signed place) (c .before .before .if2 .left) _
+          (c .before .u16-at .ensures) (c .if3 .taken);
+      sound = tt;
+    }
 
 mul-if4 : tie.Need-mul-if4
-mul-if4 c = let i = whole (c .before .before .before .before .before .before .before) in omega (arith, i, c .before .before .before .before .before .before .before .before .before .before .before .before .before .before .before .before .before .before .before .good .0 .0, c .before .before .before .before .before .before .before .before .before .before .before .before .before .before .before .before .before .before .before .pre .fixed .leaf)
+mul-if4 c =
+    let place = c .before .before .before .before .before .before .before in
+    let start = place .before .before .before .before .before .before .before .before .before .before .before .before in
+    let i = whole place in omega (arith, i, start .good .0 .0, start .pre .fixed .leaf)
 
 same-length-4 : tie.Need-same-length-4
 same-length-4 c = search needs
 
 returns-4 : tie.Need-returns-4
-returns-4 c = record { walked = λ bounds t. count-high (now (c .before .before .before .before .before .before .before .before .before .before .before .before .before .before .before .before .before .before .before .before .args .image)) _ _ _ _ _ (c .before .before .before .before .before .before .before .before .before .before .before .before .before .before .before .before .before .before .before .before .pre .sound .lent) _ _ (c .before .before .before .before .before .before .before .before .before .before .before .before .enter .ensures .1) (groupOf (now (c .before .before .before .before .before .before .before .before .before .before .before .before .before .before .before .before .before .before .before .before .args .segment)) (now (c .before .before .before .before .before .before .before .before .before .before .before .before .before .before .before .before .before .before .before .before .args .wanted)) (c .before .before .before .before .before .before .before .before .before .before .before .before .before .before .before .before .before .before .before .before .args .group)) refl bounds (stateOf (now (c .before .before .before .before .before .before .before .before .before .before .before .before .before .before .before .before .before .before .before .before .args .segment)) (now (c .before .before .before .before .before .before .before .before .before .before .before .before .before .before .before .before .before .before .before .before .args .addresses)) (now (c .before .before .before .before .before .before .before .before .before .before .before .before .before .before .before .before .before .before .before .before .args .counts)) (c .before .before .before .before .before .before .before .before .before .before .before .before .before .before .before .before .before .before .before .before .args .state)) _ (sym (c .before .before .before .before .before .before .before .before .c .given .1) ∙ c .before .before .before .before .before .before .before .before .before .before .before .before .enter .ensures .0) _ (c .before .before .before .before .before .before .u32-at .ensures) (signed (c .before .before .before .before .before)) (c .before .before .before .if2 .left) _ (c .before .before .u16-at .ensures) (c .if4 .taken); sound = tt }
+returns-4 c =
+    let place = c .before .before .before .before .before in
+    let at-u32-at = place .before in
+    let at-c = at-u32-at .before .before in
+    let at-enter = at-c .before .before .before .before in
+    let start = at-enter .before .before .before .before .before .before .before .before in
+    record {
+      walked = λ bounds t. count-high (now (start .args .image)) _ _ _ _ _ (start .pre .sound .lent) _ _ (at-enter .enter .ensures .1)
+          (groupOf (now (start .args .segment)) (now (start .args .wanted)) (start .args .group)) refl bounds
+          (stateOf (now (start .args .segment)) (now (start .args .addresses)) (now (start .args .counts)) (start .args .state)) _
+          (sym (at-c .c .given .1) ∙ at-enter .enter .ensures .0) _ (at-u32-at .u32-at .ensures) (signed place) (c .before .before .before .if2 .left) _
+          (c .before .before .u16-at .ensures) (c .if4 .taken);
+      sound = tt;
+    }
 
 add-entries : tie.Need-add-entries
-add-entries c = let i = whole (c .before .before .before .before .before .before .before .before .before .before .before) in omega (arith, i, c .before .before .before .before .before .before .before .before .before .before .before .before .before .before .before .before .before .before .before .before .before .before .before .good .0 .0, c .before .before .before .before .before .before .before .before .before .before .before .before .before .before .before .before .before .before .before .before .before .before .before .pre .fixed .leaf)
+add-entries c =
+    let place = c .before .before .before .before .before .before .before .before .before .before .before in
+    let start = place .before .before .before .before .before .before .before .before .before .before .before .before in
+    let i = whole place in omega (arith, i, start .good .0 .0, start .pre .fixed .leaf)
 
 entries-requires : tie.Need-entries-requires
 entries-requires c κs =
-    let e = c .before .before .before .before .before .before .before .before .before .before .before in
-    let p = first e .pre in
-    let links = links-small _ (blocks e) _ (apart e) (inside e) (p .fixed .small) (links-fit (c .before .before .before)) in (
-      omega (arith, whole e, c .before .before .before .if4 .left),
+    let at-if4 = c .before .before .before in
+    let start = at-if4 .before .before .before .before .before .before .before .before in
+    let p = first start .pre in
+    let links = links-small _ (blocks start) _ (apart start) (inside start) (p .fixed .small) (links-fit at-if4) in (
+      omega (arith, whole start, at-if4 .if4 .left),
       (record { chained = p .fixed .chained; range = p .range; last = p .sound .last; table = p .sound .table }, links),
     )
 
@@ -147,7 +239,16 @@ same-length-5 : tie.Need-same-length-5
 same-length-5 c = search needs
 
 returns-5 : tie.Need-returns-5
-returns-5 c = record { walked = λ bounds t. symbols-refused (now (c .before .before .before .before .before .before .before .before .before .before .before .before .before .args .image)) _ _ _ _ _ (c .before .before .before .before .before .before .before .before .before .before .before .before .before .pre .sound .lent) _ _ (c .before .before .before .before .before .enter .ensures .1) (groupOf (now (c .before .before .before .before .before .before .before .before .before .before .before .before .before .args .segment)) (now (c .before .before .before .before .before .before .before .before .before .before .before .before .before .args .wanted)) (c .before .before .before .before .before .before .before .before .before .before .before .before .before .args .group)) refl bounds (stateOf (now (c .before .before .before .before .before .before .before .before .before .before .before .before .before .args .segment)) (now (c .before .before .before .before .before .before .before .before .before .before .before .before .before .args .addresses)) (now (c .before .before .before .before .before .before .before .before .before .before .before .before .before .args .counts)) (c .before .before .before .before .before .before .before .before .before .before .before .before .before .args .state)) _ (sym (c .before .x .given .1) ∙ c .before .before .before .before .before .enter .ensures .0); sound = tt }
+returns-5 c =
+    let at-enter = c .before .before .before .before .before in
+    let start = at-enter .before .before .before .before .before .before .before .before in
+    record {
+      walked = λ bounds t. symbols-refused (now (start .args .image)) _ _ _ _ _ (start .pre .sound .lent) _ _ (at-enter .enter .ensures .1)
+          (groupOf (now (start .args .segment)) (now (start .args .wanted)) (start .args .group)) refl bounds
+          (stateOf (now (start .args .segment)) (now (start .args .addresses)) (now (start .args .counts)) (start .args .state)) _
+          (sym (c .before .x .given .1) ∙ at-enter .enter .ensures .0);
+      sound = tt;
+    }
 
 same-length-6 : tie.Need-same-length-6
 same-length-6 c = search needs
@@ -160,19 +261,33 @@ same-length-8 c = search needs
 
 returns-6 : tie.Need-returns-6
 returns-6 c =
-    let p = c .before .before .before .before .before .before .before .before .before .before .before .before .before .before .before .before .before .before .before .before .before .before .before .before .before .before .before .before in
-    let node = c .before .before .before .before .before .before .before .before .before .before .before .before .before .before .before .before in
-    let S = p .args .state in
-    let e = c .before .before .before .before .entries in
-    let after : State = record { count = c .before .before .before .before .before .before .before .before .before .before .before .before .before .before .before .before .c .given .0 .0; objects = S .objects; last = S .last; link = S .link } in
+    let at-entries = c .before .before .before .before in
+    let at-if4 = at-entries .before .before .before .before in
+    let at-if3 = at-if4 .before in
+    let at-u16-at = at-if3 .before in
+    let at-if2 = at-u16-at .before in
+    let place = at-if2 .before .before in
+    let at-u32-at = place .before in
+    let at-c = at-u32-at .before .before in
+    let at-enter = at-c .before .before .before .before in
+    let start = at-enter .before .before .before .before .before .before .before .before in
+    let S = start .args .state in
+    let e = at-entries .entries in
+    let after : State = record { count = at-c .c .given .0 .0; objects = S .objects; last = S .last; link = S .link } in
     record {
       walked = λ bounds t.
-          symbols-end (now (c .before .before .before .before .before .before .before .before .before .before .before .before .before .before .before .before .before .before .before .before .before .before .before .before .before .before .before .before .args .image)) _ _ _ _ _ (c .before .before .before .before .before .before .before .before .before .before .before .before .before .before .before .before .before .before .before .before .before .before .before .before .before .before .before .before .pre .sound .lent) _ _ (c .before .before .before .before .before .before .before .before .before .before .before .before .before .before .before .before .before .before .before .before .enter .ensures .1) (groupOf (now (c .before .before .before .before .before .before .before .before .before .before .before .before .before .before .before .before .before .before .before .before .before .before .before .before .before .before .before .before .args .segment)) (now (c .before .before .before .before .before .before .before .before .before .before .before .before .before .before .before .before .before .before .before .before .before .before .before .before .before .before .before .before .args .wanted)) (c .before .before .before .before .before .before .before .before .before .before .before .before .before .before .before .before .before .before .before .before .before .before .before .before .before .before .before .before .args .group)) refl bounds (stateOf (now (c .before .before .before .before .before .before .before .before .before .before .before .before .before .before .before .before .before .before .before .before .before .before .before .before .before .before .before .before .args .segment)) (now (c .before .before .before .before .before .before .before .before .before .before .before .before .before .before .before .before .before .before .before .before .before .before .before .before .before .before .before .before .args .addresses)) (now (c .before .before .before .before .before .before .before .before .before .before .before .before .before .before .before .before .before .before .before .before .before .before .before .before .before .before .before .before .args .counts)) (c .before .before .before .before .before .before .before .before .before .before .before .before .before .before .before .before .before .before .before .before .before .before .before .before .before .before .before .before .args .state)) _ (sym (c .before .before .before .before .before .before .before .before .before .before .before .before .before .before .before .before .c .given .1) ∙ c .before .before .before .before .before .before .before .before .before .before .before .before .before .before .before .before .before .before .before .before .enter .ensures .0) _ (c .before .before .before .before .before .before .before .before .before .before .before .before .before .before .u32-at .ensures) (signed (c .before .before .before .before .before .before .before .before .before .before .before .before .before)) (c .before .before .before .before .before .before .before .before .before .before .before .if2 .left) _ (c .before .before .before .before .before .before .before .before .before .before .u16-at .ensures) (omega (arith, c .before .before .before .before .before .before .before .before .before .if3 .left)) (c .before .before .before .before .before .before .before .before .if4 .left)
-          (now (p .args .segment)) (e .last .1 .1 .1 .0) (e .last .1 .1 .1 .1 .0) (e .result)
-          (kept-count (now (p .args .segment)) (now (p .args .addresses)) (now (p .args .counts)) after (c .before .before .before .before .before .before .before .before .before .before .u16-at .result) (e .last .1 .1 .1 .0) (e .last .1 .1 .1 .1 .0) (e .result) (e .ensures .kept))
-          (e .ensures .walk bounds (80 * p .args .group .«leaf_k») t (omega (arith, c .before .before .before .before .before .before .before .before .if4 .left)) (let i = whole (c .before .before .before .before .before .before .before .before .before .before .before .before .before .before .before .before) in omega arith));
-      sound = sound-after (now (p .args .segment)) (c .before .before .before .before .before .before .before .before .before .before .before .before .before .before .before .before .before .before .before .before .enter .last .1 .0) (now (p .args .addresses)) (now (p .args .counts)) (p .args .group) after (c .before .before .before .before .before .before .before .before .before .before .u16-at .result) (e .last .1 .1 .1 .0) (e .last .1 .1 .1 .1 .0) (e .result)
-          (lent node) (apart node) (inside node) (links-fit (c .before .before .before .before .before .before .before .before)) (e .ensures .kept);
+          symbols-end (now (start .args .image)) _ _ _ _ _ (start .pre .sound .lent) _ _ (at-enter .enter .ensures .1)
+          (groupOf (now (start .args .segment)) (now (start .args .wanted)) (start .args .group)) refl bounds
+          (stateOf (now (start .args .segment)) (now (start .args .addresses)) (now (start .args .counts)) (start .args .state)) _
+          (sym (at-c .c .given .1) ∙ at-enter .enter .ensures .0) _ (at-u32-at .u32-at .ensures) (signed place) (at-if2 .if2 .left) _
+          (at-u16-at .u16-at .ensures) (omega (arith, at-if3 .if3 .left)) (at-if4 .if4 .left)
+          (now (start .args .segment)) (e .last .1 .1 .1 .0) (e .last .1 .1 .1 .1 .0) (e .result)
+          (kept-count (now (start .args .segment)) (now (start .args .addresses)) (now (start .args .counts)) after (at-u16-at .u16-at .result)
+          (e .last .1 .1 .1 .0) (e .last .1 .1 .1 .1 .0) (e .result) (e .ensures .kept))
+          (e .ensures .walk bounds (80 * start .args .group .«leaf_k») t (omega (arith, at-if4 .if4 .left)) (let i = whole at-c in omega arith));
+      sound = sound-after (now (start .args .segment)) (at-enter .enter .last .1 .0) (now (start .args .addresses)) (now (start .args .counts))
+          (start .args .group) after (at-u16-at .u16-at .result) (e .last .1 .1 .1 .0) (e .last .1 .1 .1 .1 .0) (e .result)
+          (lent at-c) (apart at-c) (inside at-c) (links-fit at-if4) (e .ensures .kept);
     }
 
 pub symbol-node-spec : {M : Type 1} → statement M

@@ -19,7 +19,13 @@ none-requires-4 : tie.Need-none-requires-4
 none-requires-4 c κs = search needs
 
 returns : tie.Need-returns
-returns c = λ im. record { total = refl; space = c .before .before .before .none .ensures im 1; datatype = c .before .before .none2 .ensures im 3; layout = c .before .none3 .ensures im 8; table = c .none4 .ensures im 0x0011 }
+returns c = λ im. record {
+  total = refl;
+  space = c .before .before .before .none .ensures im 1;
+  datatype = c .before .before .none2 .ensures im 3;
+  layout = c .before .none3 .ensures im 8;
+  table = c .none4 .ensures im 0x0011;
+}
 
 pub empty-spec : {M : Type 1} → statement M
 empty-spec =

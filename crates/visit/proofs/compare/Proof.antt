@@ -19,12 +19,14 @@ returns c =
 returns-2 : tie.Need-returns-2
 returns-2 c =
     let a = c .before .before .before .before .before .args in
-    link-hard (now (a .name)) (now (a .wanted)) (a .kind) (a .header) (a .link) (sym (c .before .before .same .ensures) ∙ not-false _ (c .before .if1 .left)) (omega arith)
+    link-hard (now (a .name)) (now (a .wanted)) (a .kind) (a .header) (a .link) (sym (c .before .before .same .ensures) ∙ not-false _ (c .before .if1 .left))
+    (omega arith)
 
 returns-3 : tie.Need-returns-3
 returns-3 c =
     let a = c .before .before .before .before .before .args in
-    link-soft (now (a .name)) (now (a .wanted)) (a .kind) (a .header) (a .link) (sym (c .before .before .same .ensures) ∙ not-false _ (c .before .if1 .left)) (omega arith)
+    link-soft (now (a .name)) (now (a .wanted)) (a .kind) (a .header) (a .link) (sym (c .before .before .same .ensures) ∙ not-false _ (c .before .if1 .left))
+    (omega arith)
 
 pub compare-spec : {M : Type 1} → statement M
 compare-spec = tie.close (tie.spec same-requires returns returns-2 returns-3)

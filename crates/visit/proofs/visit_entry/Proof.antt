@@ -10,7 +10,8 @@ compare-requires : tie.Need-compare-requires
 compare-requires c κs = search needs
 
 returns : tie.Need-returns
-returns c = visit-compared _ _ _ (c .before .before .before .before .before .before .pre .0) _ _ _ _ _ _ _ (not-true _ (c .before .if1 .taken)) (c .compare .ensures)
+returns c =
+    visit-compared _ _ _ (c .before .before .before .before .before .before .pre .0) _ _ _ _ _ _ _ (not-true _ (c .before .if1 .taken)) (c .compare .ensures)
 
 returns-2 : tie.Need-returns-2
 returns-2 c = visit-passed _ _ _ (c .before .before .before .before .before .before .pre .0) _ _ _ _ _ _ (not-false _ (c .before .if1 .left)) (omega arith)
@@ -34,7 +35,8 @@ returns-3 : tie.Need-returns-3
 returns-3 c =
     let d = c .before .before .before .before .before .before in
     let e = d .before .before .before in
-    visit-full _ _ _ (e .before .before .before .before .before .before .pre .0) _ _ _ _ _ _ (not-false _ (e .before .if1 .left)) (omega arith) _ _ (c .enum-told .given .1) (d .discover .ensures)
+    visit-full _ _ _ (e .before .before .before .before .before .before .pre .0) _ _ _ _ _ _ (not-false _ (e .before .if1 .left)) (omega arith) _ _
+    (c .enum-told .given .1) (d .discover .ensures)
 
 same-length-3 : tie.Need-same-length-3
 same-length-3 c = search needs
@@ -46,7 +48,8 @@ returns-4 : tie.Need-returns-4
 returns-4 c =
     let d = c .before .before .before .before .before .before .before in
     let e = d .before .before .before in
-    visit-counted _ _ _ (e .before .before .before .before .before .before .pre .0) _ _ _ _ _ _ (not-false _ (e .before .if1 .left)) (omega arith) _ _ _ (c .before .n .given .1) (d .discover .ensures)
+    visit-counted _ _ _ (e .before .before .before .before .before .before .pre .0) _ _ _ _ _ _ (not-false _ (e .before .if1 .left)) (omega arith) _ _ _
+    (c .before .n .given .1) (d .discover .ensures)
 
 pub visit-entry-spec : {M : Type 1} → statement M
 visit-entry-spec =

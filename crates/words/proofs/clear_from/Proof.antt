@@ -35,8 +35,13 @@ loop-again : tie.Need-loop-again Inv-loop μ-loop
 loop-again c =
     let l = c .before .loop in
     let a = c .before .before .args in
-    let e : l .i + 1 - a .from ≡ l .i - a .from + 1 = omega arith in
-    (omega arith, omega arith, simp length-set (omega arith), rw e (zeros-more (take (a .from) (now (a .out))) (l .out) (l .i) (l .i - a .from) (omega arith) (l .inv .3)))
+    let e : l .i + 1 - a .from ≡ l .i - a .from + 1 = omega arith in (
+      omega arith,
+      omega arith,
+      simp length-set (omega arith),
+      rw e (zeros-more (take (a .from) (now (a .out))) (l .out) (l .i) (l .i - a .from) (omega arith)
+          (l .inv .3)),
+    )
 
 same-length : tie.Need-same-length Inv-loop μ-loop
 same-length c = search needs

@@ -40,8 +40,12 @@ loop-again : tie.Need-loop-again Inv-loop μ-loop
 loop-again c =
     let l = c .before .before .before .before .before .before .loop in
     let st = c .before .before .before .before .before .before .before .before .before in
-    let w = c .before .before .put-word in
-    (omega arith, w .kept .0 ∙ l .inv .1, begins-next (now (st .args .words)) (l .out) _ (l .i) (l .inv .2) (omega arith) (omega (arith, st .pre, l .inv .1)) (w .ensures))
+    let w = c .before .before .put-word in (
+      omega arith,
+      w .kept .0 ∙ l .inv .1,
+      begins-next (now (st .args .words)) (l .out) _ (l .i) (l .inv .2) (omega arith) (omega (arith, st .pre, l .inv .1))
+          (w .ensures),
+    )
 
 mul-clear-from : tie.Need-mul-clear-from Inv-loop μ-loop
 mul-clear-from c = search needs
@@ -56,7 +60,8 @@ returns : tie.Need-returns Inv-loop μ-loop
 returns c =
     let l = c .before .before .before .before .before .loop in
     let st = c .before .before .before .before .before .before .before .before in
-    begins-all (now (st .args .words)) (l .out) _ (l .i) (length (now (st .args .out))) (l .inv .2) (omega arith) (l .inv .1) (c .before .before .clear-from .ensures)
+    begins-all (now (st .args .words)) (l .out) _ (l .i) (length (now (st .args .out))) (l .inv .2) (omega arith) (l .inv .1)
+    (c .before .before .clear-from .ensures)
 
 pub spill-spec : {M : Type 1} → statement M
 spill-spec =

@@ -25,7 +25,8 @@ returns-2 c = λ im.
     let first = c .before in
     let s = first .before .before .before .before .before in
     let a = s .args in
-    empty-data im (a .end-of-file) (a .room) (a .count) (now (a .blocks)) (s .pre) (a .layout) (first .before .before .layout .given .1) (first .if1 .left) (c .if2 .taken)
+    empty-data im (a .end-of-file) (a .room) (a .count) (now (a .blocks)) (s .pre) (a .layout) (first .before .before .layout .given .1) (first .if1 .left)
+    (c .if2 .taken)
 
 enter-requires : tie.Need-enter-requires
 enter-requires c κs = search needs
@@ -47,7 +48,8 @@ returns-4 c = λ im.
     let first = second .before in
     let s = first .before .before .before .before .before in
     let a = s .args in
-    contiguous-data im (a .end-of-file) (a .room) (a .count) (now (a .blocks)) (s .pre) (a .layout) (first .before .before .layout .given .1) (first .if1 .left) (second .if2 .left) (e .last .1 .0) (e .result) (e .ensures .0) (e .ensures .1)
+    contiguous-data im (a .end-of-file) (a .room) (a .count) (now (a .blocks)) (s .pre) (a .layout) (first .before .before .layout .given .1)
+    (first .if1 .left) (second .if2 .left) (e .last .1 .0) (e .result) (e .ensures .0) (e .ensures .1)
 
 pub enter-data-spec : {M : Type 1} → statement M
 enter-data-spec =

@@ -46,7 +46,8 @@ returns-2 : tie.Need-returns-2
 returns-2 c =
     let arm = c .before .before .before .before .before in
     let a = arm .before .before .before .args in
-    own-fills (a .dataset) (body-part (now (a .image)) (a .space .place) (a .space .size)) (arm .datatype .given .1) (c .before .before .before .data-size .ensures) (c .fills .ensures)
+    own-fills (a .dataset) (body-part (now (a .image)) (a .space .place) (a .space .size)) (arm .datatype .given .1)
+    (c .before .before .before .data-size .ensures) (c .fills .ensures)
 
 pub filled-spec : {M : Type 1} → statement M
 filled-spec =

@@ -29,7 +29,8 @@ returns : tie.Need-returns
 unfolding readType
 returns c =
     let a = c .before .before .before .before .before .before .args in
-    takes-then _ _ (eq-eqb _ _ (c .before .before .if1 .taken)) (c .read-shared .ensures ∙ ap readShared (body-part (now (a .image)) (a .body .place) (a .body .size)))
+    takes-then _ _ (eq-eqb _ _ (c .before .before .if1 .taken))
+    (c .read-shared .ensures ∙ ap readShared (body-part (now (a .image)) (a .body .place) (a .body .size)))
 
 sub-read : tie.Need-sub-read
 sub-read c = search needs
@@ -47,7 +48,8 @@ returns-2 : tie.Need-returns-2
 unfolding readType
 returns-2 c =
     let a = c .before .before .before .before .before .before .args in
-    takes-else _ _ (ne-eqb _ _ (c .before .before .if1 .left)) (c .read .ensures ∙ ap readDatatype (body-part (now (a .image)) (a .body .place) (a .body .size)))
+    takes-else _ _ (ne-eqb _ _ (c .before .before .if1 .left))
+    (c .read .ensures ∙ ap readDatatype (body-part (now (a .image)) (a .body .place) (a .body .size)))
 
 pub read-type-spec : {M : Type 1} → statement M
 read-type-spec =

@@ -20,12 +20,28 @@ use Rattle.group.proofs.group.read.Statement.{statement}
 use Rattle.group.proofs.group.read.Tie as tie
 
 -- the heap was read, and it is sound
-heap-is : (c : tie.After-h) → Walked (now (c .before .before .before .before .before .before .before .before .before .before .before .args .list)) (c .before .before .before .before .read .last .1 .1 .0) (heapEnd (now (c .before .before .before .before .before .before .before .before .before .before .before .args .image)) (HeapRead.the-variants.Read (c .h .given .0 .0) (c .h .given .0 .1 .0))) (run (now (c .before .before .before .before .before .before .before .before .before .before .before .args .image)) (c .before .before .before .before .before .before .before .before .before .before .before .args .end-of-file) (c .before .before .before .before .before .before .before .before .before .before .before .args .room) (heapWalk (c .before .before .before .before .before .before .before .before .before .before .before .args .heap)) (blocksOf (c .before .before .before .before .before .before .before .before .before .before .before .args .count) (now (c .before .before .before .before .before .before .before .before .before .before .before .args .list)))) × SoundHeap (now (c .before .before .before .before .before .before .before .before .before .before .before .args .image)) (c .h .given .0 .0)
-heap-is c = subst (λ (r : HeapRead). Walked (now (c .before .before .before .before .before .before .before .before .before .before .before .args .list)) (c .before .before .before .before .read .last .1 .1 .0) (heapEnd (now (c .before .before .before .before .before .before .before .before .before .before .before .args .image)) r) (run (now (c .before .before .before .before .before .before .before .before .before .before .before .args .image)) (c .before .before .before .before .before .before .before .before .before .before .before .args .end-of-file) (c .before .before .before .before .before .before .before .before .before .before .before .args .room) (heapWalk (c .before .before .before .before .before .before .before .before .before .before .before .args .heap)) (blocksOf (c .before .before .before .before .before .before .before .before .before .before .before .args .count) (now (c .before .before .before .before .before .before .before .before .before .before .before .args .list)))) × SoundRead (now (c .before .before .before .before .before .before .before .before .before .before .before .args .image)) r) (c .h .given .1) (c .before .before .before .before .read .ensures)
+heap-is : (c : tie.After-h) →
+    let at-read = c .before .before .before .before in
+    let start = at-read .before .before .before .before .before .before .before in
+    Walked (now (start .args .list)) (at-read .read .last .1 .1 .0)
+    (heapEnd (now (start .args .image)) (HeapRead.the-variants.Read (c .h .given .0 .0) (c .h .given .0 .1 .0)))
+    (run (now (start .args .image)) (start .args .reading .«end_of_file») (start .args .reading .room) (heapWalk (start .args .heap))
+    (blocksOf (start .args .count) (now (start .args .list)))) × SoundHeap (now (start .args .image)) (c .h .given .0 .0)
+heap-is c =
+    let at-read = c .before .before .before .before in
+    let start = at-read .before .before .before .before .before .before .before in
+    subst (λ (r : HeapRead). Walked (now (start .args .list)) (at-read .read .last .1 .1 .0) (heapEnd (now (start .args .image)) r)
+    (run (now (start .args .image)) (start .args .reading .«end_of_file») (start .args .reading .room) (heapWalk (start .args .heap))
+    (blocksOf (start .args .count) (now (start .args .list)))) × SoundRead (now (start .args .image)) r) (c .h .given .1) (at-read .read .ensures)
 
 -- the slice is the heap's segment
-slice : (c : tie.After-h) → part (now (c .before .before .before .before .before .before .before .before .before .before .before .args .image)) (c .h .given .0 .0 .segment) (c .h .given .0 .0 .segment + c .h .given .0 .0 .size - c .h .given .0 .0 .segment) ≡ segmentOf (now (c .before .before .before .before .before .before .before .before .before .before .before .args .image)) (c .h .given .0 .0)
-slice c = part-between (now (c .before .before .before .before .before .before .before .before .before .before .before .args .image)) (c .h .given .0 .0 .segment) (c .h .given .0 .0 .size)
+slice : (c : tie.After-h) →
+    let start = c .before .before .before .before .before .before .before .before .before .before .before in
+    part (now (start .args .image)) (c .h .given .0 .0 .segment) (c .h .given .0 .0 .segment + c .h .given .0 .0 .size - c .h .given .0 .0 .segment) ≡
+    segmentOf (now (start .args .image)) (c .h .given .0 .0)
+slice c =
+    let start = c .before .before .before .before .before .before .before .before .before .before .before in
+    part-between (now (start .args .image)) (c .h .given .0 .0 .segment) (c .h .given .0 .0 .size)
 
 read-requires : tie.Need-read-requires
 read-requires c κs = search needs
@@ -37,7 +53,9 @@ enum-known-h : tie.Need-enum-known-h
 enum-known-h c = search needs
 
 add-end : tie.Need-add-end
-add-end c = omega (arith, heap-is (c .before .before) .1 .inside, c .before .before .before .before .before .before .before .before .before .before .before .before .before .good .0 .0)
+add-end c =
+    let start = c .before .before .before .before .before .before .before .before .before .before .before .before .before in
+    omega (arith, heap-is (c .before .before) .1 .inside, start .good .0 .0)
 
 sub-tree : tie.Need-sub-tree
 sub-tree c = search needs
@@ -50,11 +68,19 @@ part-tree-end c = omega (arith, heap-is (c .before .before) .1 .inside)
 
 tree-requires : tie.Need-tree-requires
 tree-requires c κs =
-    let s = heap-is (c .before .before .before .before .before .before) in
-    let q = slice (c .before .before .before .before .before .before) in
-    let st = c .before .before .before .before .before .before .before .before .before .before .before .before .before .before .before .before .before .pre .0 in
-    let rd = c .before .before .before .before .before .before .before .before .before .before .before .before .before .before .before .before .before .pre .1 in
-    let a = at-tree (now (c .before .before .before .before .before .before .before .before .before .before .before .before .before .before .before .before .before .args .image)) (c .before .before .before .before .before .before .before .before .before .before .before .before .before .before .before .before .before .args .end-of-file) (c .before .before .before .before .before .before .before .before .before .before .before .before .before .before .before .before .before .args .room) (now (c .before .before .before .before .before .before .before .before .before .before .before .before .before .before .before .before .before .args .list)) (c .before .before .before .before .before .before .before .before .before .before .before .before .before .before .before .before .before .args .count) (rd .lent) (c .before .before .before .before .before .before .before .before .before .before .before .before .before .before .before .before .before .args .leaf-k) (c .before .before .before .before .before .before .before .before .before .before .before .before .before .before .before .before .before .args .internal-k) (c .before .before .before .before .before .before .before .before .before .before .before .before .before .before .before .before .before .args .tree) (c .before .before .before .before .before .before .before .before .before .before .before .before .before .before .before .before .before .args .heap) (visitBoth (c .before .before .before .before .before .before .before .before .before .before .before .before .before .before .before .before .before .args .auditing) (now (c .before .before .before .before .before .before .before .before .before .before .before .before .before .before .before .before .before .args .wanted))) (bothOf (now (c .before .before .before .before .before .before .before .before .before .before .before .before .before .before .before .before .before .args .addresses)) (now (c .before .before .before .before .before .before .before .before .before .before .before .before .before .before .before .before .before .args .counts)) (c .before .before .before .before .before .before .before .before .before .before .before .before .before .before .before .before .before .args .objects) Absent) (c .before .before .before .before .before .before .before .before .before .before .read .last .1 .1 .0) _ _ (c .before .before .before .before .before .before .before .before .before .before .read .kept .1 .1 .0) (s .0) in
+    let place = c .before .before .before .before .before .before in
+    let at-read = place .before .before .before .before in
+    let start = at-read .before .before .before .before .before .before .before in
+    let s = heap-is place in
+    let q = slice place in
+    let st = start .pre .0 in
+    let rd = start .pre .1 in
+    let a = at-tree (now (start .args .image)) (start .args .reading .«end_of_file») (start .args .reading .room) (now (start .args .list))
+    (start .args .count) (rd .lent)
+    (start .args .reading .«leaf_k») (start .args .reading .«internal_k») (start .args .tree) (start .args .heap)
+    (visitBoth (start .args .reading .auditing) (now (start .args .wanted)))
+    (bothOf (now (start .args .addresses)) (now (start .args .counts)) (start .args .objects) Absent) (at-read .read .last .1 .1 .0) _ _
+    (at-read .read .kept .1 .1 .0) (s .0) in
     let g = a .blocks in (
       record { file = st .file; small = st .small; leaf = st .leaf; internal = st .internal; chained = rw q (s .1 .chained) },
       record {
@@ -71,7 +97,14 @@ same-length : tie.Need-same-length
 same-length c = search needs
 
 returns : tie.Need-returns
-returns c = record { walked = heap-stopped (now (c .before .before .before .before .before .before .before .before .before .before .before .before .args .image)) _ _ (now (c .before .before .before .before .before .before .before .before .before .before .before .before .args .list)) _ (c .before .before .before .before .before .before .before .before .before .before .before .before .pre .1 .lent) _ _ _ _ _ _ (c .before .before .before .before .before .read .last .1 .1 .0) _ (rw (c .before .x .given .1) at (c .before .before .before .before .before .read .ensures .0)); ready = tt }
+returns c =
+    let at-read = c .before .before .before .before .before in
+    let start = at-read .before .before .before .before .before .before .before in
+    record {
+      walked = heap-stopped (now (start .args .image)) _ _ (now (start .args .list)) _ (start .pre .1 .lent) _ _ _ _ _ _
+          (at-read .read .last .1 .1 .0) _ (rw (c .before .x .given .1) at (at-read .read .ensures .0));
+      ready = tt;
+    }
 
 same-length-2 : tie.Need-same-length-2
 same-length-2 c = search needs
@@ -84,12 +117,18 @@ same-length-4 c = search needs
 
 returns-2 : tie.Need-returns-2
 returns-2 c =
-    let s = heap-is (c .before .before .before .before .before .before .before .before .before .before .before .before .before) in
+    let at-tree = c .before .before .before .before .before .before in
+    let at-h = at-tree .before .before .before .before .before .before .before in
+    let at-read = at-h .before .before .before .before in
+    let start = at-read .before .before .before .before .before .before .before in
+    let s = heap-is at-h in
     record {
       walked =
-          tree-ended (now (c .before .before .before .before .before .before .before .before .before .before .before .before .before .before .before .before .before .before .before .before .before .before .before .before .args .image)) _ _ (now (c .before .before .before .before .before .before .before .before .before .before .before .before .before .before .before .before .before .before .before .before .before .before .before .before .args .list)) _ (c .before .before .before .before .before .before .before .before .before .before .before .before .before .before .before .before .before .before .before .before .before .before .before .before .pre .1 .lent) _ _ _ _ _ (now (c .before .before .before .before .before .before .before .before .before .before .before .before .before .before .before .before .before .before .before .before .before .before .before .before .args .wanted)) (now (c .before .before .before .before .before .before .before .before .before .before .before .before .before .before .before .before .before .before .before .before .before .before .before .before .args .addresses)) (now (c .before .before .before .before .before .before .before .before .before .before .before .before .before .before .before .before .before .before .before .before .before .before .before .before .args .counts)) _ (c .before .before .before .before .before .before .before .before .before .before .before .before .before .h .given .0 .0) (c .before .before .before .before .before .before .before .before .before .before .before .before .before .h .given .0 .1 .0) (c .before .before .before .before .before .before .before .before .before .before .before .before .before .before .before .before .before .read .last .1 .1 .0) (c .before .before .before .before .before .before .before .before .before .before .before .before .before .before .before .before .before .read .kept .1 .1 .0) (s .0) _ _ _ (c .before .before .before .before .before .before .tree .result) (c .before .before .before .before .before .before .tree .kept .1 .1 .1 .0)
-          (rw (slice (c .before .before .before .before .before .before .before .before .before .before .before .before .before)) at (c .before .before .before .before .before .before .tree .ensures .walked));
-      ready = sound-ready _ _ _ _ _ (c .before .before .before .before .before .before .tree .result) (c .before .before .before .before .before .before .tree .ensures .sound);
+          tree-ended (now (start .args .image)) _ _ (now (start .args .list)) _ (start .pre .1 .lent) _ _ _ _ _ (now (start .args .wanted))
+          (now (start .args .addresses)) (now (start .args .counts)) _ (at-h .h .given .0 .0) (at-h .h .given .0 .1 .0) (at-read .read .last .1 .1 .0)
+          (at-read .read .kept .1 .1 .0) (s .0) _ _ _ (at-tree .tree .result) (at-tree .tree .kept .1 .1 .1 .0)
+          (rw (slice at-h) at (at-tree .tree .ensures .walked));
+      ready = sound-ready _ _ _ _ _ (at-tree .tree .result) (at-tree .tree .ensures .sound);
     }
 
 pub read-spec : {M : Type 1} → statement M

@@ -1,10 +1,9 @@
 -- Its messages, then its kind.
 use denote.Ref.{now}
 use Rattle.format.specs.Header.{objectOf}
-use Rattle.image.specs.Header.{headerEnd}
+use Rattle.kind.specs.Kind.{headerEnd}
 use Rattle.image.proofs.HeaderSteps.{read-stopped, read-as, counting-then}
 use borrow.Author.Needs.{needs}
-use native.Mathlib.Omega.{arith}
 use Rattle.image.proofs.header.read_with.Statement.{statement}
 use Rattle.image.proofs.header.read_with.Tie as tie
 

@@ -28,7 +28,9 @@ room-requires : tie.Need-room-requires
 room-requires c κs = search needs
 
 kind-at-requires : tie.Need-kind-at-requires
-kind-at-requires c κs = (opened (now (c .before .before .before .before .before .before .before .before .before .before .before .before .args .image)) (c .before .before .before .before .before .before .before .before .before .before .before .before .args .superblock) _ _ (c .before .room .ensures) (c .before .before .before .before .before .before .before .before .before .before .before .before .pre .0), room-lent _ _ (c .before .room .ensures))
+kind-at-requires c κs =
+    let start = c .before .before .before .before .before .before .before .before .before .before .before .before in
+    (opened (now (start .args .image)) (start .args .superblock) _ _ (c .before .room .ensures) (start .pre .0), room-lent _ _ (c .before .room .ensures))
 
 enum-known-x-2 : tie.Need-enum-known-x-2
 enum-known-x-2 c = search needs
@@ -43,25 +45,52 @@ same-length : tie.Need-same-length
 same-length c = search needs
 
 returns : tie.Need-returns
-returns c = rw (c .refused .ensures) (stopped-is (now (c .before .before .before .before .before .before .before .before .before .before .before .args .image)) (now (c .before .before .before .before .before .before .before .before .before .before .before .args .path)) (length (now (c .before .before .before .before .before .before .before .before .before .before .before .args .list))) (c .before .before .before .before .before .before .before .before .before .before .before .args .superblock) _ (rw (c .before .before .x .given .1) at (c .before .before .before .before .before .before .find-object .ensures)))
+returns c =
+    let at-find-object = c .before .before .before .before .before .before in
+    let start = at-find-object .before .before .before .before .before in
+    rw (c .refused .ensures)
+    (stopped-is (now (start .args .image)) (now (start .args .path)) (length (now (start .args .list))) (start .args .superblock) _
+    (rw (c .before .before .x .given .1) at (at-find-object .find-object .ensures)))
 
 same-length-2 : tie.Need-same-length-2
 same-length-2 c = search needs
 
 returns-2 : tie.Need-returns-2
-returns-2 c = symbolic-is (now (c .before .before .before .before .before .before .before .before .before .args .image)) (now (c .before .before .before .before .before .before .before .before .before .args .path)) (length (now (c .before .before .before .before .before .before .before .before .before .args .list))) (c .before .before .before .before .before .before .before .before .before .args .superblock) (rw (c .enum-told .given .1) at (c .before .before .before .before .find-object .ensures))
+returns-2 c =
+    let at-find-object = c .before .before .before .before in
+    let start = at-find-object .before .before .before .before .before in
+    symbolic-is (now (start .args .image)) (now (start .args .path)) (length (now (start .args .list))) (start .args .superblock)
+    (rw (c .enum-told .given .1) at (at-find-object .find-object .ensures))
 
 same-length-3 : tie.Need-same-length-3
 same-length-3 c = search needs
 
 returns-3 : tie.Need-returns-3
-returns-3 c = rw (c .refused2 .ensures) (last-stopped (now (c .before .before .before .before .before .before .before .before .before .before .before .before .before .before .before .before .before .before .before .args .image)) (now (c .before .before .before .before .before .before .before .before .before .before .before .before .before .before .before .before .before .before .before .args .path)) (length (now (c .before .before .before .before .before .before .before .before .before .before .before .before .before .before .before .before .before .before .before .args .list))) (c .before .before .before .before .before .before .before .before .before .before .before .before .before .before .before .before .before .before .before .args .superblock) (c .before .before .before .before .before .before .before .before .before .before .a .given .0 .0) (rw (c .before .before .before .before .before .before .before .before .before .before .a .given .1) at (c .before .before .before .before .before .before .before .before .before .before .before .before .before .before .find-object .ensures)) _ (rw (c .before .before .x2 .given .1, (c .before .before .before .before .before .before .before .before .room .ensures ∙ ap roomOf (c .before .before .before .before .before .before .before .before .before .before .before .before .before .before .find-object .kept .1 .1 .0))) at (c .before .before .before .before .before .before .kind-at .ensures)))
+returns-3 c =
+    let at-kind-at = c .before .before .before .before .before .before in
+    let at-room = at-kind-at .before .before in
+    let at-a = at-room .before .before in
+    let at-find-object = at-a .before .before .before .before in
+    let start = at-find-object .before .before .before .before .before in
+    rw (c .refused2 .ensures)
+    (last-stopped (now (start .args .image)) (now (start .args .path)) (length (now (start .args .list))) (start .args .superblock) (at-a .a .given .0 .0)
+    (rw (at-a .a .given .1) at (at-find-object .find-object .ensures)) _
+    (rw (c .before .before .x2 .given .1, (at-room .room .ensures ∙ ap roomOf (at-find-object .find-object .kept .1 .1 .0))) at
+    (at-kind-at .kind-at .ensures)))
 
 same-length-4 : tie.Need-same-length-4
 same-length-4 c = search needs
 
 returns-4 : tie.Need-returns-4
-returns-4 c = last-known (now (c .before .before .before .before .before .before .before .before .before .before .before .before .before .before .before .before .before .before .args .image)) (now (c .before .before .before .before .before .before .before .before .before .before .before .before .before .before .before .before .before .before .args .path)) (length (now (c .before .before .before .before .before .before .before .before .before .before .before .before .before .before .before .before .before .before .args .list))) (c .before .before .before .before .before .before .before .before .before .before .before .before .before .before .before .before .before .before .args .superblock) (c .before .before .before .before .before .before .before .before .before .a .given .0 .0) (rw (c .before .before .before .before .before .before .before .before .before .a .given .1) at (c .before .before .before .before .before .before .before .before .before .before .before .before .before .find-object .ensures)) _ (rw (c .before .k .given .1, (c .before .before .before .before .before .before .before .room .ensures ∙ ap roomOf (c .before .before .before .before .before .before .before .before .before .before .before .before .before .find-object .kept .1 .1 .0))) at (c .before .before .before .before .before .kind-at .ensures))
+returns-4 c =
+    let at-kind-at = c .before .before .before .before .before in
+    let at-room = at-kind-at .before .before in
+    let at-a = at-room .before .before in
+    let at-find-object = at-a .before .before .before .before in
+    let start = at-find-object .before .before .before .before .before in
+    last-known (now (start .args .image)) (now (start .args .path)) (length (now (start .args .list))) (start .args .superblock) (at-a .a .given .0 .0)
+    (rw (at-a .a .given .1) at (at-find-object .find-object .ensures)) _
+    (rw (c .before .k .given .1, (at-room .room .ensures ∙ ap roomOf (at-find-object .find-object .kept .1 .1 .0))) at (at-kind-at .kind-at .ensures))
 
 pub locate-spec : {M : Type 1} → statement M
 locate-spec =

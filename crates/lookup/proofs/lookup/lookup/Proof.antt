@@ -22,7 +22,14 @@ same-length : tie.Need-same-length
 same-length c = search needs
 
 returns : tie.Need-returns
-returns c = rw (c .before .before .finish .ensures .0, c .before .before .before .refused .ensures) (bad-path-is (now (c .before .before .before .before .before .before .before .before .before .before .args .image)) (now (c .before .before .before .before .before .before .before .before .before .before .args .path)) (length (now (c .before .before .before .before .before .before .before .before .before .before .args .list))) _ (c .before .before .finish .ensures .1) (c .before .before .before .before .before .before .is-sound .ensures .bad (not-true _ (c .before .before .before .before .before .if1 .taken))))
+returns c =
+    let at-finish = c .before .before in
+    let at-if1 = at-finish .before .before .before in
+    let at-is-sound = at-if1 .before in
+    let start = at-is-sound .before .before .before .before in
+    rw (at-finish .finish .ensures .0, at-finish .before .refused .ensures)
+    (bad-path-is (now (start .args .image)) (now (start .args .path)) (length (now (start .args .list))) _ (at-finish .finish .ensures .1)
+    (at-is-sound .is-sound .ensures .bad (not-true _ (at-if1 .if1 .taken))))
 
 open-requires : tie.Need-open-requires
 open-requires c κs = search needs
@@ -40,7 +47,11 @@ enum-known-s : tie.Need-enum-known-s
 enum-known-s c = search needs
 
 locate-requires : tie.Need-locate-requires
-locate-requires c κs = ((rw (c .before .before .s .given .1) at (c .before .before .before .before .open .ensures)) .1, c .before .before .before .before .before .before .is-sound .ensures .begun (not-false _ (c .before .before .before .before .before .if1 .left)))
+locate-requires c κs =
+    let at-open = c .before .before .before .before in
+    let at-if1 = at-open .before in
+    let at-is-sound = at-if1 .before in
+    ((rw (c .before .before .s .given .1) at (at-open .open .ensures)) .1, at-is-sound .is-sound .ensures .begun (not-false _ (at-if1 .if1 .left)))
 
 finish-requires-3 : tie.Need-finish-requires-3
 finish-requires-3 c κs = search needs
@@ -49,13 +60,34 @@ same-length-2 : tie.Need-same-length-2
 same-length-2 c = search needs
 
 returns-2 : tie.Need-returns-2
-returns-2 c = rw (c .before .before .finish2 .ensures .0, c .before .before .before .refused2 .ensures) (not-opened-is (now (c .before .before .before .before .before .before .before .before .before .before .before .before .before .before .args .image)) (now (c .before .before .before .before .before .before .before .before .before .before .before .before .before .before .args .path)) (length (now (c .before .before .before .before .before .before .before .before .before .before .before .before .before .before .args .list))) _ (c .before .before .finish2 .ensures .1) (c .before .before .before .before .before .before .before .before .before .before .is-sound .ensures .sound (not-false _ (c .before .before .before .before .before .before .before .before .before .if1 .left))) _ ((rw (c .before .before .before .before .before .before .x .given .1) at (c .before .before .before .before .before .before .before .before .open .ensures)) .0))
+returns-2 c =
+    let at-finish2 = c .before .before in
+    let at-x = at-finish2 .before .before .before .before in
+    let at-open = at-x .before .before in
+    let at-if1 = at-open .before in
+    let at-is-sound = at-if1 .before in
+    let start = at-is-sound .before .before .before .before in
+    rw (at-finish2 .finish2 .ensures .0, at-finish2 .before .refused2 .ensures)
+    (not-opened-is (now (start .args .image)) (now (start .args .path)) (length (now (start .args .list))) _ (at-finish2 .finish2 .ensures .1)
+    (at-is-sound .is-sound .ensures .sound (not-false _ (at-if1 .if1 .left))) _ ((rw (at-x .x .given .1) at (at-open .open .ensures)) .0))
 
 same-length-3 : tie.Need-same-length-3
 same-length-3 c = search needs
 
 returns-3 : tie.Need-returns-3
-returns-3 c = rw (c .before .before .finish3 .ensures .0) (opened-is (now (c .before .before .before .before .before .before .before .before .before .before .before .before .before .before .before .before .before .args .image)) (now (c .before .before .before .before .before .before .before .before .before .before .before .before .before .before .before .before .before .args .path)) (length (now (c .before .before .before .before .before .before .before .before .before .before .before .before .before .before .before .before .before .args .list))) _ (c .before .before .finish3 .ensures .1 ∙ ap (λ (n : ℕ). replicate n 0) (c .before .before .before .before .before .before .locate .kept .1 .1 .0)) (c .before .before .before .before .before .before .before .before .before .before .before .before .before .is-sound .ensures .sound (not-false _ (c .before .before .before .before .before .before .before .before .before .before .before .before .if1 .left))) (c .before .before .before .before .before .before .before .before .before .s .given .0 .0) _ ((rw (c .before .before .before .before .before .before .before .before .before .s .given .1) at (c .before .before .before .before .before .before .before .before .before .before .before .open .ensures)) .0) (c .before .before .before .before .before .before .locate .ensures))
+returns-3 c =
+    let at-finish3 = c .before .before in
+    let at-locate = at-finish3 .before .before .before .before in
+    let at-s = at-locate .before .before .before in
+    let at-open = at-s .before .before in
+    let at-if1 = at-open .before in
+    let at-is-sound = at-if1 .before in
+    let start = at-is-sound .before .before .before .before in
+    rw (at-finish3 .finish3 .ensures .0)
+    (opened-is (now (start .args .image)) (now (start .args .path)) (length (now (start .args .list))) _
+    (at-finish3 .finish3 .ensures .1 ∙ ap (λ (n : ℕ). replicate n 0) (at-locate .locate .kept .1 .1 .0))
+    (at-is-sound .is-sound .ensures .sound (not-false _ (at-if1 .if1 .left))) (at-s .s .given .0 .0) _
+    ((rw (at-s .s .given .1) at (at-open .open .ensures)) .0) (at-locate .locate .ensures))
 
 pub lookup-spec : {M : Type 1} → statement M
 lookup-spec =

@@ -17,15 +17,17 @@ same-length c = search needs
 
 returns : tie.Need-returns
 returns c =
-    let s = c .before .before .before .before .before .before .before .before .before .before in
-    let known = rw (not-true (c .before .before .before .not-committed .result) (c .if1 .taken)) at (c .before .before .before .not-committed .ensures) in
-    shared-before _ _ _ _ _ _ _ _ _ (s .pre .0) _ _ (dataset _ _ _) refl _ known
+    let at-not-committed = c .before .before .before in
+    let start = at-not-committed .before .before .before .before .before .before .before in
+    let known = rw (not-true (at-not-committed .not-committed .result) (c .if1 .taken)) at (at-not-committed .not-committed .ensures) in
+    shared-before _ _ _ _ _ _ _ _ _ (start .pre .0) _ _ (dataset _ _ _) refl _ known
 
 read-dataset-requires : tie.Need-read-dataset-requires
 read-dataset-requires c κs =
-    let s = c .before .before .before .before .before .before .before .before .before .before .before .before .before .before in
-    let known = c .before .before .before .before .before .before .before .not-committed .ensures in
-    (listed-marked (s .pre .0) (known .marksSame), s .pre .1 .0)
+    let at-not-committed = c .before .before .before .before .before .before .before in
+    let start = at-not-committed .before .before .before .before .before .before .before in
+    let known = at-not-committed .not-committed .ensures in
+    (listed-marked (start .pre .0) (known .marksSame), start .pre .1 .0)
 
 same-length-2 : tie.Need-same-length-2
 same-length-2 c = search needs
@@ -41,14 +43,13 @@ same-length-5 c = search needs
 
 returns-2 : tie.Need-returns-2
 returns-2 c =
-    let s = c .before .before .before .before .before .before .before .before .before .before .before .before .before .before .before .before .before .before
-    .before .before .before .before .before in
-    let read = c .before .before .before .before .before .before .before .before in
-    let known = rw (not-false (c .before .before .before .before .before .before .before .before .before .before .before .before .before .before .before
-    .before .not-committed .result) (c .before .before .before .before .before .before .before .before .before .before .before .before .before .if1
-    .left)) at (c .before .before .before .before .before .before .before .before .before .before .before .before .before .before .before .before
-    .not-committed .ensures) in
-    not-shared _ _ _ _ _ _ _ _ _ (s .pre .0) _ _ (dataset _ _ _) refl _ known _ _ _ _ _ (read .read-dataset .ensures)
+    let at-read-dataset = c .before .before .before .before .before .before .before .before in
+    let at-if1 = at-read-dataset .before .before .before .before .before in
+    let at-not-committed = at-if1 .before .before .before in
+    let start = at-not-committed .before .before .before .before .before .before .before in
+    let known = rw (not-false (at-not-committed .not-committed .result) (at-if1 .if1
+    .left)) at (at-not-committed .not-committed .ensures) in
+    not-shared _ _ _ _ _ _ _ _ _ (start .pre .0) _ _ (dataset _ _ _) refl _ known _ _ _ _ _ (at-read-dataset .read-dataset .ensures)
 
 pub known-dataset-spec : {M : Type 1} → statement M
 known-dataset-spec =

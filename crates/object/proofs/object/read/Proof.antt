@@ -21,15 +21,16 @@ enum-known-header-3 c = search needs
 
 known-dataset-requires : tie.Need-known-dataset-requires
 known-dataset-requires c κs =
-    let read = c .before .before .before .before .before .before .before .before .before .before .before .before .before .before .before in
-    let s = read .before .before .before .before .before .before .before .before .before .before in
-    let known = rw (c .before .before .before .before .before .header3 .given .1) at (read .read-with .ensures .walked) in
-    let same = read .read-with .kept .1 .0 in
-    let counting = rw (c .before .before .before .before .before .header3 .given .1) at (read .read-with .ensures .counting) in
-    let bodies = rw (c .before .before .before .before .before .header3 .given .1) at (read .read-with .ensures .bodies) in (
-      (listed-less (kind-listed _ (s .args .superblock) _ _ _ _ _ _ _ (s .pre .1 .0) (s .args .i) _ _ _ _ _ _ _ _ same known 16 (counting refl)) 1
+    let at-header3 = c .before .before .before .before .before in
+    let at-read-with = at-header3 .before .before .before .before .before .before .before .before .before .before in
+    let start = at-read-with .before .before .before .before .before .before .before .before .before .before in
+    let known = rw (at-header3 .header3 .given .1) at (at-read-with .read-with .ensures .walked) in
+    let same = at-read-with .read-with .kept .1 .0 in
+    let counting = rw (at-header3 .header3 .given .1) at (at-read-with .read-with .ensures .counting) in
+    let bodies = rw (at-header3 .header3 .given .1) at (at-read-with .read-with .ensures .bodies) in (
+      (listed-less (kind-listed _ (start .args .superblock) _ _ _ _ _ _ _ (start .pre .1 .0) (start .args .i) _ _ _ _ _ _ _ _ same known 16 (counting refl)) 1
           (omega arith)),
-      (record { spaceInside = bodies .0; typeInside = bodies .1; layoutInside = bodies .2 }, s .pre .1 .1),
+      (record { spaceInside = bodies .0; typeInside = bodies .1; layoutInside = bodies .2 }, start .pre .1 .1),
     )
 
 enum-known-header-4 : tie.Need-enum-known-header-4
@@ -37,16 +38,18 @@ enum-known-header-4 c = search needs
 
 known-group-requires : tie.Need-known-group-requires
 known-group-requires c κs =
-    let read = c .before .before .before .before .before .before .before .before .before .before .before .before .before .before .before in
-    let s = read .before .before .before .before .before .before .before .before .before .before in
-    let known = rw (c .before .before .before .before .before .header4 .given .1) at (read .read-with .ensures .walked) in
-    let same = read .read-with .kept .1 .0 in
-    let counting = rw (c .before .before .before .before .before .header4 .given .1) at (read .read-with .ensures .counting) in (
-      s .pre .0,
+    let at-header4 = c .before .before .before .before .before in
+    let at-read-with = at-header4 .before .before .before .before .before .before .before .before .before .before in
+    let start = at-read-with .before .before .before .before .before .before .before .before .before .before in
+    let known = rw (at-header4 .header4 .given .1) at (at-read-with .read-with .ensures .walked) in
+    let same = at-read-with .read-with .kept .1 .0 in
+    let counting = rw (at-header4 .header4 .given .1) at (at-read-with .read-with .ensures .counting) in (
+      start .pre .0,
       (
-        (listed-less (kind-listed _ (s .args .superblock) _ _ _ _ _ _ _ (s .pre .1 .0) (s .args .i) _ _ _ _ _ _ _ _ same known 16 (counting refl)) 0
+        (listed-less (kind-listed _ (start .args .superblock) _ _ _ _ _ _ _ (start .pre .1 .0) (start .args .i) _ _ _ _ _ _ _ _ same known 16 (counting refl))
+            0
             (omega arith)),
-        s .pre .1 .1,
+        start .pre .1 .1,
       ),
     )
 
@@ -64,11 +67,11 @@ same-length-4 c = search needs
 
 returns : tie.Need-returns
 returns c =
-    let read = c .before .before .before .before .before .before .before .before .before .before .before in
-    let s = read .before .before .before .before .before .before .before .before .before .before in
-    let known = rw (c .before .header .given .1) at (read .read-with .ensures .walked) in
-    let same = read .read-with .kept .1 .0 in
-    header-stopped _ _ _ _ _ _ _ _ _ (s .pre .1 .0) _ _ _ _ _ _ _ known
+    let at-read-with = c .before .before .before .before .before .before .before .before .before .before .before in
+    let start = at-read-with .before .before .before .before .before .before .before .before .before .before in
+    let known = rw (c .before .header .given .1) at (at-read-with .read-with .ensures .walked) in
+    let same = at-read-with .read-with .kept .1 .0 in
+    header-stopped _ _ _ _ _ _ _ _ _ (start .pre .1 .0) _ _ _ _ _ _ _ known
 
 same-length-5 : tie.Need-same-length-5
 same-length-5 c = search needs
@@ -84,20 +87,23 @@ same-length-8 c = search needs
 
 returns-2 : tie.Need-returns-2
 returns-2 c =
-    let read = c .before .before .before .before .before .before .before .before .before .before .before in
-    let s = read .before .before .before .before .before .before .before .before .before .before in
-    let known = rw (c .before .header2 .given .1) at (read .read-with .ensures .walked) in
-    let same = read .read-with .kept .1 .0 in
-    let counting = rw (c .before .header2 .given .1) at (read .read-with .ensures .counting) in
-    committed-read _ _ _ _ _ _ _ _ _ (s .pre .1 .0) _ _ _ _ _ _ _ _ same known 16 (counting refl)
+    let at-read-with = c .before .before .before .before .before .before .before .before .before .before .before in
+    let start = at-read-with .before .before .before .before .before .before .before .before .before .before in
+    let known = rw (c .before .header2 .given .1) at (at-read-with .read-with .ensures .walked) in
+    let same = at-read-with .read-with .kept .1 .0 in
+    let counting = rw (c .before .header2 .given .1) at (at-read-with .read-with .ensures .counting) in
+    committed-read _ _ _ _ _ _ _ _ _ (start .pre .1 .0) _ _ _ _ _ _ _ _ same known 16 (counting refl)
 
 same-length-9 : tie.Need-same-length-9
-same-length-9 c = omega (
-  arith,
-  c .before .before .before .before .before .before .before .before .known-dataset .kept .1 .0,
-  c .before .before .before .before .before .before .before .before .before .before .before .before .before .before .before .before .before .before .before
-      .before .before .before .before .before .read-with .kept .1 .0,
-)
+same-length-9 c =
+    let at-known-dataset = c .before .before .before .before .before .before .before .before in
+    let at-read-with = at-known-dataset .before .before .before .before .before .before .before .before .before .before .before .before .before .before
+    .before .before in
+    omega (
+      arith,
+      at-known-dataset .known-dataset .kept .1 .0,
+      at-read-with .read-with .kept .1 .0,
+    )
 
 same-length-10 : tie.Need-same-length-10
 same-length-10 c = search needs
@@ -110,14 +116,15 @@ same-length-12 c = search needs
 
 returns-3 : tie.Need-returns-3
 returns-3 c =
-    let read = c .before .before .before .before .before .before .before .before .before .before .before .before .before .before .before .before .before
-    .before .before .before .before .before .before .before in
-    let s = read .before .before .before .before .before .before .before .before .before .before in
-    let known = rw (c .before .before .before .before .before .before .before .before .before .before .before .before .before .before .header3 .given .1) at
-    (read .read-with .ensures .walked) in
-    let same = read .read-with .kept .1 .0 in
-    kind-read _ _ _ _ _ _ _ _ _ (s .pre .1 .0) _ _ _ _ _ _ _ _ _ same known _ _ _ _ _
-    (c .before .before .before .before .before .before .before .before .known-dataset .ensures)
+    let at-known-dataset = c .before .before .before .before .before .before .before .before in
+    let at-header3 = at-known-dataset .before .before .before .before .before .before in
+    let at-read-with = at-header3 .before .before .before .before .before .before .before .before .before .before in
+    let start = at-read-with .before .before .before .before .before .before .before .before .before .before in
+    let known = rw (at-header3 .header3 .given .1) at
+    (at-read-with .read-with .ensures .walked) in
+    let same = at-read-with .read-with .kept .1 .0 in
+    kind-read _ _ _ _ _ _ _ _ _ (start .pre .1 .0) _ _ _ _ _ _ _ _ _ same known _ _ _ _ _
+    (at-known-dataset .known-dataset .ensures)
 
 same-length-13 : tie.Need-same-length-13
 same-length-13 c = search needs
@@ -133,14 +140,15 @@ same-length-16 c = search needs
 
 returns-4 : tie.Need-returns-4
 returns-4 c =
-    let read = c .before .before .before .before .before .before .before .before .before .before .before .before .before .before .before .before .before
-    .before .before .before .before .before .before .before in
-    let s = read .before .before .before .before .before .before .before .before .before .before in
-    let known = rw (c .before .before .before .before .before .before .before .before .before .before .before .before .before .before .header4 .given .1) at
-    (read .read-with .ensures .walked) in
-    let same = read .read-with .kept .1 .0 in
-    kind-read _ _ _ _ _ _ _ _ _ (s .pre .1 .0) _ _ _ _ _ _ _ _ _ same known _ _ _ _ _
-    (c .before .before .before .before .before .before .before .before .known-group .ensures)
+    let at-known-group = c .before .before .before .before .before .before .before .before in
+    let at-header4 = at-known-group .before .before .before .before .before .before in
+    let at-read-with = at-header4 .before .before .before .before .before .before .before .before .before .before in
+    let start = at-read-with .before .before .before .before .before .before .before .before .before .before in
+    let known = rw (at-header4 .header4 .given .1) at
+    (at-read-with .read-with .ensures .walked) in
+    let same = at-read-with .read-with .kept .1 .0 in
+    kind-read _ _ _ _ _ _ _ _ _ (start .pre .1 .0) _ _ _ _ _ _ _ _ _ same known _ _ _ _ _
+    (at-known-group .known-group .ensures)
 
 pub read-spec : {M : Type 1} → statement M
 read-spec =

@@ -21,8 +21,8 @@ enum-known-parts c = search needs
 
 share-type-requires : tie.Need-share-type-requires
 share-type-requires c κs =
-    let s = c .before .before .before .before .before .before .before .before .before .before .before .before in
-    counting-tables true _ _ _ _ _ _ _ 1 (λ _. s .pre .0 .counting) refl
+    let start = c .before .before .before .before .before .before .before .before .before .before .before .before in
+    counting-tables true _ _ _ _ _ _ _ 1 (λ _. start .pre .0 .counting) refl
 
 enum-known-n : tie.Need-enum-known-n
 enum-known-n c = search needs
@@ -35,15 +35,15 @@ enum-known-shared c = search needs
 
 read-storage-requires : tie.Need-read-storage-requires
 read-storage-requires c κs =
-    let s = c .before .before .before .before .before .before .before .before .before .before .before .before .before .before .before .before .before .before
-    .before .before .before .before .before in (
-      s .pre .0 .lent,
+    let at-parts = c .before .before .before .before .before .before .before .before .before .before .before .before .before .before .before in
+    let at-read-parts = at-parts .before .before in
+    let start = at-read-parts .before .before .before .before .before .before in (
+      start .pre .0 .lent,
       record {
-        spaceInside = s .pre .1 .spaceInside;
-        layoutInside = s .pre .1 .layoutInside;
-        shaped = rw (c .before .before .before .before .before .before .before .before .before .before .before .before .before .before .before .parts .given
-            .1) at (c .before .before .before .before .before .before .before .before .before .before .before .before .before .before .before .before .before
-            .read-parts .ensures .1);
+        spaceInside = start .pre .1 .spaceInside;
+        layoutInside = start .pre .1 .layoutInside;
+        shaped = rw (at-parts .parts .given
+            .1) at (at-read-parts .read-parts .ensures .1);
       },
     )
 
@@ -55,8 +55,8 @@ enum-known-n-2 c = search needs
 
 returns : tie.Need-returns
 returns c =
-    let s = c .before .before .before .before .before .before .before .before .before in
-    parts-refused _ _ _ _ _ _ _ _ _ (s .pre .0) _ _ _ _ (rw (c .before .x .given .1) at (c .before .before .before .read-parts .ensures .0))
+    let start = c .before .before .before .before .before .before .before .before .before in
+    parts-refused _ _ _ _ _ _ _ _ _ (start .pre .0) _ _ _ _ (rw (c .before .x .given .1) at (c .before .before .before .read-parts .ensures .0))
 
 same-length : tie.Need-same-length
 same-length c = search needs
@@ -69,16 +69,17 @@ same-length-3 c = search needs
 
 returns-2 : tie.Need-returns-2
 returns-2 c =
-    let s = c .before .before .before .before .before .before .before .before .before .before .before .before .before .before .before .before .before .before
-    .before .before .before .before .before in
-    let share = c .before .before .before .before .before .before .before .before .before .before in
+    let at-share-type = c .before .before .before .before .before .before .before .before .before .before in
+    let at-parts = at-share-type .before .before .before .before .before in
+    let at-read-parts = at-parts .before .before in
+    let start = at-read-parts .before .before .before .before .before .before in
     rw (c .head-of .ensures)
-    (sharing-refused _ _ _ _ _ _ _ _ _ (s .pre .0) _ _ _ (partsOf (bodyOf (now (s .args .image)) (s .args .space))
-    (c .before .before .before .before .before .before .before .before .before .before .before .before .before .before .before .parts .given .0 .0))
-    (rw (c .before .before .before .before .before .before .before .before .before .before .before .before .before .before .before .parts .given .1) at
-    (c .before .before .before .before .before .before .before .before .before .before .before .before .before .before .before .before .before .read-parts
+    (sharing-refused _ _ _ _ _ _ _ _ _ (start .pre .0) _ _ _ (partsOf (bodyOf (now (start .args .image)) (start .args .space))
+    (at-parts .parts .given .0 .0))
+    (rw (at-parts .parts .given .1) at
+    (at-read-parts .read-parts
     .ensures .0)) _ _ _ _
-    (rw (c .before .before .n .given .1) at (share .share-type .ensures .walk)))
+    (rw (c .before .before .n .given .1) at (at-share-type .share-type .ensures .walk)))
 
 same-length-4 : tie.Need-same-length-4
 same-length-4 c = search needs
@@ -94,17 +95,17 @@ same-length-7 c = search needs
 
 returns-3 : tie.Need-returns-3
 returns-3 c =
-    let s = c .before .before .before .before .before .before .before .before .before .before .before .before .before .before .before .before .before .before
-    .before .before .before .before .before .before .before .before .before .before .before in
-    let share = c .before .before .before .before .before .before .before .before .before .before .before .before .before .before .before .before in
-    storage-stopped _ _ _ _ _ _ _ _ _ (s .pre .0) _ _ _ (partsOf (bodyOf (now (s .args .image)) (s .args .space))
-    (c .before .before .before .before .before .before .before .before .before .before .before .before .before .before .before .before .before .before
-    .before .before .before .parts .given .0 .0)) (rw (c .before .before .before .before .before .before .before .before .before .before .before .before
-    .before .before .before .before .before .before .before .before .before .parts .given .1) at
-    (c .before .before .before .before .before .before .before .before .before .before .before .before .before .before .before .before .before .before
-    .before .before .before .before .before .read-parts .ensures .0)) _ _ _ _
-    (rw (c .before .before .before .before .before .before .before .before .shared .given .1) at (share .share-type .ensures .walk)) _ _
-    (rw (c .before .x2 .given .1) at (c .before .before .before .before .before .read-storage .ensures .0))
+    let at-read-storage = c .before .before .before .before .before in
+    let at-shared = at-read-storage .before .before .before in
+    let at-share-type = at-shared .before .before .before .before .before .before .before .before in
+    let at-parts = at-share-type .before .before .before .before .before in
+    let at-read-parts = at-parts .before .before in
+    let start = at-read-parts .before .before .before .before .before .before in
+    storage-stopped _ _ _ _ _ _ _ _ _ (start .pre .0) _ _ _ (partsOf (bodyOf (now (start .args .image)) (start .args .space))
+    (at-parts .parts .given .0 .0)) (rw (at-parts .parts .given .1) at
+    (at-read-parts .read-parts .ensures .0)) _ _ _ _
+    (rw (at-shared .shared .given .1) at (at-share-type .share-type .ensures .walk)) _ _
+    (rw (c .before .x2 .given .1) at (at-read-storage .read-storage .ensures .0))
 
 same-length-8 : tie.Need-same-length-8
 same-length-8 c = search needs
@@ -120,19 +121,19 @@ same-length-11 c = search needs
 
 returns-4 : tie.Need-returns-4
 returns-4 c =
-    let s = c .before .before .before .before .before .before .before .before .before .before .before .before .before .before .before .before .before .before
-    .before .before .before .before .before .before .before .before .before .before .before in
-    let share = c .before .before .before .before .before .before .before .before .before .before .before .before .before .before .before .before in
-    storage-read _ _ _ _ _ _ _ _ _ (s .pre .0) _ _ _ (partsOf (bodyOf (now (s .args .image)) (s .args .space))
-    (c .before .before .before .before .before .before .before .before .before .before .before .before .before .before .before .before .before .before
-    .before .before .before .parts .given .0 .0)) (rw (c .before .before .before .before .before .before .before .before .before .before .before .before
-    .before .before .before .before .before .before .before .before .before .parts .given .1) at
-    (c .before .before .before .before .before .before .before .before .before .before .before .before .before .before .before .before .before .before
-    .before .before .before .before .before .read-parts .ensures .0)) _ _ _ _
-    (rw (c .before .before .before .before .before .before .before .before .shared .given .1) at (share .share-type .ensures .walk)) _ _ _
-    (c .before .before .before .before .before .read-storage .kept .1 .1 .0)
-    (rw (c .before .n2 .given .1) at (c .before .before .before .before .before .read-storage .ensures .0))
-    (rw (c .before .before .before .before .before .before .before .before .shared .given .1) at (share .share-type .ensures .kept))
+    let at-read-storage = c .before .before .before .before .before in
+    let at-shared = at-read-storage .before .before .before in
+    let at-share-type = at-shared .before .before .before .before .before .before .before .before in
+    let at-parts = at-share-type .before .before .before .before .before in
+    let at-read-parts = at-parts .before .before in
+    let start = at-read-parts .before .before .before .before .before .before in
+    storage-read _ _ _ _ _ _ _ _ _ (start .pre .0) _ _ _ (partsOf (bodyOf (now (start .args .image)) (start .args .space))
+    (at-parts .parts .given .0 .0)) (rw (at-parts .parts .given .1) at
+    (at-read-parts .read-parts .ensures .0)) _ _ _ _
+    (rw (at-shared .shared .given .1) at (at-share-type .share-type .ensures .walk)) _ _ _
+    (at-read-storage .read-storage .kept .1 .1 .0)
+    (rw (c .before .n2 .given .1) at (at-read-storage .read-storage .ensures .0))
+    (rw (at-shared .shared .given .1) at (at-share-type .share-type .ensures .kept))
 
 pub read-dataset-spec : {M : Type 1} → statement M
 read-dataset-spec =

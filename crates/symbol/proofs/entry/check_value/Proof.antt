@@ -33,14 +33,16 @@ returns-2 c =
     let value = c .before .before .before .before in
     let a = value .before .before .before .before .before .args in
     let two : a .kind ≡ 2 = omega arith in
-    value-refused _ _ _ _ _ _ two (value .before .u32-at .result) (value .before .u32-at .ensures .value) (c .before .before .f .given .0 .0) _ (c .fault-number .ensures) (same-read (c .before .before .f .given .1) (value .value .ensures) .value)
+    value-refused _ _ _ _ _ _ two (value .before .u32-at .result) (value .before .u32-at .ensures .value) (c .before .before .f .given .0 .0) _
+    (c .fault-number .ensures) (same-read (c .before .before .f .given .1) (value .value .ensures) .value)
 
 returns-3 : tie.Need-returns-3
 returns-3 c =
     let value = c .before .before in
     let a = value .before .before .before .before .before .args in
     let two : a .kind ≡ 2 = omega arith in
-    value-read _ _ _ _ _ _ two (value .before .u32-at .result) (value .before .u32-at .ensures .value) _ (same-read (c .enum-told .given .1) (value .value .ensures) .value)
+    value-read _ _ _ _ _ _ two (value .before .u32-at .result) (value .before .u32-at .ensures .value) _
+    (same-read (c .enum-told .given .1) (value .value .ensures) .value)
 
 pub check-value-spec : {M : Type 1} → statement M
 check-value-spec =

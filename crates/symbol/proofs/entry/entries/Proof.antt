@@ -8,7 +8,8 @@ use Rattle.symbol.proofs.entry.entries.Statement.{statement}
 use Rattle.symbol.proofs.entry.entries.Tie as tie
 
 abbrev Inv-loop : tie.InvT-loop
-Inv-loop image segment wanted addresses₀ counts₀ group range from n i₀ s₀ addresses counts i s = Reading image segment wanted addresses₀ counts₀ group range from n s₀ addresses counts i s
+Inv-loop image segment wanted addresses₀ counts₀ group range from n i₀ s₀ addresses counts i s =
+    Reading image segment wanted addresses₀ counts₀ group range from n s₀ addresses counts i s
 
 abbrev μ-loop : tie.MeasureT-loop
 μ-loop image segment wanted addresses₀ counts₀ group range from n i₀ s₀ addresses counts i s = n - i
@@ -26,8 +27,14 @@ one-entry-requires : tie.Need-one-entry-requires Inv-loop μ-loop
 one-entry-requires c κs =
     let loop = c .before .before .before in
     let s = loop .before .before .before .before .before .before in
-    let kept = loop .loop .inv .kept in
-    (omega (arith, s .pre .0), (record { chained = s .pre .1 .0 .chained; range = s .pre .1 .0 .range; last = kept .last; table = kept .table }, links-fit _ _ _ _ (kept .links) (s .pre .1 .1) (c .before .before .loop-test .taken)))
+    let kept = loop .loop .inv .kept in (
+      omega (arith, s .pre .0),
+      (
+        record { chained = s .pre .1 .0 .chained; range = s .pre .1 .0 .range; last = kept .last; table = kept .table },
+        links-fit _ _
+            _ _ (kept .links) (s .pre .1 .1) (c .before .before .loop-test .taken),
+      ),
+    )
 
 enum-known-x : tie.Need-enum-known-x Inv-loop μ-loop
 enum-known-x c = search needs
@@ -47,7 +54,8 @@ returns c =
     let x = c .before in
     let entry = x .before .before .before .before .before .before in
     let loop = entry .before .before .before .before in
-    reading-refused _ _ _ _ _ _ _ _ _ _ _ _ _ _ (loop .loop .inv) (entry .before .before .before .loop-test .taken) _ _ _ (same-entry (x .x .given .1) (entry .one-entry .ensures))
+    reading-refused _ _ _ _ _ _ _ _ _ _ _ _ _ _ (loop .loop .inv) (entry .before .before .before .loop-test .taken) _ _ _
+    (same-entry (x .x .given .1) (entry .one-entry .ensures))
 
 enum-known-next : tie.Need-enum-known-next Inv-loop μ-loop
 enum-known-next c = search needs
@@ -63,7 +71,8 @@ loop-again c =
     let next = c .before in
     let entry = next .before .before .before .before .before .before in
     let loop = entry .before .before .before .before in
-    reading-again _ _ _ _ _ _ _ _ _ _ _ _ _ _ (loop .loop .inv) (entry .before .before .before .loop-test .taken) _ _ _ (same-entry (next .next .given .1) (entry .one-entry .ensures)) (entry .one-entry .kept .1 .1 .1 .0) (entry .one-entry .kept .1 .1 .1 .1 .0)
+    reading-again _ _ _ _ _ _ _ _ _ _ _ _ _ _ (loop .loop .inv) (entry .before .before .before .loop-test .taken) _ _ _
+    (same-entry (next .next .given .1) (entry .one-entry .ensures)) (entry .one-entry .kept .1 .1 .1 .0) (entry .one-entry .kept .1 .1 .1 .1 .0)
 
 same-length-3 : tie.Need-same-length-3 Inv-loop μ-loop
 same-length-3 c = c .before .loop .inv .addressesSame

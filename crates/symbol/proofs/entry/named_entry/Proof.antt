@@ -12,17 +12,21 @@ use Rattle.symbol.proofs.entry.named_entry.Statement.{statement}
 use Rattle.symbol.proofs.entry.named_entry.Tie as tie
 
 -- the name is above the last one, and in the range
-rises : (c : tie.Else1) → let a = c .before .before .before .before .before .before .before .before .args in true ≡ below (nameIn (now (a .segment)) (a .state .last)) (nameIn (now (a .segment)) (a .name))
+rises : (c : tie.Else1) → let a = c .before .before .before .before .before .before .before .before .args in true ≡ below
+    (nameIn (now (a .segment)) (a .state .last)) (nameIn (now (a .segment)) (a .name))
 rises c = sym (not-false _ (c .if1 .left)) ∙ c .before .name-below .ensures
 
-held : (c : tie.Else2) → let a = c .before .before .before .before .before .before .before .before .before .before .args in true ≡ rangeHolds (now (a .segment)) (a .range) (nameIn (now (a .segment)) (a .name))
+held : (c : tie.Else2) → let a = c .before .before .before .before .before .before .before .before .before .before .args in true ≡ rangeHolds
+    (now (a .segment)) (a .range) (nameIn (now (a .segment)) (a .name))
 held c = sym (not-false _ (c .if2 .left)) ∙ c .before .holds .ensures
 
 name-below-requires : tie.Need-name-below-requires
 name-below-requires c κs = search needs
 
 returns : tie.Need-returns
-returns c = order-refused _ _ _ _ _ _ _ _ _ _ _ _ (c .before .before .before .before .before .before .before .before .pre .1 .1 .1) (sym (not-true _ (c .if1 .taken)) ∙ c .before .name-below .ensures)
+returns c =
+    order-refused _ _ _ _ _ _ _ _ _ _ _ _ (c .before .before .before .before .before .before .before .before .pre .1 .1 .1)
+    (sym (not-true _ (c .if1 .taken)) ∙ c .before .name-below .ensures)
 
 holds-requires : tie.Need-holds-requires
 holds-requires c κs = search needs
@@ -44,7 +48,8 @@ returns-3 c =
     let two = c .before .before in
     let one = two .before .before in
     let s = one .before .before .before .before .before .before .before .before in
-    type-refused _ _ _ _ _ _ _ _ _ _ _ _ (s .pre .1 .1 .1) (rises one) (held two) (c .before .u32-at .result) (c .before .u32-at .ensures .value) (c .if3 .taken)
+    type-refused _ _ _ _ _ _ _ _ _ _ _ _ (s .pre .1 .1 .1) (rises one) (held two) (c .before .u32-at .result) (c .before .u32-at .ensures .value)
+    (c .if3 .taken)
 
 check-value-requires : tie.Need-check-value-requires
 check-value-requires c κs = search needs
@@ -89,7 +94,8 @@ returns-4 c =
     let two = three .before .before in
     let one = two .before .before in
     let s = one .before .before .before .before .before .before .before .before in
-    link-refused _ _ _ _ _ _ _ _ _ _ _ _ (s .pre .1 .1 .1) (rises one) (held two) (three .before .u32-at .result) (three .before .u32-at .ensures .value) (three .if3 .left) _
+    link-refused _ _ _ _ _ _ _ _ _ _ _ _ (s .pre .1 .1 .1) (rises one) (held two) (three .before .u32-at .result) (three .before .u32-at .ensures .value)
+    (three .if3 .left) _
     (same-value _ _ _ _ _ _ (c .before .n .given .1) (value .check-value .ensures))
 
 same-length : tie.Need-same-length
@@ -108,7 +114,8 @@ returns-5 c =
     let two = three .before .before in
     let one = two .before .before in
     let s = one .before .before .before .before .before .before .before .before in
-    visit-refused _ _ _ _ _ _ _ _ _ _ _ _ (s .pre .1 .1 .1) (rises one) (held two) (three .before .u32-at .result) (three .before .u32-at .ensures .value) (three .if3 .left)
+    visit-refused _ _ _ _ _ _ _ _ _ _ _ _ (s .pre .1 .1 .1) (rises one) (held two) (three .before .u32-at .result) (three .before .u32-at .ensures .value)
+    (three .if3 .left)
     (same-value _ _ _ _ _ _ (sound .enum-told .given .1) (value .check-value .ensures)) (header .u64-at .result) (header .u64-at .ensures .value)
     (same-visit (part-between (now (s .args .segment)) (s .args .name .at) (s .args .name .size)) (c .enum-told2 .given .1) (visit .visit-entry .ensures))
 
@@ -128,7 +135,8 @@ returns-6 c =
     let two = three .before .before in
     let one = two .before .before in
     let s = one .before .before .before .before .before .before .before .before in
-    visited _ _ _ _ _ _ _ _ _ _ _ _ (s .pre .1 .1 .1) (rises one) (held two) (three .before .u32-at .result) (three .before .u32-at .ensures .value) (three .if3 .left)
+    visited _ _ _ _ _ _ _ _ _ _ _ _ (s .pre .1 .1 .1) (rises one) (held two) (three .before .u32-at .result) (three .before .u32-at .ensures .value)
+    (three .if3 .left)
     (same-value _ _ _ _ _ _ (sound .enum-told .given .1) (value .check-value .ensures)) (header .u64-at .result) (header .u64-at .ensures .value) _ _
     (same-visit (part-between (now (s .args .segment)) (s .args .name .at) (s .args .name .size)) (c .before .objects .given .1) (visit .visit-entry .ensures))
 

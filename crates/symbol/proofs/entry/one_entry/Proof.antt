@@ -31,12 +31,14 @@ enum-known-n : tie.Need-enum-known-n
 enum-known-n c = search needs
 
 named-entry-requires : tie.Need-named-entry-requires
-named-entry-requires c κs = let s = c .before .before .before .before .before .before .before .before .before .before .before .before in (s .pre .0, (s .pre .1 .0, (s .pre .1 .1, named (c .before .before .before))))
+named-entry-requires c κs = let s = c .before .before .before .before .before .before .before .before .before .before .before .before in
+    (s .pre .0, (s .pre .1 .0, (s .pre .1 .1, named (c .before .before .before))))
 
 returns : tie.Need-returns
 returns c =
     let name = c .before .before .before .before in
-    name-refused _ _ _ _ _ _ _ _ _ _ _ (name .before .u64-at .result) (name .before .u64-at .ensures .value) (c .before .before .f .given .0 .0) _ (c .fault-number .ensures) (same-read (c .before .before .f .given .1) (name .name .ensures) .value)
+    name-refused _ _ _ _ _ _ _ _ _ _ _ (name .before .u64-at .result) (name .before .u64-at .ensures .value) (c .before .before .f .given .0 .0) _
+    (c .fault-number .ensures) (same-read (c .before .before .f .given .1) (name .name .ensures) .value)
 
 same-length : tie.Need-same-length
 same-length c = search needs

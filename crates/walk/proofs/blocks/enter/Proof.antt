@@ -1,16 +1,34 @@
 -- Each return rewrites with the answer that the tests before it lead to.
 use Prim.Native.Nat.{_+_, _≤_, _<_}
-use mathlib.Core.Path.{_≡_, refl, sym, _∙_}
+use mathlib.Core.Path.{_≡_, refl}
 use mathlib.Core.Bool.{true, false}
 use lib.ListN.{length, length-set}
 use denote.Ref.{now}
-use Rattle.format.specs.Blocks.{overlapsAny}
+use Rattle.format.specs.Blocks.{overlapsAny, firstMet}
 use Rattle.walk.specs.Lent.{blocksOf}
-use Rattle.walk.proofs.BlockList.{length-blocksOf, entryAnswer-outside, entryAnswer-overlap, entryAnswer-full, entryAnswer-open}
+use Rattle.walk.proofs.BlockList.{length-blocksOf, met-block, met-nothing, entryAnswer-outside, entryAnswer-overlap, entryAnswer-full, entryAnswer-open}
 use native.Mathlib.Omega.{arith}
 use borrow.Author.Needs.{needs}
 use Rattle.walk.proofs.blocks.enter.Statement.{statement}
 use Rattle.walk.proofs.blocks.enter.Tie as tie
+
+-- where the blocks were searched, from the start
+abbrev start : tie.After-first-met → tie.Start
+start c = c .before .before .before .before .before
+
+inside : (c : tie.After-first-met) → let a = start c .args in a .at + a .size ≤ a .end-of-file
+inside c = omega (arith, c .before .before .if2 .left, c .before .before .before .if1 .left)
+
+overlapping : (c : tie.After-b) →
+    let a = start (c .before .before) .args in
+    let blocks = blocksOf (a .count) (now (a .blocks)) in
+    (true ≡ overlapsAny blocks (a .at) (a .size)) × (firstMet blocks (a .at) (a .size) ≡ c .b .given .0 .0)
+overlapping c = met-block _ _ _ _ (rw (c .b .given .1) at (c .before .before .first-met .ensures))
+
+apart : (c : tie.After-enum-told) →
+    let a = start (c .before .before) .args in
+    false ≡ overlapsAny (blocksOf (a .count) (now (a .blocks))) (a .at) (a .size)
+apart c = met-nothing _ _ _ (rw (c .enum-told .given .1) at (c .before .before .first-met .ensures))
 
 not-entered-requires : tie.Need-not-entered-requires
 not-entered-requires c κs = search needs
@@ -30,39 +48,31 @@ returns-2 c =
     let h : a .end-of-file < a .at + a .size = omega arith in
     rw (entryAnswer-outside, c .not-entered2 .ensures) (refl, refl)
 
-overlaps-requires : tie.Need-overlaps-requires
-overlaps-requires c κs = search needs
-
 first-met-requires : tie.Need-first-met-requires
 first-met-requires c κs = search needs
 
+enum-known-b : tie.Need-enum-known-b
+enum-known-b c = search needs
+
 not-entered-requires-3 : tie.Need-not-entered-requires-3
 not-entered-requires-3 c κs = search needs
+
+enum-told : tie.Need-enum-told
+enum-told c = search needs
+
+not-entered-requires-4 : tie.Need-not-entered-requires-4
+not-entered-requires-4 c κs = search needs
 
 same-length : tie.Need-same-length
 same-length c = search needs
 
 returns-3 : tie.Need-returns-3
 returns-3 c =
-    let m = c .before in
-    let t = m .before .before in
-    let a = t .before .before .before .before .before .before .args in
-    let h : a .at + a .size ≤ a .end-of-file = omega arith in
-    let k : true ≡ overlapsAny (blocksOf (a .count) (now (a .blocks))) (a .at) (a .size) = sym (t .if3 .taken) ∙ t .before .overlaps .ensures in
-    rw (entryAnswer-overlap, c .not-entered3 .ensures, m .first-met .ensures) (refl, refl)
-
-not-entered-requires-4 : tie.Need-not-entered-requires-4
-not-entered-requires-4 c κs = search needs
-
-same-length-2 : tie.Need-same-length-2
-same-length-2 c = search needs
-
-returns-4 : tie.Need-returns-4
-returns-4 c =
-    let t = c .before .before in
-    let a = t .before .before .before .before .before .before .args in
-    let h : a .at + a .size ≤ a .end-of-file = omega arith in
-    let k : false ≡ overlapsAny (blocksOf (a .count) (now (a .blocks))) (a .at) (a .size) = sym (t .if3 .left) ∙ t .before .overlaps .ensures in
+    let told = c .before .before in
+    let met = told .before .before in
+    let a = start met .args in
+    let h = inside met in
+    let k = apart told in
     let l : a .room ≤ length (blocksOf (a .count) (now (a .blocks))) = rw length-blocksOf (omega arith) in
     rw (entryAnswer-full, c .not-entered4 .ensures) (refl, refl)
 
@@ -90,14 +100,26 @@ slice-write-blocks-2 c = simp length-set (omega arith)
 add-t20 : tie.Need-add-t20
 add-t20 c = search needs
 
+same-length-2 : tie.Need-same-length-2
+same-length-2 c = search needs
+
+returns-4 : tie.Need-returns-4
+returns-4 c =
+    let found = c .before .before in
+    let h = inside (found .before .before) in
+    let k = overlapping found in
+    rw (entryAnswer-overlap _ _ _ _ _ h (k .0), c .not-entered3 .ensures, k .1) (refl, refl)
+
 same-length-3 : tie.Need-same-length-3
 same-length-3 c = search needs
 
 returns-5 : tie.Need-returns-5
 returns-5 c =
-    let a = c .before .before .before .before .before .before .before .args in
-    let h : a .at + a .size ≤ a .end-of-file = omega arith in
-    let k : false ≡ overlapsAny (blocksOf (a .count) (now (a .blocks))) (a .at) (a .size) = sym (c .before .if3 .left) ∙ c .before .before .overlaps .ensures in
+    let told = c .before in
+    let met = told .before .before in
+    let a = start met .args in
+    let h = inside met in
+    let k = apart told in
     let l : length (blocksOf (a .count) (now (a .blocks))) < a .room = rw length-blocksOf (omega arith) in
     rw entryAnswer-open (refl, refl)
 
@@ -109,14 +131,13 @@ enter-spec =
     returns
     not-entered-requires-2
     returns-2
-    overlaps-requires
     first-met-requires
+    enum-known-b
     not-entered-requires-3
+    enum-told
+    not-entered-requires-4
     same-length
     returns-3
-    not-entered-requires-4
-    same-length-2
-    returns-4
     add-blocks
     mul-blocks
     slice-write-blocks
@@ -125,5 +146,7 @@ enter-spec =
     mul-blocks-2
     slice-write-blocks-2
     add-t20
+    same-length-2
+    returns-4
     same-length-3
     returns-5)

@@ -5,9 +5,9 @@ use mathlib.Core.Logic.{⊎-elim}
 use native.Mathlib.Nat.{sub-zero}
 use lib.ListN.{drop}
 use denote.Ref.{now}
-use Rattle.format.specs.Blocks.{firstMet}
 use Rattle.walk.specs.Lent.{blocksOf}
-use Rattle.walk.proofs.BlockList.{met-hit, met-below, met-above, met-end}
+use Rattle.walk.specs.Met.{met}
+use Rattle.walk.proofs.BlockList.{search-hit, search-below, search-above, search-end}
 use borrow.Author.Needs.{needs}
 use native.Mathlib.Omega.{arith}
 use Rattle.walk.proofs.met.first_met.Statement.{statement}
@@ -15,7 +15,7 @@ use Rattle.walk.proofs.met.first_met.Tie as tie
 
 abbrev Inv-loop : tie.InvT-loop
 Inv-loop blocks count at size end i₀ i =
-    (i ≤ count) × (firstMet (blocksOf count blocks) at size ≡ firstMet (blocksOf (count - i) (drop (i + i) blocks)) at size)
+    (i ≤ count) × (met (blocksOf count blocks) at size ≡ met (blocksOf (count - i) (drop (i + i) blocks)) at size)
 
 abbrev μ-loop : tie.MeasureT-loop
 μ-loop blocks count at size end i₀ i = count - i
@@ -51,13 +51,13 @@ returns : tie.Need-returns Inv-loop μ-loop
 returns c =
     let s = c .before .before .before .before .before in
     let a = s .before .args in
-    met-hit (a .count) (s .loop .i) (now (a .blocks)) (a .at) (a .size) _ (omega arith) (s .loop .inv .1) (omega arith) (omega arith)
+    search-hit (a .count) (s .loop .i) (now (a .blocks)) (a .at) (a .size) _ (omega arith) (s .loop .inv .1) (omega arith) (omega arith)
 
 returns-2 : tie.Need-returns-2 Inv-loop μ-loop
 returns-2 c =
     let s = c .before .before .before .before .before .before in
     let a = s .before .args in
-    met-hit (a .count) (s .loop .i) (now (a .blocks)) (a .at) (a .size) _ (omega arith) (s .loop .inv .1) (omega arith) (omega arith)
+    search-hit (a .count) (s .loop .i) (now (a .blocks)) (a .at) (a .size) _ (omega arith) (s .loop .inv .1) (omega arith) (omega arith)
 
 add-i : tie.Need-add-i Inv-loop μ-loop
 add-i c = search needs
@@ -71,15 +71,15 @@ loop-again c =
     let a = s .before .args in (
       omega arith,
       ⊎-elim
-          (λ w. met-above (a .count) (s .loop .i) (now (a .blocks)) (a .at) (a .size) _ (omega arith) (s .loop .inv .1) (omega arith))
-          (λ w. met-below (a .count) (s .loop .i) (now (a .blocks)) (a .at) (a .size) _ (omega arith) (s .loop .inv .1) (omega arith))
+          (λ w. search-above (a .count) (s .loop .i) (now (a .blocks)) (a .at) (a .size) _ (omega arith) (s .loop .inv .1) (omega arith))
+          (λ w. search-below (a .count) (s .loop .i) (now (a .blocks)) (a .at) (a .size) _ (omega arith) (s .loop .inv .1) (omega arith))
           (c .if1 .came),
     )
 
 returns-3 : tie.Need-returns-3 Inv-loop μ-loop
 returns-3 c =
     let a = c .before .before .args in
-    met-end (a .count) (c .before .loop .i) (now (a .blocks)) (a .at) (a .size) _ (c .loop-test .left) (c .before .loop .inv .1)
+    search-end (a .count) (c .before .loop .i) (now (a .blocks)) (a .at) (a .size) _ (c .loop-test .left) (c .before .loop .inv .1)
 
 pub first-met-spec : {M : Type 1} → statement M
 first-met-spec =

@@ -1,0 +1,108 @@
+-- The lists of numbers are exact: each number is met by its call, most often on file H of document 01 with one byte changed.
+use Prim.Native.Nat.{ℕ, zero, suc, _+_, _*_, _/_, _%_}
+use mathlib.Core.List.{List, [], _∷_, _++_}
+use mathlib.Core.Path.{_≡_}
+use lib.ListN.{set}
+use Rattle.format.specs.Bytes.{toBytes, padded}
+use Rattle.format.specs.Answers.{audit, lookup, describe, mend, undo}
+use Rattle.format.specs.Front.{cAudit, cLookup, cDescribe, cMend, cUndo}
+use Rattle.cases.specs.Files.{ascii, zeros, symbolEntry, superblock, rootHeader, treeNode, heapHeader}
+use Rattle.cases.specs.Table.{soundH, wrongH}
+use Rattle.claims.specs.Numbers.{auditNumbers, lookupNumbers, describeNumbers, mendNumbers, undoNumbers, cUndoNumbers}
+
+-- H with this byte at this place
+abbrev pub changed : ℕ → ℕ → List ℕ
+changed place byte = set soundH place byte
+
+-- the images on which an audit and a lookup of "/a" give 1 to 9: no byte; no signature; superblock version 2; a leaf K of 0; the root's tree
+-- behind the end of file; at the root's header; no TREE; node type 1; a segment of 0 bytes
+abbrev pub faulty : List (List ℕ)
+faulty = [] ∷ zeros 96 ∷ changed 8 2 ∷ changed 16 0 ∷ changed 122 1 ∷ changed 120 96 ∷ changed 136 0 ∷ changed 140 1 ∷ changed 688 0 ∷ []
+
+-- 10: the dataset's header says one message more than there are; 11: 5 elements of 1 byte in 4 bytes
+abbrev pub miscounted : List ℕ
+miscounted = changed 1130 4
+
+abbrev pub misfilled : List ℕ
+misfilled = changed 1160 5
+
+-- 16: the entry "a" is a symbolic link, whose value is the empty string at the heap's offset 0
+abbrev pub linking : List ℕ
+linking = changed 824 2
+
+-- 12: a group with 256 names, of two letters each, for as many addresses; with the root they are 257 objects. n are left, the i-th is next
+unfoldable pub names : ℕ → ℕ → List ℕ
+names zero i = []
+names (suc n) i = (65 + i / 16) ∷ (65 + i % 16) ∷ 0 ∷ names n (i + 1)
+
+unfoldable pub links : ℕ → ℕ → List ℕ
+links zero i = []
+links (suc n) i = symbolEntry (8 + 3 * i) (20000 + i) 0 [] ++ links n (i + 1)
+
+-- leaf K is 129, and the segment at 712 has 776 bytes
+abbrev pub crowded : List ℕ
+crowded =
+    set (superblock 11816 136) 16 129 ++
+    rootHeader ++
+    treeNode 1 (toBytes 8 0 ++ toBytes 8 1488 ++ toBytes 8 773) ++
+    set (set (heapHeader 1 712) 8 8) 9 3 ++
+    (zeros 8 ++ names 256 0) ++
+    (ascii "SNOD" ++ toBytes 1 1 ++ zeros 1 ++ toBytes 2 256 ++ padded (258 * 40) (links 256 0))
+
+-- the images on which an audit gives 0 to 12, and a lookup of "/a" 0 to 10
+abbrev pub auditImages : List (List ℕ)
+auditImages = soundH ∷ faulty ++ (miscounted ∷ misfilled ∷ crowded ∷ [])
+
+abbrev pub lookupImages : List (List ℕ)
+lookupImages = soundH ∷ faulty ++ (miscounted ∷ [])
+
+-- the number that each of these images gives
+unfoldable pub numbersOf : (List ℕ → ℕ) → List (List ℕ) → List ℕ
+numbersOf f [] = []
+numbersOf f (im ∷ ims) = f im ∷ numbersOf f ims
+
+-- for a call's number of an image and the words lent: the numbers of these images, and 13 with room for 7 blocks
+abbrev pub auditMet : (List ℕ → ℕ → ℕ) → List ℕ
+auditMet f = numbersOf (λ im. f im 16) auditImages ++ (f soundH 14 ∷ [])
+
+-- for a call's number of an image, a path and the words lent: the numbers of these images; 13 with room for one block; 14 without a '/' first; 15 for a name
+-- that isn't there; 16 and 17 with a symbolic link and a dataset before the last component
+abbrev pub lookupMet : (List ℕ → List ℕ → ℕ → ℕ) → List ℕ
+lookupMet f =
+    numbersOf (λ im. f im (ascii "/a") 16) lookupImages ++
+    (f soundH (ascii "/a") 2 ∷
+    f soundH (ascii "a") 16 ∷
+    f soundH (ascii "/c") 16 ∷
+    f linking (ascii "/a/b") 16 ∷
+    f soundH (ascii "/a/b") 16 ∷
+    [])
+
+-- these; 11 for 5 elements in 4 bytes, 20 for a group
+abbrev pub describeMet : (List ℕ → List ℕ → ℕ → ℕ) → List ℕ
+describeMet f = lookupMet f ++ (f misfilled (ascii "/a") 16 ∷ f soundH (ascii "/") 16 ∷ [])
+
+-- for a call's number of an image, the words lent and the words of the log: the audit's, and 18 for a log of one word
+abbrev pub mendMet : (List ℕ → ℕ → ℕ → ℕ) → List ℕ
+mendMet f = auditMet (λ im lent. f im lent 2) ++ (f wrongH 16 1 ∷ [])
+
+-- for a call's number of an image, a log and its entries: 0 with nothing to undo; 1 for no byte; 18 for fewer words than entries; 19 for a field, given by
+-- this log, that leaves the image
+abbrev pub undoMet : List ℕ → (List ℕ → List ℕ → ℕ → ℕ) → List ℕ
+undoMet outside f = f soundH [] 0 ∷ f [] [] 0 ∷ f soundH [] 1 ∷ f soundH outside 1 ∷ []
+
+-- the numbers met are the call's list, in its order
+pub record Attained : Type 0 where
+  pub audits : auditMet (λ im lent. audit im lent .number) ≡ auditNumbers
+  pub lookups : lookupMet (λ im path lent. lookup im path lent .number) ≡ lookupNumbers
+  pub descriptions : describeMet (λ im path lent. describe im path lent .number) ≡ describeNumbers
+  pub mends : mendMet (λ im lent logLent. mend im lent logLent 1 .number) ≡ mendNumbers
+  pub undos : undoMet (2000 ∷ 0 ∷ []) (λ im log e. undo im log e 0 .number) ≡ undoNumbers
+
+-- the same in C, with 8 bytes for a word and 770 words for the reply
+pub record CAttained : Type 0 where
+  pub audits : auditMet (λ im lent. cAudit im (lent * 8) 6160 .number) ≡ auditNumbers
+  pub lookups : lookupMet (λ im path lent. cLookup im path (lent * 8) 6160 .number) ≡ lookupNumbers
+  pub descriptions : describeMet (λ im path lent. cDescribe im path (lent * 8) 6160 .number) ≡ describeNumbers
+  pub mends : mendMet (λ im lent logLent. cMend im (lent * 8) (logLent * 8) 6160 1 .number) ≡ mendNumbers
+  -- "Under 770, 3 or 1 words gives 13 first, in C only."
+  pub undos : undoMet (toBytes 8 2000 ++ zeros 8) (λ im log e. cUndo im log 8 e 0 .number) ++ (cUndo [] [] 0 0 0 .number ∷ []) ≡ cUndoNumbers

@@ -1,0 +1,14 @@
+pub mod Numbers
+pub mod Answers
+pub mod Attained
+pub mod Zeros
+pub mod CNumbers
+pub mod Demand1
+pub mod Room
+pub mod Audits
+pub mod Replies
+pub mod Causes
+pub mod Demand2
+pub mod Demand3
+pub mod CDemand3
+pub mod DemandThree

@@ -1,0 +1,6 @@
+-- The version of what the C calls take and give.
+use Prim.Native.Nat.{ℕ}
+
+-- raised with every change of a word, an answer or a limit
+abbrev pub version : ℕ
+version = 2

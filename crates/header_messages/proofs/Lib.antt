@@ -1,0 +1,2 @@
+pub mod HeaderBlock
+pub mod HeaderSteps

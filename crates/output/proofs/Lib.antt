@@ -1,0 +1,2 @@
+pub mod OverwriteLaws
+pub mod LineLaws
