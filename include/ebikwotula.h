@@ -4,12 +4,15 @@
  * Link with libebikwotula.a (rt staticlib ebikwotula).
  *
  * Slices. Each slice of bytes is passed as a pointer to its first byte and its length in bytes. The slices of one call
- * must not overlap. A pointer must not be null, also where the length is 0. A call keeps no pointer and allocates
- * nothing; its lists take at most about 20 KB of the stack, those of a mending about 30 KB.
+ * must not overlap. A pointer must not be null, also where the length is 0.
+ *
+ * A call keeps no pointer, allocates nothing and has no state, so that calls are safe side by side as long as no slice that
+ * one of them writes is lent to another. The stack that a call takes is bounded; what it takes in all, as measured, is given
+ * below.
  *
  * Words. A word is an unsigned number of 64 bits, written as 8 bytes, the lowest byte first, on every machine. Word k of
- * a slice is its bytes 8 * k to 8 * k + 7. A slice has as many words as it has whole eights of bytes. Every byte of
- * blocks, log and reply is written by each call; bytes that hold no word named below are 0.
+ * a slice is its bytes 8 * k to 8 * k + 7. A slice has as many words as it has whole eights of bytes. Every byte
+ * that is lent for writing is written by each call; bytes that hold no word named below are 0.
  */
 #ifndef EBIKWOTULA_H
 #define EBIKWOTULA_H
@@ -20,6 +23,20 @@
 #ifdef __cplusplus
 extern "C" {
 #endif
+
+/* The version of this header. It is raised with every change of a word, an answer or a limit; ebikwotula_version gives that
+ * of the library. */
+#define EBIKWOTULA_VERSION 2
+
+/* The limits: the length of an image, in bytes; the objects that are counted; the blocks that one walk enters; the length of
+ * a path and of a component, in bytes; the dimensions of a dataset. */
+#define EBIKWOTULA_IMAGE_LEAST 96
+#define EBIKWOTULA_IMAGE_MOST 1048576
+#define EBIKWOTULA_OBJECTS_MOST 256
+#define EBIKWOTULA_BLOCKS_MOST 1024
+#define EBIKWOTULA_PATH_MOST 1024
+#define EBIKWOTULA_NAME_MOST 255
+#define EBIKWOTULA_RANK_MOST 32
 
 /* The least length of reply, in bytes: 770 words for the audit, 3 for a lookup, 74 for a description, 3 for a mending,
  * 1 for undo. */
@@ -34,6 +51,13 @@ extern "C" {
 
 /* The most that a mending uses of log, in bytes: two words for each of 256 objects. */
 #define EBIKWOTULA_LOG_BYTES 4096
+
+/* The stack that a call takes in all, in bytes, as measured and rounded up. */
+#define EBIKWOTULA_AUDIT_STACK_BYTES 32768
+#define EBIKWOTULA_LOOKUP_STACK_BYTES 32768
+#define EBIKWOTULA_DESCRIBE_STACK_BYTES 32768
+#define EBIKWOTULA_MEND_STACK_BYTES 40960
+#define EBIKWOTULA_UNDO_STACK_BYTES 4096
 
 /* The answers. 12 is given by audit and mending alone, 14 to 17 by lookup and description alone, 18 by mending and undo
  * alone, 19 by undo alone, and 20 by description alone. */
@@ -69,6 +93,9 @@ enum ebikwotula_kind {
     EBIKWOTULA_KIND_COMMITTED_DATATYPE = 3,
     EBIKWOTULA_KIND_SYMBOLIC_LINK = 4
 };
+
+/* The version of the library: EBIKWOTULA_VERSION of the header that it came with. */
+uint32_t ebikwotula_version(void);
 
 /* Audits the file whose bytes are image. The image is not changed.
  *
@@ -140,6 +167,10 @@ uint32_t ebikwotula_describe(const uint8_t *image, size_t image_length, const ui
 /* Mends the file whose bytes are image: audits it, writes the undo log whole, and then sets wrong reference counts right,
  * in the order of the log, but no more of them than limit. A count is wrong if the stored and the true count of an
  * object differ. A limit of 0 writes the log and leaves the image as it is.
+ *
+ * Every call writes the whole log: a mend into a log that is still needed destroys it. After a mend that wrote every entry
+ * a second one finds no wrong count and leaves zeros, and so does one that is refused. Keep the log of a mend, with the
+ * file, before anything else is done.
  *
  * Returns one of the answers above. 13 is given first, before the image is read, if reply has under 3 words; 18 after the
  * audit, if log has under two words for each wrong count.

@@ -7,6 +7,7 @@
 use compare::generate::small::{self, DATASET, ROOT};
 use compare::library;
 use compare::reader::front::{DESCRIBE_WORDS, LOOKUP_WORDS, REPLY_WORDS};
+use std::collections::BTreeSet;
 use std::ffi::OsStr;
 use std::fs;
 use std::io::{ErrorKind, Write};
@@ -209,24 +210,141 @@ fn two_arguments_are_refused() {
     assert_message(&output, "usage: h5audit [FILE]");
 }
 
+/// The exit status that an audit's text asks for.
+fn status_of(text: &str) -> i32 {
+    match u32::from_str_radix(&text[..8], 16).expect("an answer") {
+        0 => {
+            let wrong = text.lines().skip(1).any(|line| line[16..24] != line[24..]);
+            if wrong {
+                4
+            } else {
+                0
+            }
+        }
+        4..=11 => 4,
+        _ => 64,
+    }
+}
+
+/// An audit's text on standard output, nothing else, and its status.
+fn assert_status(output: &Output, name: &str) {
+    assert_stored(&String::from_utf8_lossy(&output.stdout), name);
+    assert_eq!(String::from_utf8_lossy(&output.stderr), "", "{name}");
+    let expected = status_of(&stored(name));
+    assert_eq!(output.status.code(), Some(expected), "{name}");
+}
+
 /// The script finds the command wherever it is started, and takes names as relative to that folder.
 #[test]
 fn the_script_gives_a_status() {
     program();
     let folder = folder("script");
     let script = root().join("h5audit");
+    let mut met = BTreeSet::new();
     for (name, image) in files() {
         let file = format!("{name}.h5");
         fs::write(folder.join(&file), &image).expect("a file");
-        assert_audit(&run_with_name(&script, &folder, &file), name);
-        assert_audit(&run_with_input(&script, &image), name);
+        assert_status(&run_with_name(&script, &folder, &file), name);
+        assert_status(&run_with_input(&script, &image), name);
+        met.insert(status_of(&stored(name)));
     }
+    assert_eq!(met.into_iter().collect::<Vec<_>>(), [0, 4, 64]);
     fs::create_dir(folder.join("a folder")).expect("a new folder");
     for name in ["absent.h5", "a folder"] {
         let output = run_with_name(&script, &folder, name);
         assert_message(&output, name);
-        assert_eq!(output.status.code(), Some(1), "{name}");
+        assert_eq!(output.status.code(), Some(8), "{name}");
     }
+}
+
+#[test]
+fn the_script_refuses_other_usage() {
+    program();
+    let script = root().join("h5audit");
+    for words in [vec!["one.h5", "two.h5"], vec!["-x"], vec!["--install"]] {
+        let output = run(Command::new(&script).args(&words), std::iter::empty());
+        assert_message(&output, "usage: h5audit [FILE]");
+        assert_eq!(output.status.code(), Some(16), "{words:?}");
+    }
+    let help = run(Command::new(&script).arg("--help"), std::iter::empty());
+    assert!(help.stdout.starts_with(b"usage: h5audit [FILE]"));
+    assert_eq!(help.status.code(), Some(0));
+}
+
+/// A closed standard input is no input, and no reason to wait. With a name it doesn't matter.
+#[test]
+fn the_script_says_that_its_input_is_closed() {
+    program();
+    let script = root().join("h5audit");
+    let folder = folder("closed");
+    fs::write(folder.join("e.h5"), small::e().bytes).expect("a file");
+    let closed = |words: &str| {
+        let mut command = Command::new("timeout");
+        command
+            .current_dir(&folder)
+            .args(["60", "bash", "-c", &format!("exec \"$0\" {words} <&-")])
+            .arg(&script);
+        run(&mut command, std::iter::empty())
+    };
+    let output = closed("");
+    assert_message(&output, "standard input is closed");
+    assert_eq!(output.status.code(), Some(8));
+    assert_status(&closed("e.h5"), "e");
+}
+
+/// Where it is installed the command needs nothing of the repository and no toolchain.
+#[test]
+fn the_installed_command_needs_no_toolchain() {
+    program();
+    let folder = folder("installed");
+    let mut install = Command::new(root().join("h5audit"));
+    install.arg("--install").arg(folder.join("bin"));
+    let output = run(&mut install, std::iter::empty());
+    assert_eq!(output.status.code(), Some(0));
+    let mut command = Command::new(folder.join("bin/h5audit"));
+    command.env("PATH", "/usr/bin:/bin");
+    let image = small::h_with(&A_AND_B, 1, 1).bytes;
+    assert_status(&run(&mut command, [&image[..]].into_iter()), "h_stored_1");
+}
+
+/// Of several calls in a repository where nothing is built one builds, says so, and all answer. Here `rt` is a script that takes
+/// a while and leaves the program.
+#[test]
+fn several_first_calls_build_once() {
+    let folder = folder("several");
+    fs::create_dir_all(folder.join("crates")).expect("a new folder");
+    fs::create_dir_all(folder.join("tools")).expect("a new folder");
+    fs::write(folder.join("crates.txt"), "").expect("a file");
+    fs::copy(root().join("h5audit"), folder.join("h5audit")).expect("a copy");
+    let rt = format!(
+        "#!/bin/sh\necho built >> built\nsleep 1\nmkdir -p target/bin\ncp {} target/bin/h5audit\n",
+        program().display()
+    );
+    fs::write(folder.join("tools/rt"), rt).expect("a file");
+    let executable = fs::metadata(root().join("h5audit")).expect("the script");
+    fs::set_permissions(folder.join("tools/rt"), executable.permissions()).expect("a mode");
+    let path = format!("{}:/usr/bin:/bin", folder.join("tools").display());
+    let calls: Vec<_> = (0..4)
+        .map(|_| {
+            let mut command = Command::new(folder.join("h5audit"));
+            command.env("PATH", &path);
+            thread::spawn(move || run(&mut command, [&small::e().bytes[..]].into_iter()))
+        })
+        .collect();
+    let outputs: Vec<_> = calls
+        .into_iter()
+        .map(|c| c.join().expect("a call"))
+        .collect();
+    for output in &outputs {
+        assert_stored(&String::from_utf8_lossy(&output.stdout), "e");
+        assert_eq!(output.status.code(), Some(0));
+    }
+    let said = |o: &&Output| String::from_utf8_lossy(&o.stderr).contains("proved and built");
+    assert_eq!(outputs.iter().filter(said).count(), 1);
+    assert_eq!(
+        fs::read_to_string(folder.join("built")).expect("a file"),
+        "built\n"
+    );
 }
 
 /// What lay in the slices before a call.

@@ -1,0 +1,388 @@
+/* Calls every function of the library as a C program does, and holds the constants of the header against what the calls do.
+ *
+ * usage: calls SMALL WRONG FULL CROWDED DEEP
+ *   SMALL    a sound file with a root group of no entries
+ *   WRONG    a file with the dataset "/a", whose count is wrong
+ *   FULL     a sound file as large as the limits allow: length, objects and blocks; "/00001" is a dataset
+ *   CROWDED  a file of one object more than is counted
+ *   DEEP     a sound file whose root group has the deepest tree, "/00001" in it
+ */
+#define _POSIX_C_SOURCE 200809L
+#include "ebikwotula.h"
+
+#include <pthread.h>
+#include <stdio.h>
+#include <stdlib.h>
+#include <string.h>
+
+#define CHECK(what) check((what) != 0, #what, __LINE__)
+
+static int failures;
+
+static void check(int holds, const char *what, int line)
+{
+    if (!holds) {
+        printf("line %d: not so: %s\n", line, what);
+        failures++;
+    }
+}
+
+struct file {
+    uint8_t *bytes;
+    size_t length;
+};
+
+/* What a call is lent, and what it is asked. */
+struct call {
+    uint8_t *image;
+    size_t image_length;
+    const char *path;
+    size_t path_length;
+    size_t blocks_length;
+    size_t log_length;
+    size_t reply_length;
+    uint64_t entries;
+    uint64_t limit;
+    uint8_t blocks[EBIKWOTULA_BLOCKS_BYTES];
+    uint8_t log[EBIKWOTULA_LOG_BYTES];
+    uint8_t reply[EBIKWOTULA_AUDIT_REPLY_BYTES];
+};
+
+static struct file read_file(const char *name)
+{
+    struct file file = {malloc(EBIKWOTULA_IMAGE_MOST + 1), 0};
+    FILE *stream = fopen(name, "rb");
+    if (file.bytes == NULL || stream == NULL) {
+        printf("%s can't be read\n", name);
+        exit(1);
+    }
+    file.length = fread(file.bytes, 1, EBIKWOTULA_IMAGE_MOST + 1, stream);
+    fclose(stream);
+    return file;
+}
+
+static struct call *lend(struct file file, size_t reply_length)
+{
+    struct call *call = malloc(sizeof *call);
+    if (call == NULL) {
+        exit(1);
+    }
+    memset(call, 0xa5, sizeof *call);
+    call->image = file.bytes;
+    call->image_length = file.length;
+    call->path = "/";
+    call->path_length = 1;
+    call->blocks_length = sizeof call->blocks;
+    call->log_length = sizeof call->log;
+    call->reply_length = reply_length;
+    call->entries = 0;
+    call->limit = UINT64_MAX;
+    return call;
+}
+
+static uint64_t word(const uint8_t *bytes, size_t k)
+{
+    uint64_t value = 0;
+    for (int i = 7; i >= 0; i--) {
+        value = value << 8 | bytes[8 * k + (size_t)i];
+    }
+    return value;
+}
+
+static int zeros(const uint8_t *bytes, size_t length)
+{
+    for (size_t i = 0; i < length; i++) {
+        if (bytes[i] != 0) {
+            return 0;
+        }
+    }
+    return 1;
+}
+
+static uint32_t audit(struct call *c)
+{
+    return ebikwotula_audit(c->image, c->image_length, c->blocks, c->blocks_length, c->reply, c->reply_length);
+}
+
+static uint32_t lookup(struct call *c)
+{
+    return ebikwotula_lookup(c->image, c->image_length, (const uint8_t *)c->path, c->path_length, c->blocks, c->blocks_length,
+                             c->reply, c->reply_length);
+}
+
+static uint32_t describe(struct call *c)
+{
+    return ebikwotula_describe(c->image, c->image_length, (const uint8_t *)c->path, c->path_length, c->blocks,
+                               c->blocks_length, c->reply, c->reply_length);
+}
+
+static uint32_t mend(struct call *c)
+{
+    return ebikwotula_mend(c->image, c->image_length, c->blocks, c->blocks_length, c->log, c->log_length, c->reply,
+                           c->reply_length, c->limit);
+}
+
+static uint32_t undo(struct call *c)
+{
+    return ebikwotula_undo(c->image, c->image_length, c->log, c->log_length, c->reply, c->reply_length, c->entries, c->limit);
+}
+
+typedef uint32_t function(struct call *);
+
+static const struct {
+    const char *name;
+    function *run;
+    size_t reply_bytes;
+    size_t stack_bytes;
+} calls[] = {
+    {"audit", audit, EBIKWOTULA_AUDIT_REPLY_BYTES, EBIKWOTULA_AUDIT_STACK_BYTES},
+    {"lookup", lookup, EBIKWOTULA_LOOKUP_REPLY_BYTES, EBIKWOTULA_LOOKUP_STACK_BYTES},
+    {"describe", describe, EBIKWOTULA_DESCRIBE_REPLY_BYTES, EBIKWOTULA_DESCRIBE_STACK_BYTES},
+    {"mend", mend, EBIKWOTULA_MEND_REPLY_BYTES, EBIKWOTULA_MEND_STACK_BYTES},
+    {"undo", undo, EBIKWOTULA_UNDO_REPLY_BYTES, EBIKWOTULA_UNDO_STACK_BYTES},
+};
+
+#define CALLS (sizeof calls / sizeof calls[0])
+
+/* The answer of a call with other lengths lent than all. */
+static uint32_t answer(function *run, struct file file, size_t blocks, size_t log, size_t reply)
+{
+    struct call *c = lend(file, reply);
+    c->blocks_length = blocks;
+    c->log_length = log;
+    uint32_t number = run(c);
+    if (number != EBIKWOTULA_DONE) {
+        CHECK(zeros(c->reply, reply));
+        CHECK(run == undo || zeros(c->blocks, blocks));
+        CHECK(run != mend || zeros(c->log, log));
+    }
+    free(c);
+    return number;
+}
+
+static uint32_t audit_with(struct file file, size_t blocks)
+{
+    return answer(audit, file, blocks, EBIKWOTULA_LOG_BYTES, EBIKWOTULA_AUDIT_REPLY_BYTES);
+}
+
+static void reply_lengths(struct file small)
+{
+    for (size_t i = 0; i < CALLS; i++) {
+        size_t bytes = calls[i].reply_bytes;
+        uint32_t enough = answer(calls[i].run, small, EBIKWOTULA_BLOCKS_BYTES, EBIKWOTULA_LOG_BYTES, bytes);
+        uint32_t short_one = answer(calls[i].run, small, EBIKWOTULA_BLOCKS_BYTES, EBIKWOTULA_LOG_BYTES, bytes - 1);
+        CHECK(enough == (calls[i].run == describe ? EBIKWOTULA_NOT_A_DATASET : EBIKWOTULA_DONE));
+        CHECK(short_one == EBIKWOTULA_NO_ROOM);
+    }
+}
+
+static void image_lengths(void)
+{
+    struct file file = {calloc(1, EBIKWOTULA_IMAGE_MOST + 1), 0};
+    const size_t lengths[] = {EBIKWOTULA_IMAGE_LEAST - 1, EBIKWOTULA_IMAGE_LEAST, EBIKWOTULA_IMAGE_MOST, EBIKWOTULA_IMAGE_MOST + 1};
+    for (int i = 0; i < 4; i++) {
+        file.length = lengths[i];
+        CHECK(audit_with(file, EBIKWOTULA_BLOCKS_BYTES) == (i == 0 || i == 3 ? EBIKWOTULA_IMAGE_LENGTH : EBIKWOTULA_NO_SIGNATURE));
+    }
+    free(file.bytes);
+}
+
+static void objects_and_blocks(struct file full, struct file crowded)
+{
+    CHECK(full.length == EBIKWOTULA_IMAGE_MOST);
+    struct call *c = lend(full, EBIKWOTULA_AUDIT_REPLY_BYTES);
+    CHECK(audit(c) == EBIKWOTULA_DONE);
+    CHECK(word(c->reply, 0) == EBIKWOTULA_BLOCKS_MOST);
+    CHECK(word(c->reply, 1) == EBIKWOTULA_OBJECTS_MOST);
+    free(c);
+    CHECK(EBIKWOTULA_BLOCKS_BYTES == 16 * EBIKWOTULA_BLOCKS_MOST);
+    CHECK(audit_with(full, EBIKWOTULA_BLOCKS_BYTES - 1) == EBIKWOTULA_NO_ROOM);
+    CHECK(audit_with(crowded, EBIKWOTULA_BLOCKS_BYTES) == EBIKWOTULA_OBJECTS);
+}
+
+static uint32_t lookup_of(struct file file, const char *path, size_t length)
+{
+    struct call *c = lend(file, EBIKWOTULA_LOOKUP_REPLY_BYTES);
+    c->path = path;
+    c->path_length = length;
+    uint32_t number = lookup(c);
+    free(c);
+    return number;
+}
+
+static void paths(struct file small)
+{
+    char path[EBIKWOTULA_PATH_MOST + 1];
+    memset(path, 'x', sizeof path);
+    path[0] = '/';
+    CHECK(lookup_of(small, path, 1) == EBIKWOTULA_DONE);
+    CHECK(lookup_of(small, path, 0) == EBIKWOTULA_BAD_PATH);
+    CHECK(lookup_of(small, path, 1 + EBIKWOTULA_NAME_MOST) == EBIKWOTULA_NAME_ABSENT);
+    CHECK(lookup_of(small, path, 2 + EBIKWOTULA_NAME_MOST) == EBIKWOTULA_BAD_PATH);
+    for (size_t i = 0; i < sizeof path; i += 64) {
+        path[i] = '/';
+    }
+    CHECK(lookup_of(small, path, EBIKWOTULA_PATH_MOST) == EBIKWOTULA_NAME_ABSENT);
+    CHECK(lookup_of(small, path, EBIKWOTULA_PATH_MOST + 1) == EBIKWOTULA_BAD_PATH);
+}
+
+static void descriptions(struct file wrong)
+{
+    struct call *c = lend(wrong, EBIKWOTULA_DESCRIBE_REPLY_BYTES);
+    c->path = "/a";
+    c->path_length = 2;
+    CHECK(lookup(c) == EBIKWOTULA_DONE);
+    CHECK(word(c->reply, 1) == EBIKWOTULA_KIND_DATASET);
+    CHECK(describe(c) == EBIKWOTULA_DONE);
+    CHECK(word(c->reply, 1) <= EBIKWOTULA_RANK_MOST);
+    CHECK(EBIKWOTULA_DESCRIBE_REPLY_BYTES == 8 * (10 + 2 * EBIKWOTULA_RANK_MOST));
+    free(c);
+}
+
+/* A mend, a second one, and undo with the log of the first. */
+static void mend_and_undo(struct file wrong)
+{
+    uint8_t *old = malloc(wrong.length);
+    memcpy(old, wrong.bytes, wrong.length);
+    struct call *c = lend(wrong, EBIKWOTULA_MEND_REPLY_BYTES);
+    CHECK(mend(c) == EBIKWOTULA_DONE);
+    uint64_t entries = word(c->reply, 1);
+    CHECK(entries > 0 && word(c->reply, 2) == entries);
+    CHECK(memcmp(old, wrong.bytes, wrong.length) != 0);
+    uint8_t log[EBIKWOTULA_LOG_BYTES];
+    memcpy(log, c->log, sizeof log);
+    CHECK(mend(c) == EBIKWOTULA_DONE);
+    CHECK(word(c->reply, 1) == 0 && zeros(c->log, c->log_length));
+    memcpy(c->log, log, sizeof log);
+    c->entries = entries;
+    CHECK(undo(c) == EBIKWOTULA_DONE);
+    CHECK(word(c->reply, 0) == entries);
+    CHECK(memcmp(old, wrong.bytes, wrong.length) == 0);
+    c->image[0] ^= 1;
+    CHECK(mend(c) == EBIKWOTULA_NO_SIGNATURE && zeros(c->log, c->log_length));
+    c->image[0] ^= 1;
+    free(c);
+    free(old);
+}
+
+/* With every count wrong the log is as long as it can be. */
+static void longest_log(struct file full)
+{
+    uint8_t *old = malloc(full.length);
+    memcpy(old, full.bytes, full.length);
+    struct call *c = lend(full, EBIKWOTULA_AUDIT_REPLY_BYTES);
+    CHECK(audit(c) == EBIKWOTULA_DONE);
+    for (size_t i = 0; i < word(c->reply, 1); i++) {
+        full.bytes[word(c->reply, 2 + 3 * i) + 4] ^= 1;
+    }
+    CHECK(answer(mend, full, EBIKWOTULA_BLOCKS_BYTES, EBIKWOTULA_LOG_BYTES - 1, EBIKWOTULA_MEND_REPLY_BYTES) ==
+          EBIKWOTULA_SHORT_LOG);
+    CHECK(mend(c) == EBIKWOTULA_DONE);
+    CHECK(word(c->reply, 1) == EBIKWOTULA_OBJECTS_MOST);
+    CHECK(memcmp(old, full.bytes, full.length) == 0);
+    free(c);
+    free(old);
+}
+
+struct job {
+    function *run;
+    struct call *call;
+    uint32_t number;
+};
+
+static void *perform(void *argument)
+{
+    struct job *job = argument;
+    if (job->run != NULL) {
+        job->number = job->run(job->call);
+    }
+    return NULL;
+}
+
+#define STACK (1 << 18)
+
+/* The bytes of a stack that a thread has written to. */
+static size_t stack_of(struct job *job)
+{
+    uint8_t *stack = aligned_alloc(4096, STACK);
+    pthread_attr_t attributes;
+    pthread_t thread;
+    size_t unused = 0;
+    memset(stack, 0xa5, STACK);
+    pthread_attr_init(&attributes);
+    pthread_attr_setstack(&attributes, stack, STACK);
+    CHECK(pthread_create(&thread, &attributes, perform, job) == 0);
+    pthread_join(thread, NULL);
+    while (unused < STACK && stack[unused] == 0xa5) {
+        unused++;
+    }
+    free(stack);
+    return STACK - unused;
+}
+
+/* The stack of each call on each file, beside that of a thread that calls nothing. */
+static void stacks(struct file *files, int count)
+{
+    struct job nothing = {NULL, NULL, 0};
+    size_t base = stack_of(&nothing);
+    for (size_t i = 0; i < CALLS; i++) {
+        size_t most = 0;
+        for (int f = 0; f < count; f++) {
+            struct job job = {calls[i].run, lend(files[f], calls[i].reply_bytes), 0};
+            job.call->limit = 0;
+            job.call->path = f == 1 ? "/a" : "/00001";
+            job.call->path_length = strlen(job.call->path);
+            size_t used = stack_of(&job) - base;
+            most = used > most ? used : most;
+            free(job.call);
+        }
+        printf("stack of %s: %zu bytes\n", calls[i].name, most);
+        CHECK(most <= calls[i].stack_bytes);
+        CHECK(most + 8192 > calls[i].stack_bytes);
+    }
+}
+
+/* Calls side by side give what each gives alone. */
+static void side_by_side(struct file full)
+{
+    struct call *alone = lend(full, EBIKWOTULA_AUDIT_REPLY_BYTES);
+    struct job jobs[8];
+    pthread_t threads[8];
+    CHECK(audit(alone) == EBIKWOTULA_DONE);
+    for (int i = 0; i < 8; i++) {
+        jobs[i] = (struct job){audit, lend(full, EBIKWOTULA_AUDIT_REPLY_BYTES), 0};
+        CHECK(pthread_create(&threads[i], NULL, perform, &jobs[i]) == 0);
+    }
+    for (int i = 0; i < 8; i++) {
+        pthread_join(threads[i], NULL);
+        CHECK(jobs[i].number == EBIKWOTULA_DONE);
+        CHECK(memcmp(jobs[i].call->blocks, alone->blocks, sizeof alone->blocks) == 0);
+        CHECK(memcmp(jobs[i].call->reply, alone->reply, sizeof alone->reply) == 0);
+        free(jobs[i].call);
+    }
+    free(alone);
+}
+
+int main(int count, char **names)
+{
+    struct file files[5];
+    if (count != 6) {
+        printf("usage: calls SMALL WRONG FULL CROWDED DEEP\n");
+        return 1;
+    }
+    for (int i = 0; i < 5; i++) {
+        files[i] = read_file(names[i + 1]);
+    }
+    CHECK(ebikwotula_version() == EBIKWOTULA_VERSION);
+    reply_lengths(files[0]);
+    image_lengths();
+    objects_and_blocks(files[2], files[3]);
+    paths(files[0]);
+    descriptions(files[1]);
+    mend_and_undo(files[1]);
+    longest_log(files[2]);
+    stacks(files, 5);
+    side_by_side(files[2]);
+    printf("%d failures\n", failures);
+    return failures == 0 ? 0 : 1;
+}
