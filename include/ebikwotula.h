@@ -26,7 +26,7 @@ extern "C" {
 
 /* The version of this header. It is raised with every change of a word, an answer or a limit; ebikwotula_version gives that
  * of the library. */
-#define EBIKWOTULA_VERSION 2
+#define EBIKWOTULA_VERSION 3
 
 /* The limits: the length of an image, in bytes; the objects that are counted; the blocks that one walk enters; the length of
  * a path and of a component, in bytes; the dimensions of a dataset. */
@@ -46,17 +46,18 @@ extern "C" {
 #define EBIKWOTULA_MEND_REPLY_BYTES 24
 #define EBIKWOTULA_UNDO_REPLY_BYTES 8
 
-/* The most that a call uses of blocks, in bytes: two words for each of 1,024 blocks. */
-#define EBIKWOTULA_BLOCKS_BYTES 16384
+/* What a block takes in blocks, in bytes: four words. The most that a call uses of blocks: that for each of 1,024 blocks. */
+#define EBIKWOTULA_BLOCK_BYTES 32
+#define EBIKWOTULA_BLOCKS_BYTES 32768
 
 /* The most that a mending uses of log, in bytes: two words for each of 256 objects. */
 #define EBIKWOTULA_LOG_BYTES 4096
 
 /* The stack that a call takes in all, in bytes, as measured and rounded up. */
-#define EBIKWOTULA_AUDIT_STACK_BYTES 32768
-#define EBIKWOTULA_LOOKUP_STACK_BYTES 32768
-#define EBIKWOTULA_DESCRIBE_STACK_BYTES 32768
-#define EBIKWOTULA_MEND_STACK_BYTES 40960
+#define EBIKWOTULA_AUDIT_STACK_BYTES 49152
+#define EBIKWOTULA_LOOKUP_STACK_BYTES 49152
+#define EBIKWOTULA_DESCRIBE_STACK_BYTES 49152
+#define EBIKWOTULA_MEND_STACK_BYTES 57344
 #define EBIKWOTULA_UNDO_STACK_BYTES 4096
 
 /* The answers. 12 is given by audit and mending alone, 14 to 17 by lookup and description alone, 18 by mending and undo
@@ -69,7 +70,7 @@ enum ebikwotula_answer {
     EBIKWOTULA_SUPERBLOCK = 4,     /* version 1 in under 100 bytes, a group K of 0, a root entry that is no hard link, or an
                                       end of file above the image length */
     EBIKWOTULA_OUTSIDE = 5,        /* a block is not inside the end-of-file address */
-    EBIKWOTULA_OVERLAP = 6,        /* a block shares a byte with one already entered */
+    EBIKWOTULA_OVERLAP = 6,        /* a block shares a byte with one already entered: the reply says with which, see below */
     EBIKWOTULA_NODE_OR_HEAP = 7,   /* the signature or version of a node or heap is wrong */
     EBIKWOTULA_TREE = 8,           /* a tree or symbol node is unsound */
     EBIKWOTULA_HEAP_OR_NAME = 9,   /* a heap or name is unsound */
@@ -94,6 +95,39 @@ enum ebikwotula_kind {
     EBIKWOTULA_KIND_SYMBOLIC_LINK = 4
 };
 
+/* Blocks. A block is a piece of the file that belongs to one structure. Audit and mending list the blocks that they have
+ * entered, in the order in which they entered them, the superblock first; a description lists those that it has entered for
+ * the dataset. For block i, from 0 on, blocks has
+ *   word 4 * i       its address
+ *   word 4 * i + 1   its length, in bytes
+ *   word 4 * i + 2   its kind, one of those below
+ *   word 4 * i + 3   the number of the object that it was entered for. In the list of an audit or a mending objects are
+ *                    numbered in order of discovery, the root 0, as they stand in the audit's reply; in that of a
+ *                    description the number is 0. For the superblock it is EBIKWOTULA_SUPERBLOCK_OBJECT in every list.
+ * The words behind the last block are 0. No byte of the file is in two blocks of a list.
+ *
+ * Room is the lesser of 1,024 blocks and the whole fours of words in blocks. */
+enum ebikwotula_block_kind {
+    EBIKWOTULA_BLOCK_KIND_SUPERBLOCK = 1,
+    EBIKWOTULA_BLOCK_KIND_HEADER = 2,       /* an object header; each object has one, its first block, at its address */
+    EBIKWOTULA_BLOCK_KIND_CONTINUATION = 3, /* a continuation of an object header */
+    EBIKWOTULA_BLOCK_KIND_HEAP = 4,         /* the header of a group's local heap */
+    EBIKWOTULA_BLOCK_KIND_SEGMENT = 5,      /* the data segment of that heap, which has the names */
+    EBIKWOTULA_BLOCK_KIND_TREE = 6,         /* a node of a group's tree, of any level */
+    EBIKWOTULA_BLOCK_KIND_SYMBOL_NODE = 7,  /* a symbol table node, which has the entries */
+    EBIKWOTULA_BLOCK_KIND_DATA = 8          /* the contiguous data of a dataset */
+};
+
+/* The object number of the superblock: all ones, which no object has. */
+#define EBIKWOTULA_SUPERBLOCK_OBJECT UINT64_MAX
+
+/* Answer 6 of audit, lookup, description and mending: a block is refused, since it shares a byte with one already entered, or
+ * with several. Word 0 of reply is then the address of the block met: of these the one that was entered first, which need
+ * not be the lowest. All other bytes of blocks, log and reply are 0. Word 0 may itself be 0, where the superblock is met: the
+ * answer 6 alone says that the word counts. What is already entered is what stands in the list of the walk at hand: an audit
+ * has one list, while a lookup and a description begin anew for each component of a path and for what it leads to. So they may
+ * meet another block than the audit, or none. Undo never gives 6. */
+
 /* The version of the library: EBIKWOTULA_VERSION of the header that it came with. */
 uint32_t ebikwotula_version(void);
 
@@ -102,8 +136,7 @@ uint32_t ebikwotula_version(void);
  * Returns one of the answers above. 13 is given first, before the image is read, if reply has under 770 words.
  *
  * If the answer is 0:
- *   blocks  has two words for each block entered, in the order in which they were entered: its address and its length.
- *           Room is the lesser of 1,024 blocks and the whole pairs of words in blocks.
+ *   blocks  has four words for each block entered, as above.
  *   reply   word 0   the number of blocks entered
  *           word 1   the number of objects found, at most 256
  *           then three words for each object, in order of discovery, the root first: for object i, from 0 on,
@@ -111,7 +144,8 @@ uint32_t ebikwotula_version(void);
  *           word 3 + 3 * i   the reference count stored in its header
  *           word 4 + 3 * i   its true count: the number of hard links and sharings that reach it
  *
- * If the answer is not 0, every byte of blocks and reply is 0.
+ * If the answer is 6, word 0 of reply is the address of the block met, which may be 0, and every other byte of blocks and
+ * reply is 0. If it is neither 0 nor 6, every byte of blocks and reply is 0.
  */
 uint32_t ebikwotula_audit(const uint8_t *image, size_t image_length, uint8_t *blocks, size_t blocks_length, uint8_t *reply,
                           size_t reply_length);
@@ -124,14 +158,15 @@ uint32_t ebikwotula_audit(const uint8_t *image, size_t image_length, uint8_t *bl
  * Returns one of the answers above. 13 is given first, before the path and the image are read, if reply has under 3
  * words; then 14, before the image is read.
  *
- * blocks is only lent: its length decides the room of each walk, as in the audit, and every byte of it is 0 at the end.
+ * blocks is only lent: its length decides the room of each walk, and every byte of it is 0 at the end.
  *
  * If the answer is 0:
  *   reply   word 0   0, the number of blocks in blocks
  *           word 1   the kind of what the path leads to, one of the kinds above
  *           word 2   the address of its object header; 0 for a symbolic link
  *
- * If the answer is not 0, every byte of reply is 0.
+ * If the answer is 6, word 0 of reply is the address of the block met, which may be 0, and every other byte of reply is 0.
+ * If it is neither 0 nor 6, every byte of reply is 0.
  */
 uint32_t ebikwotula_lookup(const uint8_t *image, size_t image_length, const uint8_t *path, size_t path_length,
                            uint8_t *blocks, size_t blocks_length, uint8_t *reply, size_t reply_length);
@@ -144,8 +179,7 @@ uint32_t ebikwotula_lookup(const uint8_t *image, size_t image_length, const uint
  * words; then 14, before the image is read.
  *
  * If the answer is 0:
- *   blocks  has two words for each block entered for the dataset, in the order in which they were entered, the superblock
- *           first: its address and its length. Room is as in the audit.
+ *   blocks  has four words for each block entered for the dataset, as above: superblock, header, continuations, data.
  *   reply   word 0          the number of blocks entered
  *           word 1          the rank, at most 32
  *           words 2 to 33   the size of each dimension, 0 from the rank on
@@ -159,7 +193,8 @@ uint32_t ebikwotula_lookup(const uint8_t *image, size_t image_length, const uint
  *           word 72         the address of the data; if compact, the place of its first byte in image
  *           word 73         the size of the data, in bytes
  *
- * If the answer is not 0, every byte of blocks and reply is 0.
+ * If the answer is 6, word 0 of reply is the address of the block met, which may be 0, and every other byte of blocks and
+ * reply is 0. If it is neither 0 nor 6, every byte of blocks and reply is 0.
  */
 uint32_t ebikwotula_describe(const uint8_t *image, size_t image_length, const uint8_t *path, size_t path_length,
                              uint8_t *blocks, size_t blocks_length, uint8_t *reply, size_t reply_length);
@@ -176,7 +211,7 @@ uint32_t ebikwotula_describe(const uint8_t *image, size_t image_length, const ui
  * audit, if log has under two words for each wrong count.
  *
  * If the answer is 0:
- *   blocks  is as after the audit. Room is as in the audit.
+ *   blocks  is as after the audit.
  *   log     has an entry of two words for each wrong count, in the order in which the objects were discovered: for entry
  *           i, from 0 on,
  *           word 2 * i       the address of the count's field, which has 4 bytes: the object's address plus 4
@@ -186,7 +221,9 @@ uint32_t ebikwotula_describe(const uint8_t *image, size_t image_length, const ui
  *           word 2   the number of counts written: the lesser of limit and the number of entries
  *   image   is changed in the fields of the entries written, and nowhere else.
  *
- * If the answer is not 0, the image is not changed, and every byte of blocks, log and reply is 0.
+ * If the answer is not 0, the image is not changed. If it is 6, word 0 of reply is the address of the block met, which may
+ * be 0, and every other byte of blocks, log and reply is 0. If it is neither 0 nor 6, every byte of blocks, log and reply
+ * is 0.
  */
 uint32_t ebikwotula_mend(uint8_t *image, size_t image_length, uint8_t *blocks, size_t blocks_length, uint8_t *log,
                          size_t log_length, uint8_t *reply, size_t reply_length, uint64_t limit);

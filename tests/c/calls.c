@@ -152,7 +152,8 @@ static uint32_t answer(function *run, struct file file, size_t blocks, size_t lo
     c->log_length = log;
     uint32_t number = run(c);
     if (number != EBIKWOTULA_DONE) {
-        CHECK(zeros(c->reply, reply));
+        size_t met = number == EBIKWOTULA_OVERLAP ? 8 : 0;
+        CHECK(zeros(c->reply + met, reply - met));
         CHECK(run == undo || zeros(c->blocks, blocks));
         CHECK(run != mend || zeros(c->log, log));
     }
@@ -195,7 +196,8 @@ static void objects_and_blocks(struct file full, struct file crowded)
     CHECK(word(c->reply, 0) == EBIKWOTULA_BLOCKS_MOST);
     CHECK(word(c->reply, 1) == EBIKWOTULA_OBJECTS_MOST);
     free(c);
-    CHECK(EBIKWOTULA_BLOCKS_BYTES == 16 * EBIKWOTULA_BLOCKS_MOST);
+    CHECK(EBIKWOTULA_BLOCK_BYTES == 4 * 8);
+    CHECK(EBIKWOTULA_BLOCKS_BYTES == EBIKWOTULA_BLOCK_BYTES * EBIKWOTULA_BLOCKS_MOST);
     CHECK(audit_with(full, EBIKWOTULA_BLOCKS_BYTES - 1) == EBIKWOTULA_NO_ROOM);
     CHECK(audit_with(crowded, EBIKWOTULA_BLOCKS_BYTES) == EBIKWOTULA_OBJECTS);
 }
@@ -236,6 +238,122 @@ static void descriptions(struct file wrong)
     CHECK(describe(c) == EBIKWOTULA_DONE);
     CHECK(word(c->reply, 1) <= EBIKWOTULA_RANK_MOST);
     CHECK(EBIKWOTULA_DESCRIBE_REPLY_BYTES == 8 * (10 + 2 * EBIKWOTULA_RANK_MOST));
+    free(c);
+}
+
+/* Word k of block i in a list. */
+static uint64_t block_word(const struct call *c, size_t i, size_t k)
+{
+    return word(c->blocks, 4 * i + k);
+}
+
+/* The superblock first, then object after object: each begins with its header at its address, and no other block is a
+ * header. */
+static void owners(struct file file)
+{
+    struct call *c = lend(file, EBIKWOTULA_AUDIT_REPLY_BYTES);
+    CHECK(audit(c) == EBIKWOTULA_DONE);
+    size_t count = word(c->reply, 0);
+    uint64_t headers = 0;
+    CHECK(block_word(c, 0, 0) == 0);
+    CHECK(block_word(c, 0, 2) == EBIKWOTULA_BLOCK_KIND_SUPERBLOCK);
+    CHECK(block_word(c, 0, 3) == EBIKWOTULA_SUPERBLOCK_OBJECT);
+    for (size_t i = 1; i < count; i++) {
+        uint64_t kind = block_word(c, i, 2);
+        CHECK(kind >= EBIKWOTULA_BLOCK_KIND_HEADER && kind <= EBIKWOTULA_BLOCK_KIND_DATA);
+        if (kind == EBIKWOTULA_BLOCK_KIND_HEADER) {
+            CHECK(block_word(c, i, 0) == word(c->reply, 2 + 3 * headers));
+            headers++;
+        }
+        CHECK(block_word(c, i, 3) + 1 == headers);
+    }
+    CHECK(headers == word(c->reply, 1));
+    CHECK(zeros(c->blocks + EBIKWOTULA_BLOCK_BYTES * count, c->blocks_length - EBIKWOTULA_BLOCK_BYTES * count));
+    struct call *m = lend(file, EBIKWOTULA_MEND_REPLY_BYTES);
+    m->limit = 0;
+    CHECK(mend(m) == EBIKWOTULA_DONE);
+    CHECK(memcmp(m->blocks, c->blocks, sizeof c->blocks) == 0);
+    free(m);
+    free(c);
+}
+
+/* The blocks of "/a" described: superblock, header and data, the object's number 0. */
+static void described_blocks(struct file wrong)
+{
+    const uint64_t kinds[] = {EBIKWOTULA_BLOCK_KIND_SUPERBLOCK, EBIKWOTULA_BLOCK_KIND_HEADER, EBIKWOTULA_BLOCK_KIND_DATA};
+    struct call *c = lend(wrong, EBIKWOTULA_DESCRIBE_REPLY_BYTES);
+    c->path = "/a";
+    c->path_length = 2;
+    CHECK(lookup(c) == EBIKWOTULA_DONE);
+    uint64_t address = word(c->reply, 2);
+    CHECK(describe(c) == EBIKWOTULA_DONE);
+    CHECK(word(c->reply, 0) == 3);
+    for (size_t i = 0; i < 3; i++) {
+        CHECK(block_word(c, i, 2) == kinds[i]);
+        CHECK(block_word(c, i, 3) == (i == 0 ? EBIKWOTULA_SUPERBLOCK_OBJECT : 0));
+    }
+    CHECK(block_word(c, 1, 0) == address);
+    CHECK(block_word(c, 2, 0) == word(c->reply, 72) && block_word(c, 2, 1) == word(c->reply, 73));
+    CHECK(zeros(c->blocks + 3 * EBIKWOTULA_BLOCK_BYTES, c->blocks_length - 3 * EBIKWOTULA_BLOCK_BYTES));
+    free(c);
+}
+
+/* Every call but undo gives 6 and names the block met. */
+static void meets(struct file file, uint64_t address)
+{
+    uint8_t *before = malloc(file.length);
+    if (before == NULL) {
+        exit(1);
+    }
+    memcpy(before, file.bytes, file.length);
+    for (size_t i = 0; i < CALLS; i++) {
+        if (calls[i].run == undo) {
+            continue;
+        }
+        struct call *c = lend(file, calls[i].reply_bytes);
+        c->path = "/a";
+        c->path_length = 2;
+        CHECK(calls[i].run(c) == EBIKWOTULA_OVERLAP);
+        CHECK(word(c->reply, 0) == address);
+        CHECK(zeros(c->reply + 8, c->reply_length - 8));
+        CHECK(zeros(c->blocks, c->blocks_length));
+        CHECK(calls[i].run != mend || zeros(c->log, c->log_length));
+        CHECK(memcmp(before, file.bytes, file.length) == 0);
+        c->reply_length--;
+        CHECK(calls[i].run(c) == EBIKWOTULA_NO_ROOM);
+        CHECK(zeros(c->reply, c->reply_length));
+        free(c);
+    }
+    free(before);
+}
+
+/* Where the segment's address stands in a heap, and the root's in a superblock of version 0. */
+#define SEGMENT_ADDRESS 24
+#define ROOT_ADDRESS 64
+
+/* The root's segment moved into its heap; then the root moved into the superblock, which is at 0. */
+static void overlaps(struct file wrong)
+{
+    struct call *c = lend(wrong, EBIKWOTULA_AUDIT_REPLY_BYTES);
+    uint8_t *old = malloc(wrong.length);
+    size_t heap = 0;
+    memcpy(old, wrong.bytes, wrong.length);
+    CHECK(audit(c) == EBIKWOTULA_DONE);
+    for (size_t i = 0; i < word(c->reply, 0); i++) {
+        if (block_word(c, i, 2) == EBIKWOTULA_BLOCK_KIND_HEAP && block_word(c, i, 3) == 0) {
+            heap = block_word(c, i, 0);
+        }
+    }
+    CHECK(heap > 0);
+    for (int i = 0; i < 8; i++) {
+        wrong.bytes[heap + SEGMENT_ADDRESS + i] = (uint8_t)((heap + 1) >> (8 * i));
+    }
+    meets(wrong, heap);
+    memcpy(wrong.bytes, old, wrong.length);
+    memset(wrong.bytes + ROOT_ADDRESS, 0, 8);
+    meets(wrong, 0);
+    memcpy(wrong.bytes, old, wrong.length);
+    free(old);
     free(c);
 }
 
@@ -379,6 +497,11 @@ int main(int count, char **names)
     objects_and_blocks(files[2], files[3]);
     paths(files[0]);
     descriptions(files[1]);
+    owners(files[1]);
+    owners(files[2]);
+    owners(files[4]);
+    described_blocks(files[1]);
+    overlaps(files[1]);
     mend_and_undo(files[1]);
     longest_log(files[2]);
     stacks(files, 5);

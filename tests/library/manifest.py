@@ -15,7 +15,7 @@ import sys
 import reader
 
 HERE = os.path.dirname(os.path.abspath(__file__))
-LENT = 2048  # words: room for 1,024 blocks
+LENT = 4096  # words: room for 1,024 blocks
 UNDEFINED = 2**64 - 1
 problems = []
 notes = []
@@ -120,14 +120,14 @@ def compare(where, image, report, found):
             differs(f"object {address}: stored {stored}, true {true}")
         for path in o["paths"]:
             totals["paths"] += 1
-            got = reader.lookup(image, unescaped(path), LENT)[:3]
-            if got != (0, o["kind"], address):
+            got = reader.lookup(image, unescaped(path), LENT)[:4]
+            if got != (0, 0, o["kind"], address):
                 differs(f"lookup {path}: {got}")
         if o["kind"] != 2:
             continue
         totals["descriptions"] += 1
         d = reader.describe(image, unescaped(o["paths"][0]), LENT)
-        number, _, rank, sizes, maxima, cls, version, bits, size, shared, layout, place, length = d[:13]
+        number, _, _, rank, sizes, maxima, cls, version, bits, size, shared, layout, place, length = d[:14]
         want = o["space"]
         if number != 0 or [rank] + sizes[:rank] + maxima[:rank] != want:
             differs(f"description of {address}: answer {number}, space {want}")
@@ -152,7 +152,7 @@ def compare(where, image, report, found):
         descriptions.append("description " + " ".join(map(str, row)))
     for path, _ in softs:
         totals["paths"] += 1
-        if reader.lookup(image, unescaped(path), LENT)[:3] != (0, 4, 0):
+        if reader.lookup(image, unescaped(path), LENT)[:4] != (0, 0, 4, 0):
             differs(f"lookup {path}: no symbolic link")
     return descriptions
 
@@ -182,7 +182,7 @@ def main():
             for v in writers[1:]:
                 if reports[v][name] != report:
                     problems.append(f"{where}: {v} reports otherwise than {writers[0]}")
-            number, blocks, found, words = reader.audit(image, LENT)
+            number, _, blocks, found, words = reader.audit(image, LENT)
             if str(number) not in expected.split("|"):
                 problems.append(f"{where}: answer {number}, expected {expected}")
             out.append(f"file {where}")
@@ -197,7 +197,7 @@ def main():
             descriptions = compare(where, image, report, found) if number == 0 else []
             out.append("by reader")
             out.append(f"answer {number} {len(found)} {blocks}")
-            used = struct.pack(f"<{2 * blocks}Q", *words[: 2 * blocks])
+            used = struct.pack(f"<{4 * blocks}Q", *words[: 4 * blocks])
             out.append(f"blocks {fnv1a(used):016x}")
             out += [f"count {a} {s} {t}" for a, s, t in found]
             out += descriptions

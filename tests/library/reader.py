@@ -1,7 +1,7 @@
-# A separate reader, written from document 01, Item 2 of document 02 and the readings in docs/DECISIONS.md alone.
+# A separate reader, written from document 01, Items 2 and 9 of document 02 and the readings in docs/DECISIONS.md alone.
 UNDEF=2**64-1
 class Ref(Exception):
-    def __init__(s,n): s.n=n
+    def __init__(s,n,met=0): s.n=n; s.met=met
 def le(b,a,n): return int.from_bytes(b[a:a+n],'little')
 def shared_by(b):
     """The address that an attribute's body shares, or None."""
@@ -21,7 +21,7 @@ def shared_by(b):
     return le(p,2,8)
 class Walker:
     def __init__(s,im,lent):
-        s.im=im; s.room=min(1024,lent//2); s.bs=[]
+        s.im=im; s.room=min(1024,lent//4); s.bs=[]; s.owner=0
     def superblock(s):
         im=s.im
         if not 96<=len(im)<=1048576: raise Ref(1)
@@ -41,13 +41,13 @@ class Walker:
         if eof>len(im): raise Ref(4)
         s.eof=eof; s.sbsize=96+sh
     def fresh(s):
-        s.bs=[]; s.enter(0,s.sbsize)
-    def enter(s,a,n):
+        s.bs=[]; s.owner=UNDEF; s.enter(0,s.sbsize,1); s.owner=0
+    def enter(s,a,n,kind):
         if a+n>s.eof: raise Ref(5)
-        for (x,m) in s.bs:
-            if x<a+n and a<x+m: raise Ref(6)
+        for (x,m,_,_) in s.bs:
+            if x<a+n and a<x+m: raise Ref(6,x)
         if len(s.bs)>=s.room: raise Ref(13)
-        s.bs.append((a,n))
+        s.bs.append((a,n,kind,s.owner))
         return s.im[a:a+n]
     def msgs(s,b,place,out,attribute):
         i=0
@@ -67,7 +67,7 @@ class Walker:
     def header(s,a,attribute=lambda body:None):
         if a+16>s.eof: raise Ref(5)
         n=16+le(s.im,a+8,4)
-        b=s.enter(a,n)
+        b=s.enter(a,n,2)
         if b[0]!=1: raise Ref(3)
         out=[]
         s.msgs(b[16:],a+16,out,attribute)
@@ -76,7 +76,7 @@ class Walker:
             cs=[m for m in out if m[0]==0x10]
             if k>=len(cs): break
             ca,cl=le(cs[k][2],0,8),le(cs[k][2],8,8)
-            cb=s.enter(ca,cl)
+            cb=s.enter(ca,cl,3)
             s.msgs(cb,ca,out,attribute)
             k+=1
         if len(out)!=le(b,2,2): raise Ref(10)
@@ -89,11 +89,11 @@ class Walker:
             return ('t',)
         raise Ref(10)
     def group(s,tree,heap,visit):
-        h=s.enter(heap,32)
+        h=s.enter(heap,32,4)
         if h[:4]!=b'HEAP' or h[4]!=0: raise Ref(7)
         size=le(h,8,8); head=le(h,16,8); sa=le(h,24,8)
         if size<8: raise Ref(9)
-        seg=s.enter(sa,size)
+        seg=s.enter(sa,size,5)
         free=[]
         if head not in (1,UNDEF):
             off=head
@@ -116,7 +116,7 @@ class Walker:
                 if x<off+len(t)+1 and off<x+m: raise Ref(9)
         last=[b'']
         def snod(a,bounds):
-            b=s.enter(a,8+80*s.leafK)
+            b=s.enter(a,8+80*s.leafK,7)
             if b[:4]!=b'SNOD' or b[4]!=1: raise Ref(7)
             c=le(b,6,2)
             if not 1<=c<=2*s.leafK: raise Ref(8)
@@ -135,7 +135,7 @@ class Walker:
                 visit(t,ty,le(e,8,8))
                 last[0]=t
         def node(a,level,bounds):
-            b=s.enter(a,32+32*s.intK)
+            b=s.enter(a,32+32*s.intK,6)
             if b[:4]!=b'TREE': raise Ref(7)
             if b[4]!=0: raise Ref(8)
             lv=b[5]; used=le(b,6,2)
@@ -201,7 +201,7 @@ class Walker:
             n=es
             for x in sizes: n*=x
             if n!=ls: raise Ref(11)
-        if lc==1 and la!=UNDEF and ls>0: s.enter(la,ls)
+        if lc==1 and la!=UNDEF and ls>0: s.enter(la,ls,8)
         return rank,sizes,maxima,cls,ver,bits,es,sha,lc,la,ls
 def words(bs,lent):
     w=[x for p in bs for x in p]
@@ -226,13 +226,14 @@ def audit(im,lent):
             if ty!=2: discover(a)
         i=0
         while i<len(obs):
+            w.owner=i
             o=w.header(obs[i],attribute)
             kinds[obs[i]]=o[0]; judge(obs[i])
             if o[0]=='g': w.group(o[1],o[2],visit)
             elif o[0]=='d': w.dataset(*o[1:],share)
             i+=1
-        return 0,len(w.bs),[(a,le(im,a+4,4),counts[a]) for a in obs],words(w.bs,lent)
-    except Ref as e: return e.n,0,[],[0]*lent
+        return 0,0,len(w.bs),[(a,le(im,a+4,4),counts[a]) for a in obs],words(w.bs,lent)
+    except Ref as e: return e.n,e.met,0,[],[0]*lent
 def follow(im,path,lent,last,soft):
     ok=1<=len(path)<=1024 and path[0]==0x2f
     cs=[]
@@ -261,26 +262,26 @@ def follow(im,path,lent,last,soft):
 def lookup(im,path,lent):
     try:
         k,a=follow(im,path,lent,lambda w,at,o:({'g':1,'d':2,'t':3}[o[0]],at),lambda:(4,0))
-        return 0,k,a,0,[0]*lent
-    except Ref as e: return e.n,0,0,0,[0]*lent
+        return 0,0,k,a,0,[0]*lent
+    except Ref as e: return e.n,e.met,0,0,0,[0]*lent
 def describe(im,path,lent):
     def last(w,at,o):
         if o[0]!='d': raise Ref(20)
         d=w.dataset(*o[1:])
         r,sz,mx=d[0],d[1],d[2]
-        return (0,len(w.bs),r,sz+[0]*(32-r),mx+[0]*(32-r))+d[3:]+(words(w.bs,lent),)
+        return (0,0,len(w.bs),r,sz+[0]*(32-r),mx+[0]*(32-r))+d[3:]+(words(w.bs,lent),)
     def soft(): raise Ref(20)
     try: return follow(im,path,lent,last,soft)
-    except Ref as e: return (e.n,0,0,[0]*32,[0]*32,0,0,0,0,0,0,0,0,[0]*lent)
+    except Ref as e: return (e.n,e.met,0,0,[0]*32,[0]*32,0,0,0,0,0,0,0,0,[0]*lent)
 def mend(im,lent,log,n):
-    num,bc,obs,l=audit(im,lent)
-    if num: return num,0,0,0,[0]*lent,[0]*log,im
+    num,met,bc,obs,l=audit(im,lent)
+    if num: return num,met,0,0,0,[0]*lent,[0]*log,im
     wr=[(a+4,s,t) for a,s,t in obs if s!=t]
-    if 2*len(wr)>log: return 18,0,0,0,[0]*lent,[0]*log,im
+    if 2*len(wr)>log: return 18,0,0,0,0,[0]*lent,[0]*log,im
     m=min(n,len(wr)); b=bytearray(im)
     for f,s,t in wr[:m]: b[f:f+4]=t.to_bytes(4,'little')
     lw=[x for f,s,t in wr for x in (f,s*2**32+t)]
-    return 0,bc,len(wr),m,l,lw+[0]*(log-len(lw)),bytes(b)
+    return 0,0,bc,len(wr),m,l,lw+[0]*(log-len(lw)),bytes(b)
 def undo(im,log,e,n):
     if not 96<=len(im)<=1048576: return 1,0,im
     if len(log)<2*e: return 18,0,im

@@ -1,10 +1,10 @@
 -- From the walk of an image to the reply.
-use Prim.Native.Nat.{ℕ, zero, suc, _+_, _-_, _≤_, _<_}
+use Prim.Native.Nat.{ℕ, zero, suc, _-_, _*_, _≤_, _<_}
 use mathlib.Core.List.{List, [], _∷_, _++_}
 use mathlib.Core.Path.{_≡_, refl, _∙_}
 use native.Mathlib.Omega.{arith}
 use lib.ListN.{length, getD, take, drop, replicate, length-replicate}
-use Rattle.format.specs.Limits.{objectsMost, blocksMost}
+use Rattle.format.specs.Limits.{objectsMost}
 use Rattle.format.specs.Blocks.{Block, roomOf, blockList}
 use Rattle.format.specs.declared.Refusal.{Refusal}
 use Rattle.format.specs.Walk.{fault, done, refused, run}
@@ -99,20 +99,16 @@ module _ (im ws : List ℕ) (s : Superblock) (count objects : ℕ) (ws₁ addres
         omega (arith, rw (getD-addresses objects k addresses counts h) at i, b .2);
   }
 
-  pub count-fits : count + count ≤ length ws₁
+  pub count-fits : 4 * count ≤ length ws₁
   count-fits = omega (arith, w .ready .lent .counted, w .ready .lent .lent)
 
-  pub count-small : count + count ≤ 2048
-  unfolding roomOf blocksMost
-  count-small = omega (arith, w .ready .lent .counted)
-
-  list-is : take (count + count) ws₁ ++ replicate (length ws₁ - (count + count)) 0 ≡ blockList (length ws) (blocksOf count ws₁)
-  list-is = rw (list-cleared count ws₁ count-fits, same)
+  list-is : take (4 * count) ws₁ ++ replicate (length ws₁ - 4 * count) 0 ≡ blockList (length ws) (blocksOf count ws₁)
+  list-is = rw (list-cleared count (blocksOf count ws₁) ws₁ count-fits (w .ready .lent .numbered), same)
 
   pub done-is : opened (superblockOf s) ≡ openImage im → Bounded im s → (stored₀ stored : List ℕ) → stored₀ ≡ replicate objectsMost 0 →
       StoredRead im addresses objects stored₀ stored → (ws₂ : List ℕ) →
-      ws₂ ≡ take (count + count) ws₁ ++ replicate (length ws₁ - (count + count)) 0 →
-      AuditedIs im (length ws) ws₂ addresses stored counts (record { number = 0; «block_count» = count; objects = objects })
+      ws₂ ≡ take (4 * count) ws₁ ++ replicate (length ws₁ - 4 * count) 0 →
+      AuditedIs im (length ws) ws₂ addresses stored counts (record { number = 0; met = 0; «block_count» = count; objects = objects })
   unfolding audit
   done-is e b stored₀ stored z r ws₂ l =
       let o = run-opened im (length ws) (superblockOf s) e ∙ ran in
@@ -135,7 +131,8 @@ stored-room addresses stored counts n l h = rw (l .storedEmpty, length-replicate
 
 -- the reply with its ledger: an empty one where there are no objects, else the lists
 module _ (im : List ℕ) (lent : ℕ) (ws addresses stored counts : List ℕ) (r : Audited) (h : AuditedIs im lent ws addresses stored counts r) where
-  pub empty-reply : (l : Ledger) → r .objects ≡ 0 → Empty l → AuditIs im lent ws (record { number = r .number; «block_count» = r .«block_count»; ledger = l })
+  pub empty-reply : (l : Ledger) → r .objects ≡ 0 → Empty l →
+      AuditIs im lent ws (record { number = r .number; met = r .met; «block_count» = r .«block_count»; ledger = l })
   unfolding countedPlaces
   empty-reply l z e =
       let p = h .reply in
@@ -150,7 +147,7 @@ module _ (im : List ℕ) (lent : ℕ) (ws addresses stored counts : List ℕ) (r
 
   pub full-reply : 0 < r .objects →
       let l : Ledger = record { objects = r .objects; addresses = addresses; stored = stored; «true_counts» = counts } in
-      AuditIs im lent ws (record { number = r .number; «block_count» = r .«block_count»; ledger = l })
+      AuditIs im lent ws (record { number = r .number; met = r .met; «block_count» = r .«block_count»; ledger = l })
   full-reply z = record {
     reply = h .reply;
     fits = h .fits;

@@ -5,7 +5,7 @@ use mathlib.Core.Path.{_≡_, ap, _∙_}
 use native.Mathlib.Omega.{arith}
 use lib.ListN.{length, replicate, length-replicate}
 use Rattle.format.specs.Limits.{objectsMost}
-use Rattle.format.specs.Blocks.{Block, block, roomOf, entryAnswer}
+use Rattle.format.specs.Blocks.{Block, blockOf, roomOf, entryAnswer}
 use Rattle.format.specs.declared.Refusal.{Refusal}
 use Rattle.format.specs.Walk.{Walk, ret, _>>=_, _>>_, Outcome, done, refused, ifEntered, run}
 use Rattle.format.specs.Superblock.{superblockWalk}
@@ -54,9 +54,9 @@ module _ (im ws : List ℕ) (s : Superblock) (room : ℕ) (is : room ≡ roomOf 
 
   module _ (n : ℕ) (same : length ws₁ ≡ length ws) (h : Walked ws ws₁ (ended tt n) (run im eof room (superblockWalk (superblockOf s)) [])) where
     -- it is entered, as the first block
-    entered-one : blocksOf n ws₁ ≡ block 0 (s .size) ∷ []
+    entered-one : blocksOf n ws₁ ≡ blockOf 1 0 (s .size) ∷ []
     unfolding superblockWalk run _>>=_
-    entered-one = one-entered (entryAnswer eof room [] 0 (s .size)) _ (block 0 (s .size)) (blocksOf n ws₁) (walked-done ws ws₁ tt n _ h)
+    entered-one = one-entered (entryAnswer eof room [] 0 (s .size)) _ (blockOf 1 0 (s .size)) (blocksOf n ws₁) (walked-done ws ws₁ tt n _ h)
 
     -- no other block adds to the lengths
     entered-length : lengthSum (blocksOf n ws₁) ≡ s .size

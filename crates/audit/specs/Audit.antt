@@ -6,7 +6,7 @@ use lib.ListN.{length, getD, replicate}
 use Rattle.format.specs.Limits.{objectsMost}
 use Rattle.format.specs.Blocks.{roomOf}
 use Rattle.format.specs.declared.Refusal.{Refusal}
-use Rattle.format.specs.Walk.{answerOf, run}
+use Rattle.format.specs.Walk.{answerOf, metOf, run}
 use Rattle.format.specs.Ledger.{Linked}
 use Rattle.format.specs.Audit.{auditWalk}
 use Rattle.format.specs.Answers.{AuditReply, audit}
@@ -23,7 +23,7 @@ use Rattle.audit.specs.declared.Reply.{Reply}
 
 -- what is returned with a refusal
 abbrev pub refusedWith : Refusal → Audited
-refusedWith r = record { number = answerOf r; «block_count» = 0; objects = 0 }
+refusedWith r = record { number = answerOf r; met = metOf r; «block_count» = 0; objects = 0 }
 
 -- the ledger, with the number of blocks then entered, or the refusal
 abbrev pub ledgerEnd : List ℕ → List ℕ → ObjectRead → Ended (List Linked)
@@ -53,9 +53,9 @@ ZerosFrom n l = (k : ℕ) → n ≤ k → getD l k 0 ≡ 0
 abbrev pub replyOf : List ℕ → List ℕ → List ℕ → List ℕ → Audited → AuditReply
 replyOf ws addresses stored counts r = record {
   number = r .number;
+  met = r .met;
   blockCount = r .«block_count»;
-  objects = countedPlaces (r .objects) addresses stored
-      counts;
+  objects = countedPlaces (r .objects) addresses stored counts;
   list = ws;
 }
 
@@ -71,7 +71,8 @@ pub record AuditedIs (im : List ℕ) (lent : ℕ) (ws addresses stored counts : 
 
 -- the reply is the definition's, its objects have places, the count of each lies inside the image, and all other places are zeros
 pub record AuditIs (im : List ℕ) (lent : ℕ) (ws : List ℕ) (r : Reply) : Type 0 where
-  pub reply : _≡_ {A = AuditReply} (record { number = r .number; blockCount = r .«block_count»; objects = countedOf (r .ledger); list = ws }) (audit im lent)
+  pub reply : _≡_ {A = AuditReply}
+      (record { number = r .number; met = r .met; blockCount = r .«block_count»; objects = countedOf (r .ledger); list = ws }) (audit im lent)
   pub fits : r .ledger .objects ≤ objectsMost
   pub readable : Readable im (r .ledger .addresses) (r .ledger .objects)
   pub addressesRest : ZerosFrom (r .ledger .objects) (r .ledger .addresses)

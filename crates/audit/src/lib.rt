@@ -2,6 +2,7 @@
 use format::OBJECTS_MOST;
 use format::Refusal;
 use format::answers;
+use format::met_of;
 use format::number_of;
 use ledger::report;
 use ledger::report::Ledger;
@@ -18,20 +19,22 @@ ghost use Rattle.ledger.specs.Table.{Table};
 ghost use Rattle.object.specs.Object.{Bounded};
 ghost use Rattle.audit.specs.Audit.{refusedWith, ImageWalked, Lists, AuditedIs, AuditIs};
 
-// The answer, and the numbers of blocks entered and of objects found, 0 where the answer isn't.
+// The answer, with 6 the first block met, and the numbers of blocks entered and of objects found, 0 where the answer isn't.
 pub struct Audited {
     pub number: u8,
+    pub met: u64,
     pub block_count: usize,
     pub objects: usize,
 }
 
-// A refusal: the list is all zeros, and so are the numbers but for the answer.
+// A refusal: the list is all zeros, and so are the numbers but for the answer and the block met.
 fn refused(list: &mut [u64], refusal: Refusal) -> Audited
     ensures { λ r. ⌜ (r ≡ refusedWith refusal) × (now (list .exit) ≡ replicate (length (now (list .entry))) 0) ⌝ }
 {
     blocks::clear_from(list, 0);
     Audited {
         number: number_of(refusal),
+        met: met_of(refusal),
         block_count: 0,
         objects: 0,
     }
@@ -92,9 +95,10 @@ pub fn audit_into(
             ObjectRead::Stopped(x) => refused(list, x),
             ObjectRead::Done { count, objects } => {
                 report::read_stored(image, addresses, stored, objects);
-                blocks::clear_from(list, count + count);
+                blocks::clear_from(list, 4 * count);
                 Audited {
                     number: answers::DONE,
+                    met: 0,
                     block_count: count,
                     objects,
                 }
@@ -103,14 +107,16 @@ pub fn audit_into(
     }
 }
 
-// The answer, the number of blocks entered, and the ledger; zeros and an empty ledger where the answer isn't 0.
+// The answer, with 6 the first block met, the number of blocks entered, and the ledger; zeros and an empty ledger where the
+// answer isn't 0.
 pub struct Reply {
     pub number: u8,
+    pub met: u64,
     pub block_count: usize,
     pub ledger: Ledger,
 }
 
-// The audit of an image. The list is lent for the blocks, two words a block.
+// The audit of an image. The list is lent for the blocks, four words a block.
 pub fn audit(image: &[u8], list: &mut [u64]) -> Reply
     ensures { λ r. ⌜ AuditIs (now (image .entry)) (length (now (list .entry))) (now (list .exit)) r ⌝ }
 {
@@ -119,17 +125,20 @@ pub fn audit(image: &[u8], list: &mut [u64]) -> Reply
     let mut true_counts = [0u32; OBJECTS_MOST];
     let r = audit_into(image, list, &mut addresses, &mut stored, &mut true_counts);
     let number = r.number;
+    let met = r.met;
     let block_count = r.block_count;
     let objects = r.objects;
     if objects == 0 {
         return Reply {
             number,
+            met,
             block_count,
             ledger: report::empty(),
         };
     }
     Reply {
         number,
+        met,
         block_count,
         ledger: Ledger {
             objects,

@@ -30,7 +30,7 @@ refusal (refused (NotEntered number kind at size met) bs) = notEntered number ki
 
 -- the refusal of the audit of an image, 1,024 blocks being lent
 abbrev pub audited : List ℕ → List ℕ
-audited im = refusal (auditRun im 2048)
+audited im = refusal (auditRun im 4096)
 
 -- H with this byte at this place
 abbrev pub damaged : (place byte : ℕ) → List ℕ
@@ -113,8 +113,8 @@ damagedTable =
     (damaged 1203 5 is notEntered 5 8 1480 4 0) ∷
     (damaged 1203 3 is notEntered 6 8 968 4 800) ∷
     (damagedTwice 1202 31 1203 3 is notEntered 6 8 799 4 712) ∷
-    -- H itself with room for 7 pairs: none is left for the data
-    (refusal (auditRun soundH 14) is notEntered 13 8 1224 4 0) ∷
+    -- H itself with room for 7 blocks: none is left for the data
+    (refusal (auditRun soundH 28) is notEntered 13 8 1224 4 0) ∷
     -- a header with a continuation, which is entered last: the dataspace stands in the header, datatype and layout in the continuation
     (continued 0 0x89 is []) ∷
     (continued 1153 33 is fault 11 1144) ∷
@@ -149,10 +149,10 @@ damagedTable =
     (sharingTwice 1210 144 1192 0 is fault 3 1184) ∷
     -- the shared flag on the message of "t"
     (audited flaggedC is fault 10 1256) ∷
-    (refusal (lookupRun flaggedC (ascii "/t") 16) is fault 10 1256) ∷
+    (refusal (lookupRun flaggedC (ascii "/t") 32) is fault 10 1256) ∷
     -- what a path is answered names no place
-    (refusal (lookupRun soundH (ascii "a") 16) is fault 14 0) ∷
-    (refusal (lookupRun soundH (ascii "/c") 16) is fault 15 0) ∷
-    (refusal (lookupRun soundH (ascii "/a/b") 16) is fault 17 0) ∷
-    (refusal (describeRun soundH (ascii "/") 16) is fault 20 0) ∷
+    (refusal (lookupRun soundH (ascii "a") 32) is fault 14 0) ∷
+    (refusal (lookupRun soundH (ascii "/c") 32) is fault 15 0) ∷
+    (refusal (lookupRun soundH (ascii "/a/b") 32) is fault 17 0) ∷
+    (refusal (describeRun soundH (ascii "/") 32) is fault 20 0) ∷
     []

@@ -57,7 +57,7 @@ mends im lent logLent n = go (audit im lent .number) (Memᴰ·append-left (18 �
       where
         fits : (t : Bool) (w : ℕ) →
             OneOf mendNumbers
-            ((if t then mendedBy im logLent (audit im lent) (corrections (audit im lent .objects)) w else notMended im lent logLent 18) .number)
+            ((if t then mendedBy im logLent (audit im lent) (corrections (audit im lent .objects)) w else notMended im lent logLent 18 0) .number)
         fits true w = List·Memᴰ·head refl
         fits false w = search members depth 20
     go (suc k) h = h

@@ -1,11 +1,11 @@
--- Each number is met: in the library by computing, and in C, where a reply that has room has the library's number.
+-- Each number is attained: in the library by computing, and in C, where a reply that has room has the library's number.
 use Prim.Native.Nat.{ℕ, _*_, _/_}
 use mathlib.Core.List.{List, [], _∷_, _++_}
 use mathlib.Core.Path.{_≡_, refl, ap, fun-ext, _∙_}
 use native.Mathlib.Omega.{arith}
 use Rattle.format.specs.Limits.{imageLeast, imageMost, levelMost, rankMost, objectsMost, blocksMost, nameMost, pathMost}
 use Rattle.format.specs.Bytes.{allHold, littleEndian, toBytes, toWords, overwrite, undefinedAddress, sameBytes, contains}
-use Rattle.format.specs.Blocks.{overlaps, overlapsAny, entryAnswer, roomOf, blockWords}
+use Rattle.format.specs.Blocks.{overlaps, overlapsAny, firstMet, entryAnswer, roomOf, ownerAfter, blockWords}
 use Rattle.format.specs.Result as results
 use Rattle.format.specs.Walk.{blankCount, shown, _>>=_, run}
 use Rattle.format.specs.Superblock.{signature, versionShift, versionsRead, sizesRead, addressesRead, superblockRead, superblockSound}
@@ -35,7 +35,8 @@ use Rattle.format.specs.Mend.{corrections}
 use Rattle.format.specs.Undo.{fits, allFit, undoNumber, undone}
 use Rattle.format.specs.Answers.{audit, lookup, describe, mend, undo}
 use Rattle.format.specs.Front.{cAudit, cLookup, cDescribe, cMend, cUndo}
-use Rattle.claims.specs.Attained.{numbersOf, names, links, auditMet, lookupMet, describeMet, mendMet, undoMet, Attained, CAttained}
+use Rattle.claims.specs.Attained.{numbersOf, names, links, auditAttained, lookupAttained, describeAttained, mendAttained, undoAttained}
+use Rattle.claims.specs.Attained.{Attained, CAttained}
 use Rattle.claims.specs.Numbers.{cUndoNumbers}
 use Rattle.cases.specs.Files.{zeros}
 
@@ -62,7 +63,7 @@ c-mend im lent logLent = rw (eights lent, eights logLent)
 -- The unfolding line names each definition that the computing goes through.
 pub attained : Attained
 unfolding imageLeast imageMost levelMost rankMost objectsMost blocksMost nameMost pathMost allHold littleEndian toBytes toWords overwrite
-    undefinedAddress sameBytes contains overlaps overlapsAny entryAnswer roomOf blockWords blankCount shown results._>>=_ _>>=_ run
+    undefinedAddress sameBytes contains overlaps overlapsAny firstMet entryAnswer roomOf ownerAfter blockWords blankCount shown results._>>=_ _>>=_ run
     signature versionShift versionsRead sizesRead addressesRead superblockRead superblockSound superblockFields openImage superblockWalk
     treatment readMessage messages ofType theMessage continuations headerContents headerMessages hasCounts objectOf headerWith headerWalk
     HEAP freeBlocks freeList heapWalk beforeNul stringAt keyText isName nameText below within SNOD readValue readEntry entries symbolWalk
@@ -74,15 +75,15 @@ unfolding imageLeast imageMost levelMost rankMost objectsMost blocksMost nameMos
     allAtMost numbersOf names links
 attained = record { audits = refl; lookups = refl; descriptions = refl; mends = refl; undos = refl }
 
-c-undos : undoMet (toBytes 8 2000 ++ zeros 8) (λ im log e. cUndo im log 8 e 0 .number) ++ (cUndo [] [] 0 0 0 .number ∷ []) ≡ cUndoNumbers
+c-undos : undoAttained (toBytes 8 2000 ++ zeros 8) (λ im log e. cUndo im log 8 e 0 .number) ++ (cUndo [] [] 0 0 0 .number ∷ []) ≡ cUndoNumbers
 unfolding imageLeast imageMost allHold littleEndian toBytes toWords undefinedAddress changes fits allFit undoNumber undo cUndo
 c-undos = refl
 
 pub c-attained : CAttained
 c-attained = record {
-  audits = ap auditMet (fun-ext λ im. fun-ext λ lent. c-audit im lent) ∙ attained .audits;
-  lookups = ap lookupMet (fun-ext λ im. fun-ext λ path. fun-ext λ lent. c-lookup im path lent) ∙ attained .lookups;
-  descriptions = ap describeMet (fun-ext λ im. fun-ext λ path. fun-ext λ lent. c-describe im path lent) ∙ attained .descriptions;
-  mends = ap mendMet (fun-ext λ im. fun-ext λ lent. fun-ext λ logLent. c-mend im lent logLent) ∙ attained .mends;
+  audits = ap auditAttained (fun-ext λ im. fun-ext λ lent. c-audit im lent) ∙ attained .audits;
+  lookups = ap lookupAttained (fun-ext λ im. fun-ext λ path. fun-ext λ lent. c-lookup im path lent) ∙ attained .lookups;
+  descriptions = ap describeAttained (fun-ext λ im. fun-ext λ path. fun-ext λ lent. c-describe im path lent) ∙ attained .descriptions;
+  mends = ap mendAttained (fun-ext λ im. fun-ext λ lent. fun-ext λ logLent. c-mend im lent logLent) ∙ attained .mends;
   undos = c-undos;
 }

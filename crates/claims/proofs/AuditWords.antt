@@ -22,7 +22,7 @@ use Rattle.demand.proofs.AuditFields.{header-inside}
 use Rattle.demand.proofs.AuditCounts.{counts-small}
 use Rattle.demand.proofs.FullMend.{audit-reply}
 use Rattle.claims.specs.CDemand3.{IsWords}
-use Rattle.claims.specs.Audits.{replyWords}
+use Rattle.claims.specs.Audits.{auditWords}
 use Rattle.claims.proofs.WordsBack.{slice-words}
 use Rattle.claims.proofs.LogWords.{objects-most}
 
@@ -51,7 +51,7 @@ first-two x y ws h k l (suc zero) = k
 first-two x y ws h k l (suc (suc i)) = l i
 
 module _ (im : List ℕ) (lent : ℕ) (b : IsBytes im) (z : audit im lent .number ≡ 0) where
-  reply-is-words : IsWords (replyWords (audit im lent))
+  reply-is-words : IsWords (auditWords (audit im lent))
   unfolding objectsMost blocksMost
   reply-is-words =
       let a = audit-zero im lent z in
@@ -73,13 +73,13 @@ module _ (im : List ℕ) (lent : ℕ) (b : IsBytes im) (z : audit im lent .numbe
       first-two (audit im lent .blockCount) (length (audit im lent .objects)) (objectWords (audit im lent .objects))
       (omega (arith, count, room, room-most lent)) (omega (arith, objects-most im lent z)) rest
 
-  reply-length : length (replyWords (audit im lent)) ≤ 2 + 3 * objectsMost
+  reply-length : length (auditWords (audit im lent)) ≤ 2 + 3 * objectsMost
   reply-length = omega (arith, words-length (audit im lent .objects), objects-most im lent z)
 
 pub audit-words : (im : List ℕ) (l r : ℕ) → IsBytes im → 2 + 3 * objectsMost ≤ r / 8 → audit im (l / 8) .number ≡ 0 →
-    toWords (r / 8) (cAudit im l r .reply) ≡ padded (r / 8) (replyWords (audit im (l / 8)))
+    toWords (r / 8) (cAudit im l r .reply) ≡ padded (r / 8) (auditWords (audit im (l / 8)))
 unfolding cAudit
 audit-words im l r b h z =
-    let ws = replyWords (audit im (l / 8)) in
+    let ws = auditWords (audit im (l / 8)) in
     rw (le-leb (2 + 3 * objectsMost) (r / 8) h, z)
     (slice-words r ws (reply-is-words im (l / 8) b z) (omega (arith, reply-length im (l / 8) b z, h)))

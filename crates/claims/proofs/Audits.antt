@@ -11,9 +11,9 @@ use Rattle.links.proofs.AuditSound.{audit-opened, audit-sound, audit-blocks}
 use Rattle.claims.proofs.AuditWords.{audit-words}
 use Rattle.claims.specs.Audits.{AuditFound, AuditReplies}
 
-found : (im : List ℕ) (lent : ℕ) → audit im lent .number ≡ 0 → AuditFound im lent
+pub audit-found : (im : List ℕ) (lent : ℕ) → audit im lent .number ≡ 0 → AuditFound im lent
 unfolding audit
-found im lent z =
+audit-found im lent z =
     let d = audit-zero im lent z in
     let o = audit-opened im lent (d .0) (d .1) (d .2) in
     let b = audit-blocks im lent (o .0) (d .0) (d .1) (o .1) (d .2) in
@@ -22,6 +22,7 @@ found im lent z =
       ledger = d .0;
       blocks = d .1;
       opens = o .1;
+      walked = d .2;
       reply = ap (auditEnd im lent) (d .2);
       sound = audit-sound im lent (o .0) (d .0) (d .1) (o .1) (d .2);
       apart = b .0;
@@ -35,4 +36,4 @@ unfolding cAudit
 in-c im l r h = rw (le-leb (2 + 3 * objectsMost) (r / 8) h)
 
 pub audit-replies : AuditReplies
-audit-replies = record { found = found; inC = in-c; wordsInC = audit-words }
+audit-replies = record { found = audit-found; inC = in-c; wordsInC = audit-words }

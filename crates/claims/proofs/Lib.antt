@@ -1,6 +1,7 @@
 pub mod NumberedCalls
 pub mod Answers
 pub mod Attained
+pub mod BlockMet
 pub mod Zeros
 pub mod CNumbers
 pub mod Demand1
@@ -14,6 +15,9 @@ pub mod Audits
 pub mod Replies
 pub mod Causes
 pub mod Demand2
+pub mod MetWord
+pub mod ListWords
+pub mod Owners
 pub mod Demand3Due
 pub mod CDemandThree
 pub mod DemandThree

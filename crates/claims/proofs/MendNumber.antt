@@ -39,7 +39,7 @@ module _ (im : List ℕ) (lent logLent n : ℕ) where
         where
           fits : (t : Bool) → leb (2 * wrongCounts im lent) logLent ≡ t →
               (if t then mendedBy im logLent (audit im lent) (corrections (audit im lent .objects)) (min n (wrongCounts im lent))
-              else notMended im lent logLent 18) .number ≡ 18 →
+              else notMended im lent logLent 18 0) .number ≡ 18 →
               (audit im lent .number ≡ 0) × (logLent < 2 * wrongCounts im lent)
           fits true l z = absurd (omega arith)
           fits false l z = (e, leb-false _ _ l)

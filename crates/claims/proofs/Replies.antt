@@ -32,7 +32,7 @@ NotZero n = n ≡ 0 → ⊥
 
 module _ (im path : List ℕ) (lent : ℕ) where
   lookup-given : (kind address : ℕ) (bs : List Block) → IsFound im path lent kind address bs →
-      lookup im path lent ≡ record { number = 0; kind = kind; address = address; blockCount = 0; list = replicate lent 0 }
+      lookup im path lent ≡ record { number = 0; met = 0; kind = kind; address = address; blockCount = 0; list = replicate lent 0 }
   unfolding lookup
   lookup-given kind address bs f = ap (lookupEnd lent) (lookup-found im path lent kind address bs .1 f)
 

@@ -1,68 +1,22 @@
 -- With no less room every reply is the same, unless it was 13; so with less it is the same, or 13.
 use Prim.Native.Nat.{ℕ, _≤_}
 use mathlib.Core.Bool.{Bool, true, false}
-use mathlib.Core.List.{List, [], _∷_}
+use mathlib.Core.List.{List}
 use mathlib.Core.Logic.{_⊎_, inl, inr}
 use mathlib.Core.Path.{_≡_, refl, ap, sym, _∙_}
 use borrow.Author.Tests.{eqb-true, eqb-false}
 use lib.Dec.{eqb}
 use lib.ListN.{replicate}
-use Rattle.format.specs.Bytes.{isEmpty}
 use Rattle.format.specs.Blocks.{roomOf}
-use Rattle.format.specs.Walk.{Walk, _>>_, Outcome, done, refused, run, andThen}
-use Rattle.format.specs.Superblock.{Superblock, Opening, opened, notOpened, openImage, runOpened, superblockWalk}
-use Rattle.format.specs.Audit.{auditWalk, auditRun}
-use Rattle.format.specs.Path.{Parsed, components, badPath, parsePath}
-use Rattle.format.specs.Lookup.{Target, object, symbolic, componentWalk, fromTarget, follow, followPath, Located, locateWalk, lookupRun}
-use Rattle.format.specs.Describe.{describeWalk, describeRun}
+use Rattle.format.specs.Walk.{Outcome, done, refused}
+use Rattle.format.specs.Audit.{auditRun}
+use Rattle.format.specs.Lookup.{Located, lookupRun}
+use Rattle.format.specs.Describe.{describeRun}
 use Rattle.format.specs.Answers.{auditEnd, audit, lookupEnd, lookup, describeEnd, describe}
-use Rattle.laws.proofs.MoreRoom.{HadRoom, had-room-first, more-room}
+use Rattle.laws.proofs.MoreRoom.{HadRoom}
+use Rattle.laws.proofs.MoreRuns.{audit-run-more, lookup-run-more, describe-run-more}
 use Rattle.links.proofs.ReplyNumbers.{audit-reply-number, lookup-reply-number, describe-reply-number, number-had-room}
 use Rattle.claims.specs.Room.{auditLent, lookupLent, describeLent, MoreRoom, LessRoom}
-
-module _ (im : List ℕ) (room room′ : ℕ) (l : room ≤ room′) (s : Superblock) {A : Type 0} (last : ℕ → Walk A) (x : Outcome A) where
-  follow-more : (ps : List (List ℕ)) (at : ℕ) → HadRoom (follow im s room last x ps at) → follow im s room′ last x ps at ≡ follow im s room last x ps at
-  unfolding follow
-  follow-more [] at h = more-room im (s .endOfFile) room room′ l (superblockWalk s >> last at) [] h
-  follow-more (p ∷ ps) at h =
-      let w = componentWalk s p (isEmpty ps) at in
-      let o = run im (s .endOfFile) room w [] in
-      let same : run im (s .endOfFile) room′ w [] ≡ o = more-room im (s .endOfFile) room room′ l w [] (had-room-first o _ h) in
-      ap (λ (q : Outcome Target). andThen q (λ t bs. fromTarget t (λ a. follow im s room′ last x ps a) x)) same ∙ go o h (follow-more ps)
-    where
-      go : (o : Outcome Target) → HadRoom (andThen o (λ t bs. fromTarget t (λ a. follow im s room last x ps a) x)) →
-          ((a : ℕ) → HadRoom (follow im s room last x ps a) → follow im s room′ last x ps a ≡ follow im s room last x ps a) →
-          andThen o (λ t bs. fromTarget t (λ a. follow im s room′ last x ps a) x) ≡ andThen o (λ t bs. fromTarget t (λ a. follow im s room last x ps a) x)
-      go (done (object a) bs) k rest = rest a k
-      go (done symbolic bs) k rest = refl
-      go (refused r bs) k rest = refl
-
-opened-more : {A : Type 0} (f f′ : Superblock → Outcome A) → ((s : Superblock) → HadRoom (f s) → f′ s ≡ f s) → (o : Opening) → HadRoom (runOpened o f) →
-    runOpened o f′ ≡ runOpened o f
-opened-more f f′ c (opened s) h = c s h
-opened-more f f′ c (notOpened n) h = refl
-
-module _ (im : List ℕ) (lent more : ℕ) (l : roomOf lent ≤ roomOf more) where
-  path-more : {A : Type 0} (last : ℕ → Walk A) (x : Outcome A) (q : Parsed) → HadRoom (followPath im q lent last x) →
-      followPath im q more last x ≡ followPath im q lent last x
-  path-more last x (components ps) h =
-      opened-more (λ s. follow im s (roomOf lent) last x ps (s .root)) (λ s. follow im s (roomOf more) last x ps (s .root))
-      (λ s k. follow-more im (roomOf lent) (roomOf more) l s last x ps (s .root) k) (openImage im) h
-  path-more last x badPath h = refl
-
-  audit-run-more : HadRoom (auditRun im lent) → auditRun im more ≡ auditRun im lent
-  unfolding auditRun
-  audit-run-more h =
-      opened-more (λ s. run im (s .endOfFile) (roomOf lent) (auditWalk s) []) (λ s. run im (s .endOfFile) (roomOf more) (auditWalk s) [])
-      (λ s k. more-room im (s .endOfFile) (roomOf lent) (roomOf more) l (auditWalk s) [] k) (openImage im) h
-
-  lookup-run-more : (path : List ℕ) → HadRoom (lookupRun im path lent) → lookupRun im path more ≡ lookupRun im path lent
-  unfolding lookupRun
-  lookup-run-more path h = path-more locateWalk _ (parsePath path) h
-
-  describe-run-more : (path : List ℕ) → HadRoom (describeRun im path lent) → describeRun im path more ≡ describeRun im path lent
-  unfolding describeRun
-  describe-run-more path h = path-more describeWalk _ (parsePath path) h
 
 -- a reply that isn't 13 is of a run that had room
 audit-had-room : (im : List ℕ) (lent : ℕ) → (audit im lent .number ≡ 13 → ⊥) → HadRoom (auditRun im lent)
@@ -77,7 +31,14 @@ describe-had-room im path lent h = number-had-room (describeRun im path lent) (�
 -- a lookup's reply depends on the words lent in its list alone
 lookup-words : (lent words : ℕ) (o : Outcome Located) →
     lookupEnd words o ≡
-    record { number = lookupEnd lent o .number; kind = lookupEnd lent o .kind; address = lookupEnd lent o .address; blockCount = 0; list = replicate words 0 }
+    record {
+      number = lookupEnd lent o .number;
+      met = lookupEnd lent o .met;
+      kind = lookupEnd lent o .kind;
+      address = lookupEnd lent o .address;
+      blockCount = 0;
+      list = replicate words 0;
+    }
 lookup-words lent words (done p bs) = refl
 lookup-words lent words (refused r bs) = refl
 

@@ -29,7 +29,7 @@ zeros-words zero m = refl
 zeros-words (suc n) m = rw (zeros-number 8 m, drop-zeros 8 m, zeros-words n (m - 8))
 
 -- the first word of bytes that begin with it
-first-word : (w : ℕ) (bs : List ℕ) → w < 2 ^ 64 → u64 (toBytes 8 w ++ bs) 0 ≡ w
+pub first-word : (w : ℕ) (bs : List ℕ) → w < 2 ^ 64 → u64 (toBytes 8 w ++ bs) 0 ≡ w
 first-word w bs h = rw (take-at (toBytes 8 w) bs 8 (length-toBytes 8 w)) (littleEndian-toBytes 8 w h)
 
 words-read : (n : ℕ) (ws : List ℕ) (m : ℕ) → IsWords ws → length ws ≤ n → toWords n (wordBytes ws ++ replicate m 0) ≡ padded n ws

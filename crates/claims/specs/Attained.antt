@@ -1,4 +1,4 @@
--- The lists of numbers are exact: each number is met by its call, most often on file H of document 01 with one byte changed.
+-- The lists of numbers are exact: each number is attained by its call, most often on file H of document 01 with one byte changed.
 use Prim.Native.Nat.{ℕ, zero, suc, _+_, _*_, _/_, _%_}
 use mathlib.Core.List.{List, [], _∷_, _++_}
 use mathlib.Core.Path.{_≡_}
@@ -62,47 +62,47 @@ numbersOf f [] = []
 numbersOf f (im ∷ ims) = f im ∷ numbersOf f ims
 
 -- for a call's number of an image and the words lent: the numbers of these images, and 13 with room for 7 blocks
-abbrev pub auditMet : (List ℕ → ℕ → ℕ) → List ℕ
-auditMet f = numbersOf (λ im. f im 16) auditImages ++ (f soundH 14 ∷ [])
+abbrev pub auditAttained : (List ℕ → ℕ → ℕ) → List ℕ
+auditAttained f = numbersOf (λ im. f im 32) auditImages ++ (f soundH 28 ∷ [])
 
 -- for a call's number of an image, a path and the words lent: the numbers of these images; 13 with room for one block; 14 without a '/' first; 15 for a name
 -- that isn't there; 16 and 17 with a symbolic link and a dataset before the last component
-abbrev pub lookupMet : (List ℕ → List ℕ → ℕ → ℕ) → List ℕ
-lookupMet f =
-    numbersOf (λ im. f im (ascii "/a") 16) lookupImages ++
-    (f soundH (ascii "/a") 2 ∷
-    f soundH (ascii "a") 16 ∷
-    f soundH (ascii "/c") 16 ∷
-    f linking (ascii "/a/b") 16 ∷
-    f soundH (ascii "/a/b") 16 ∷
+abbrev pub lookupAttained : (List ℕ → List ℕ → ℕ → ℕ) → List ℕ
+lookupAttained f =
+    numbersOf (λ im. f im (ascii "/a") 32) lookupImages ++
+    (f soundH (ascii "/a") 4 ∷
+    f soundH (ascii "a") 32 ∷
+    f soundH (ascii "/c") 32 ∷
+    f linking (ascii "/a/b") 32 ∷
+    f soundH (ascii "/a/b") 32 ∷
     [])
 
 -- these; 11 for 5 elements in 4 bytes, 20 for a group
-abbrev pub describeMet : (List ℕ → List ℕ → ℕ → ℕ) → List ℕ
-describeMet f = lookupMet f ++ (f misfilled (ascii "/a") 16 ∷ f soundH (ascii "/") 16 ∷ [])
+abbrev pub describeAttained : (List ℕ → List ℕ → ℕ → ℕ) → List ℕ
+describeAttained f = lookupAttained f ++ (f misfilled (ascii "/a") 32 ∷ f soundH (ascii "/") 32 ∷ [])
 
 -- for a call's number of an image, the words lent and the words of the log: the audit's, and 18 for a log of one word
-abbrev pub mendMet : (List ℕ → ℕ → ℕ → ℕ) → List ℕ
-mendMet f = auditMet (λ im lent. f im lent 2) ++ (f wrongH 16 1 ∷ [])
+abbrev pub mendAttained : (List ℕ → ℕ → ℕ → ℕ) → List ℕ
+mendAttained f = auditAttained (λ im lent. f im lent 2) ++ (f wrongH 32 1 ∷ [])
 
 -- for a call's number of an image, a log and its entries: 0 with nothing to undo; 1 for no byte; 18 for fewer words than entries; 19 for a field, given by
 -- this log, that leaves the image
-abbrev pub undoMet : List ℕ → (List ℕ → List ℕ → ℕ → ℕ) → List ℕ
-undoMet outside f = f soundH [] 0 ∷ f [] [] 0 ∷ f soundH [] 1 ∷ f soundH outside 1 ∷ []
+abbrev pub undoAttained : List ℕ → (List ℕ → List ℕ → ℕ → ℕ) → List ℕ
+undoAttained outside f = f soundH [] 0 ∷ f [] [] 0 ∷ f soundH [] 1 ∷ f soundH outside 1 ∷ []
 
--- the numbers met are the call's list, in its order
+-- the numbers attained are the call's list, in its order
 pub record Attained : Type 0 where
-  pub audits : auditMet (λ im lent. audit im lent .number) ≡ auditNumbers
-  pub lookups : lookupMet (λ im path lent. lookup im path lent .number) ≡ lookupNumbers
-  pub descriptions : describeMet (λ im path lent. describe im path lent .number) ≡ describeNumbers
-  pub mends : mendMet (λ im lent logLent. mend im lent logLent 1 .number) ≡ mendNumbers
-  pub undos : undoMet (2000 ∷ 0 ∷ []) (λ im log e. undo im log e 0 .number) ≡ undoNumbers
+  pub audits : auditAttained (λ im lent. audit im lent .number) ≡ auditNumbers
+  pub lookups : lookupAttained (λ im path lent. lookup im path lent .number) ≡ lookupNumbers
+  pub descriptions : describeAttained (λ im path lent. describe im path lent .number) ≡ describeNumbers
+  pub mends : mendAttained (λ im lent logLent. mend im lent logLent 1 .number) ≡ mendNumbers
+  pub undos : undoAttained (2000 ∷ 0 ∷ []) (λ im log e. undo im log e 0 .number) ≡ undoNumbers
 
 -- the same in C, with 8 bytes for a word and 770 words for the reply
 pub record CAttained : Type 0 where
-  pub audits : auditMet (λ im lent. cAudit im (lent * 8) 6160 .number) ≡ auditNumbers
-  pub lookups : lookupMet (λ im path lent. cLookup im path (lent * 8) 6160 .number) ≡ lookupNumbers
-  pub descriptions : describeMet (λ im path lent. cDescribe im path (lent * 8) 6160 .number) ≡ describeNumbers
-  pub mends : mendMet (λ im lent logLent. cMend im (lent * 8) (logLent * 8) 6160 1 .number) ≡ mendNumbers
+  pub audits : auditAttained (λ im lent. cAudit im (lent * 8) 6160 .number) ≡ auditNumbers
+  pub lookups : lookupAttained (λ im path lent. cLookup im path (lent * 8) 6160 .number) ≡ lookupNumbers
+  pub descriptions : describeAttained (λ im path lent. cDescribe im path (lent * 8) 6160 .number) ≡ describeNumbers
+  pub mends : mendAttained (λ im lent logLent. cMend im (lent * 8) (logLent * 8) 6160 1 .number) ≡ mendNumbers
   -- "Under 770, 3 or 1 words gives 13 first, in C only."
-  pub undos : undoMet (toBytes 8 2000 ++ zeros 8) (λ im log e. cUndo im log 8 e 0 .number) ++ (cUndo [] [] 0 0 0 .number ∷ []) ≡ cUndoNumbers
+  pub undos : undoAttained (toBytes 8 2000 ++ zeros 8) (λ im log e. cUndo im log 8 e 0 .number) ++ (cUndo [] [] 0 0 0 .number ∷ []) ≡ cUndoNumbers

@@ -9,6 +9,7 @@ use Rattle.format.specs.Blocks.{Block, roomOf}
 use Rattle.format.specs.Walk.{done}
 use Rattle.format.specs.Superblock.{Superblock, opened, openImage}
 use Rattle.format.specs.Ledger.{Linked}
+use Rattle.format.specs.Audit.{auditRun}
 use Rattle.format.specs.Answers.{AuditReply, auditEnd, audit}
 use Rattle.format.specs.Front.{objectWords, cAuditEnd, cAudit}
 use Rattle.laws.specs.Blocks.{Fresh, Inside}
@@ -21,6 +22,7 @@ pub record AuditFound (im : List ℕ) (lent : ℕ) : Type 0 where
   pub ledger : List Linked
   pub blocks : List Block
   pub opens : openImage im ≡ opened superblock
+  pub walked : auditRun im lent ≡ done ledger blocks
   pub reply : audit im lent ≡ auditEnd im lent (done ledger blocks)
   pub sound : Sound im superblock ledger
   pub apart : Fresh [] blocks
@@ -28,8 +30,8 @@ pub record AuditFound (im : List ℕ) (lent : ℕ) : Type 0 where
   pub room : length blocks ≤ roomOf lent
 
 -- "block count, objects, then address, stored and true count of each"
-abbrev pub replyWords : AuditReply → List ℕ
-replyWords a = a .blockCount ∷ length (a .objects) ∷ objectWords (a .objects)
+abbrev pub auditWords : AuditReply → List ℕ
+auditWords a = a .blockCount ∷ length (a .objects) ∷ objectWords (a .objects)
 
 pub record AuditReplies : Type 0 where
   pub found : (im : List ℕ) (lent : ℕ) → audit im lent .number ≡ 0 → AuditFound im lent
@@ -37,4 +39,4 @@ pub record AuditReplies : Type 0 where
   pub inC : (im : List ℕ) (l r : ℕ) → 2 + 3 * objectsMost ≤ r / 8 → cAudit im l r ≡ cAuditEnd l r (audit im (l / 8))
   -- the words that a caller reads from the bytes of the reply to an image of bytes
   pub wordsInC : (im : List ℕ) (l r : ℕ) → IsBytes im → 2 + 3 * objectsMost ≤ r / 8 → audit im (l / 8) .number ≡ 0 →
-      toWords (r / 8) (cAudit im l r .reply) ≡ padded (r / 8) (replyWords (audit im (l / 8)))
+      toWords (r / 8) (cAudit im l r .reply) ≡ padded (r / 8) (auditWords (audit im (l / 8)))

@@ -9,6 +9,7 @@ pub mod Audits
 pub mod Replies
 pub mod Causes
 pub mod Demand2
+pub mod Owners
 pub mod Demand3
 pub mod CDemand3
 pub mod DemandThree

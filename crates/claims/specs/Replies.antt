@@ -23,7 +23,7 @@ pub record LookupReplies : Type 0 where
       (lookup im path lent .number ≡ 0) ↔ ((bs : List Block) × IsFound im path lent (lookup im path lent .kind) (lookup im path lent .address) bs)
   -- whatever is found is what the reply gives
   pub given : (im path : List ℕ) (lent kind address : ℕ) (bs : List Block) → IsFound im path lent kind address bs →
-      lookup im path lent ≡ record { number = 0; kind = kind; address = address; blockCount = 0; list = replicate lent 0 }
+      lookup im path lent ≡ record { number = 0; met = 0; kind = kind; address = address; blockCount = 0; list = replicate lent 0 }
   pub absent : (im path : List ℕ) (lent : ℕ) → (lookup im path lent .number ≡ 15) ↔ Absent im path lent
 
 -- a description gives 0 exactly if the path is described, with the reply of that dataset and those blocks

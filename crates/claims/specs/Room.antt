@@ -1,4 +1,5 @@
--- Demand 2, of the room: "Room is the lesser of 1,024 and the whole pairs lent." 13, "no room for the next block", is the one answer that depends on it.
+-- Demand 2, of the room: "Room is the lesser of 1,024 and the whole pairs lent"; "Room and document 01's pairs are counted in fours." 13, "no room for
+-- the next block", is the one answer that depends on it.
 use Prim.Native.Nat.{ℕ, _≤_}
 use mathlib.Core.List.{List}
 use mathlib.Core.Logic.{_⊎_}
@@ -18,7 +19,7 @@ auditLent im lent words = auditEnd im words (auditRun im lent)
 abbrev pub lookupLent : List ℕ → List ℕ → ℕ → ℕ → LookupReply
 lookupLent im path lent words =
     let r = lookup im path lent in
-    record { number = r .number; kind = r .kind; address = r .address; blockCount = 0; list = replicate words 0 }
+    record { number = r .number; met = r .met; kind = r .kind; address = r .address; blockCount = 0; list = replicate words 0 }
 
 abbrev pub describeLent : List ℕ → List ℕ → ℕ → ℕ → DescribeReply
 describeLent im path lent words = describeEnd words (describeRun im path lent)
@@ -41,7 +42,7 @@ pub record LessRoom : Type 0 where
 
 -- on an image that the audit accepts, room for the audit's blocks is enough for every lookup and description: none gives 13
 pub record EnoughRoom (im : List ℕ) (lent : ℕ) : Type 0 where
-  -- "The block count in the answer is the number of pairs entered"
+  -- "The block count in the answer is the number of pairs entered"; "document 01's pairs are counted in fours"
   pub room : audit im lent .blockCount ≤ roomOf lent
   pub lookups : (path : List ℕ) (words : ℕ) → audit im lent .blockCount ≤ roomOf words → OneOf foundNumbers (lookup im path words .number)
   pub descriptions : (path : List ℕ) (words : ℕ) → audit im lent .blockCount ≤ roomOf words → OneOf describedNumbers (describe im path words .number)

@@ -5,7 +5,7 @@ use mathlib.Core.Path.{_≡_, ap, sym, _∙_}
 use native.Mathlib.Omega.{arith}
 use borrow.Author.Tests.{le-leb, lt-leb}
 use lib.ListN.{length}
-use Rattle.format.specs.Limits.{inputMost, blocksMost}
+use Rattle.format.specs.Limits.{inputMost, commandBlocks}
 use Rattle.format.specs.Bytes.{overwrite}
 use Rattle.format.specs.Audit.{Counted}
 use Rattle.format.specs.Command.{objectLines, lines, command}
@@ -23,7 +23,7 @@ unfolding command
 command-long input h = rw (lt-leb (length input) inputMost h)
 
 command-short : (input : List ℕ) → length input ≤ inputMost →
-    command input ≡ lines (audit input (2 * blocksMost) .number) (audit input (2 * blocksMost) .objects)
+    command input ≡ lines (audit input (4 * commandBlocks) .number) (audit input (4 * commandBlocks) .objects)
 unfolding command
 command-short input h = rw (le-leb (length input) inputMost h)
 
@@ -48,7 +48,7 @@ module _ (input ws : List ℕ) (lent : ℕ) (r : Reply) (a : AuditIs input lent 
   places : length (countedOf (r .ledger)) ≡ r .ledger .objects
   places = let l = r .ledger in length-places (l .objects) (l .addresses) (l .stored) (l .«true_counts»)
 
-  pub printed-audit : (b : List ℕ) → lent ≡ 2 * blocksMost → length input ≤ inputMost → outputMost ≤ length b →
+  pub printed-audit : (b : List ℕ) → lent ≡ 4 * commandBlocks → length input ≤ inputMost → outputMost ≤ length b →
       Printed input b (overwrite (overwrite b 0 (firstLine (r .number) (r .ledger .objects))) 17 (objectLines (countedOf (r .ledger))))
       (17 + 33 * r .ledger .objects)
   unfolding outputMost

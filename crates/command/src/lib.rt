@@ -5,7 +5,7 @@ ghost use lib.ListN.{length};
 ghost use Rattle.format.specs.Limits.{inputMost};
 ghost use Rattle.output.specs.Text.{outputMost, Printed};
 ghost use Rattle.command.specs.Response.{Responds, TextWithin};
-use format::BLOCKS_MOST;
+use format::COMMAND_BLOCKS;
 use format::INPUT_MOST;
 use format::OBJECTS_MOST;
 use input::Input;
@@ -18,7 +18,7 @@ use output::OBJECT_LINE;
 // The first line, and one for each of the most objects.
 pub const OUTPUT_MOST: usize = FIRST_LINE + OBJECT_LINE * OBJECTS_MOST;
 
-const LIST_WORDS: usize = 2 * BLOCKS_MOST;
+const LIST_WORDS: usize = 4 * COMMAND_BLOCKS;
 
 // One byte more than is answered for, so that a longer input is known as longer.
 const BUFFER: usize = INPUT_MOST + 1;

@@ -4,9 +4,9 @@ use mathlib.Core.Bool.{Bool}
 use mathlib.Core.List.{List, [], _∷_, _++_}
 use mathlib.Core.Path.{_≡_, refl, ap, sym, _∙_}
 use native.Mathlib.Omega.{arith}
-use lib.ListN.{length, set}
+use lib.ListN.{length}
 use Rattle.format.specs.Bytes.{part}
-use Rattle.format.specs.Blocks.{Block, block, entryAnswer}
+use Rattle.format.specs.Blocks.{Block, blockOf, entryAnswer}
 use Rattle.format.specs.declared.Refusal.{Refusal}
 use Rattle.format.specs.Result.{Result}
 use Rattle.format.specs.Walk.{Walk, ret, refuse, Kind, kindNumber, shown, continuationBlock, _>>=_, run}
@@ -34,13 +34,14 @@ block-inside eof room v a m n ws c p =
     entryAnswer-zero eof room (blocksOf n ws) a m (entered-zero (kindNumber v) a m (blocksOf n ws) (entryAnswer eof room (blocksOf n ws) a m) n c p .0) .0
 
 -- A block of so many bytes that was entered: what is found in it can be counted.
-module _ (eof room : ℕ) (v : Kind) (a m n : ℕ) (ws ws₁ : List ℕ) (l : Lent ws n room) (q : ws₁ ≡ entered (entryAnswer eof room (blocksOf n ws) a m) ws n a m)
+module _ (eof room : ℕ) (v : Kind) (a m n : ℕ) (ws ws₁ : List ℕ) (l : Lent ws n room)
+    (q : ws₁ ≡ entered (entryAnswer eof room (blocksOf n ws) a m) ws n (kindNumber v) a m)
     (c : ℕ)
     (p : Entered c ≡ entering (entryAnswer eof room (blocksOf n ws) a m) (kindNumber v) a m (blocksOf n ws) n) (auditing : Bool) where
   longer : lengthSum (blocksOf c ws₁) ≡ lengthSum (blocksOf n ws) + m
   unfolding lengthSum
   longer =
-      ap lengthSum (entered-blocks eof room v a m n ws ws₁ l q c p) ∙ lengths-append (blocksOf n ws) (block a m ∷ []) ∙
+      ap lengthSum (entered-blocks eof room v a m n ws ws₁ l q c p) ∙ lengths-append (blocksOf n ws) (blockOf (kindNumber v) a m ∷ []) ∙
       (let z : lengthSum (blocksOf n ws) + (m + 0) ≡ lengthSum (blocksOf n ws) + m = omega arith in z)
 
   module _ (addresses counts marks : List ℕ) (objects spare : ℕ) (h : CountingIf auditing ws addresses counts marks eof n objects spare) where
@@ -93,7 +94,7 @@ module _ (auditing : Bool) (eof : ℕ) (ws : List ℕ) (n : ℕ) (addresses coun
 
 module _ {S : Type 0} (visit : Message → S → Result S) (im : List ℕ) (eof room : ℕ) (ws : List ℕ) (n address size : ℕ) (found : S) (l : Lent ws n room)
     (ws₁ : List ℕ)
-    (q : ws₁ ≡ entered (entryAnswer eof room (blocksOf n ws) address size) ws n address size) where
+    (q : ws₁ ≡ entered (entryAnswer eof room (blocksOf n ws) address size) ws n 3 address size) where
   at-entry : Simulation im eof room (blockWalk visit address size found) n ws (blockWalk visit address size found) n ws
   at-entry = start im eof room (blockWalk visit address size found) n ws l
 
@@ -131,7 +132,6 @@ module _ {S : Type 0} (visit : Message → S → Result S) (im : List ℕ) (eof 
           let z = entered-zero 3 address size (blocksOf n ws) (entryAnswer eof room (blocksOf n ws) address size) n m e in
           record {
             holds = messages-held visit im address (address + size) found g (omega arith) (omega (arith, inside)) h;
-            list = q ∙ ap (λ (x : ℕ). entered x ws n address size) (z .0);
-            room = omega (arith, l .lent, behind-entry .lent .counted, z .1);
+            blocks = entered-blocks eof room continuationBlock address size n ws ws₁ l q m e;
             counted = z .1;
           }

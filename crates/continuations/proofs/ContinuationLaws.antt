@@ -1,14 +1,14 @@
 -- Laws of the continuations of a header: the cursor over those that wait, and the walk that enters them.
-use Prim.Native.Nat.{ℕ, zero, suc, _+_, _-_, _≤_, _<_}
+use Prim.Native.Nat.{ℕ, zero, suc, _+_, _-_, _*_, _≤_, _<_}
 use mathlib.Core.List.{List, [], _∷_, _++_, append-assoc, append-nil}
 use mathlib.Core.Logic.{_⊎_, inl, inr, ⊎-elim}
 use mathlib.Core.Path.{_≡_, refl, ap, sym, _∙_, subst}
 use native.Mathlib.Omega.{arith}
-use lib.ListN.{length, getD, drop, set, length-drop}
-use lib.Seq.{drop-set-add}
+use lib.ListN.{length, getD, drop, drop-of-length-le}
+use lib.Seq.{drop-append-le}
 use Rattle.format.specs.Limits.{blocksMost}
 use Rattle.format.specs.Bytes.{littleEndian, u16, u64}
-use Rattle.format.specs.Blocks.{Block, block}
+use Rattle.format.specs.Blocks.{Block}
 use Rattle.format.specs.declared.Refusal.{Refusal}
 use Rattle.format.specs.Result.{Result}
 use Rattle.format.specs.Walk.{Walk, ret, enterBlock, continuationBlock, _>>=_, run}
@@ -16,7 +16,7 @@ use Rattle.format.specs.Header.{Gathered, continuations}
 use Rattle.format.specs.Message.{Message, ofType}
 use Rattle.walk.specs.Numbers.{Number}
 use Rattle.walk.specs.Lent.{blocksOf, Lent, Walked, ended, stopped}
-use Rattle.walk.proofs.BlockList.{blocks-next, blocks-snoc}
+use Rattle.walk.proofs.BlockList.{length-blocksOf, blocks-next}
 use Rattle.walk.proofs.Parts.{part-part}
 use Rattle.laws.proofs.Bind.{bind-assoc}
 use Rattle.laws.proofs.Simulation.{Simulation, same-walk, returned, callee-stopped, callee-done}
@@ -56,7 +56,7 @@ searched im ws count c waiting at w n =
 
 -- the next block of the list, where the last search ended at its block's end
 pub next-block : (im ws : List ℕ) (count b at end : ℕ) (waiting : List Message) → b + 1 < count → end ≤ at → Searched im ws count (cursor b at end) waiting →
-    Waiting im ws count (cursor (b + 1) (getD ws (b + 1 + (b + 1)) 0) (getD ws (b + 1 + (b + 1)) 0 + getD ws (b + 1 + (b + 1) + 1) 0)) waiting
+    Waiting im ws count (cursor (b + 1) (getD ws (4 * (b + 1)) 0) (getD ws (4 * (b + 1)) 0 + getD ws (4 * (b + 1) + 1) 0)) waiting
 next-block im ws count b at end waiting l h =
     ⊎-elim
     (λ e.
@@ -67,12 +67,11 @@ next-block im ws count b at end waiting l h =
 -- the last block
 pub last-block : (im ws : List ℕ) (count b at end : ℕ) (waiting : List Message) → count ≤ b + 1 → Searched im ws count (cursor b at end) waiting →
     Sought im ws count (cursor b at end) waiting
-unfolding blocksOf
 last-block im ws count b at end waiting l =
     ⊎-elim
     (λ e.
-    let z : count - (b + 1) ≡ 0 = omega arith in
-    inl (e .0, subst (λ (k : ℕ). Later im (blocksOf k (drop (b + 1 + (b + 1)) ws)) waiting) z (e .1)))
+    let none = drop-of-length-le (blocksOf count ws) {i = b + 1} (rw length-blocksOf l) in
+    inl (e .0, subst (λ (bs : List Block). Later im bs waiting) none (e .1)))
     (λ e. inr e)
 
 pub found-here : (im ws : List ℕ) (count b at end : ℕ) (waiting : List Message) → at < end → Searched im ws count (cursor b at end) waiting →
@@ -92,30 +91,22 @@ later-more im (x ∷ bs) later new b l h = (
   later-more im bs (l .1) new b (l .4) h,
 )
 
-blocks-more : (ws : List ℕ) (n i a m : ℕ) → i ≤ n → n + n + 2 ≤ length ws →
-    blocksFrom (n + 1) i (set (set ws (n + n) a) (n + n + 1) m) ≡ blocksFrom n i ws ++ (block a m ∷ [])
-blocks-more ws n i a m h l =
-    let d = n - i in
-    let e : n + 1 - i ≡ suc d = omega arith in
-    let f : n + n ≡ i + i + (d + d) = omega arith in
-    let g : n + n + 1 ≡ i + i + suc (d + d) = omega arith in
-    rw (e, g, f, drop-set-add (i + i) (set ws (i + i + (d + d)) a) (suc (d + d)) m, drop-set-add (i + i) ws (d + d) a)
-    (blocks-snoc a m d (d + d) (drop (i + i) ws) refl (simp length-drop (omega arith)))
-
 -- What waits once a continuation was entered, as the last block of the list, and read.
-pub waiting-more : (im ws : List ℕ) (n : ℕ) (c : Cursor) (rest new : List Message) (a m : ℕ) → n + n + 2 ≤ length ws → Holds im a (a + m) new →
-    Waiting im ws n c rest →
-    Waiting im (set (set ws (n + n) a) (n + n + 1) m) (n + 1) c (rest ++ ofType 0x0010 new)
-waiting-more im ws n c rest new a m l h w = record {
-  here = w .here;
-  later = w .later ++ ofType 0x0010 new;
-  block = omega (arith, w .block);
-  holds = w .holds;
-  behind =
-      subst (λ (bs : List Block). Later im bs (w .later ++ ofType 0x0010 new)) (sym (blocks-more ws n (c .block + 1) a m (omega (arith, w .block)) l))
-      (later-more im (blocksFrom n (c .block + 1) ws) (w .later) new (block a m) (w .behind) h);
-  is = ap (λ (x : List Message). x ++ ofType 0x0010 new) (w .is) ∙ append-assoc (ofType 0x0010 (w .here)) (w .later) (ofType 0x0010 new);
-}
+pub waiting-more : (im ws ws₁ : List ℕ) (n m : ℕ) (c : Cursor) (rest new : List Message) (b : Block) → blocksOf m ws₁ ≡ blocksOf n ws ++ (b ∷ []) →
+    m ≡ n + 1 → Holds im (b .at) (b .at + b .size) new → Waiting im ws n c rest → Waiting im ws₁ m c (rest ++ ofType 0x0010 new)
+waiting-more im ws ws₁ n m c rest new b e f h w =
+    let more : blocksFrom m (c .block + 1) ws₁ ≡ blocksFrom n (c .block + 1) ws ++ (b ∷ []) =
+    rw e (drop-append-le (c .block + 1) (blocksOf n ws) (b ∷ []) (rw length-blocksOf (omega (arith, w .block)))) in
+    record {
+      here = w .here;
+      later = w .later ++ ofType 0x0010 new;
+      block = omega (arith, w .block);
+      holds = w .holds;
+      behind =
+          subst (λ (bs : List Block). Later im bs (w .later ++ ofType 0x0010 new)) (sym more)
+          (later-more im (blocksFrom n (c .block + 1) ws) (w .later) new b (w .behind) h);
+      is = ap (λ (x : List Message). x ++ ofType 0x0010 new) (w .is) ∙ append-assoc (ofType 0x0010 (w .here)) (w .later) (ofType 0x0010 new);
+    }
 
 -- the two fields of a continuation message
 fields-read : (im : List ℕ) (at b r : ℕ) → b + 8 ≤ u16 im (at + 2) → Number im (at + 8 + b) 8 r → u64 (messageAt im 0x0010 (at + 8) .body) b ≡ r
@@ -221,8 +212,8 @@ module _ {S : Type 0} (visit : Message → S → Result S) (im : List ℕ) (eof 
 
       pub waits : Waiting im ws₁ m (cursor (c .block) (c .at + 8 + u16 im (c .at + 2)) (c .end)) (next .rest ++ ofType 0x0010 new)
       waits =
-          rw (b .list, b .counted)
-          (waiting-more im ws n (cursor (c .block) (c .at + 8 + u16 im (c .at + 2)) (c .end)) (next .rest) new address size (b .room) (b .holds) (next .next))
+          waiting-more im ws ws₁ n m (cursor (c .block) (c .at + 8 + u16 im (c .at + 2)) (c .end)) (next .rest) new _ (b .blocks) (b .counted) (b .holds)
+          (next .next)
 
       pub followed : (c′ : Cursor) → Sought im ws₁ m c′ (next .rest ++ ofType 0x0010 new) → Following visit im eof room w₀ n₀ ws₀ c′ t′ found′ m ws₁
       followed c′ o = record {

@@ -1,13 +1,13 @@
 -- What reading the continuations of a header returns.
-use Prim.Native.Nat.{ℕ, _+_, _-_, _≤_, _<_}
+use Prim.Native.Nat.{ℕ, _+_, _≤_, _<_}
 use mathlib.Core.List.{List, [], _∷_, _++_}
 use mathlib.Core.Logic.{_⊎_}
 use mathlib.Core.Path.{_≡_}
-use lib.ListN.{length, drop, set}
+use lib.ListN.{length, drop}
 use Rattle.format.specs.Bytes.{u16}
-use Rattle.format.specs.Blocks.{Block}
+use Rattle.format.specs.Blocks.{Block, blockOf}
 use Rattle.format.specs.Result.{Result}
-use Rattle.format.specs.Walk.{Walk, enterBlock, continuationBlock, run, _>>=_}
+use Rattle.format.specs.Walk.{Walk, kindNumber, enterBlock, continuationBlock, run, _>>=_}
 use Rattle.format.specs.Message.{Message, ofType}
 use Rattle.format.specs.Header.{Gathered, messages}
 use Rattle.format.specs.Sharing.{Found}
@@ -30,7 +30,7 @@ Later im (b ∷ bs) waiting =
 
 -- the blocks of the list from number i on
 abbrev pub blocksFrom : ℕ → ℕ → List ℕ → List Block
-blocksFrom count i ws = blocksOf (count - i) (drop (i + i) ws)
+blocksFrom count i ws = drop i (blocksOf count ws)
 
 -- the continuation messages from the cursor on: those of its own block, and of the blocks behind it
 pub record Waiting (im ws : List ℕ) (count : ℕ) (c : Cursor) (waiting : List Message) : Type 0 where
@@ -62,8 +62,7 @@ blockWalk visit a n found = enterBlock continuationBlock a n >>= λ b. messages 
 -- a block was entered, as the last of the list, and these are its messages
 pub record NewBlock (im ws : List ℕ) (count address size : ℕ) (ws′ : List ℕ) (n : ℕ) (new : List Message) : Type 0 where
   pub holds : Holds im address (address + size) new
-  pub list : ws′ ≡ set (set ws (count + count) address) (count + count + 1) size
-  pub room : count + count + 2 ≤ length ws
+  pub blocks : blocksOf n ws′ ≡ blocksOf count ws ++ (blockOf (kindNumber continuationBlock) address size ∷ [])
   pub counted : n ≡ count + 1
 
 -- a walk of messages was run: all messages with their tally and what was found with them, or the refusal

@@ -10,7 +10,7 @@ use walk::kinds;
 use walk::numbers::u16_at;
 use walk::numbers::u64_at;
 ghost use mathlib.Core.List.{List};
-ghost use Prim.Native.Nat.{ℕ, _+_, _≤_, _<_};
+ghost use Prim.Native.Nat.{ℕ, _+_, _*_, _≤_, _<_};
 ghost use lib.ListN.{length};
 ghost use Rattle.format.specs.Limits.{blocksMost};
 ghost use Rattle.format.specs.Message.{Message};
@@ -37,7 +37,7 @@ pub struct Cursor {
 
 // The next continuation message from the cursor on. There is one if `at` is then below `end`.
 fn seek(image: &[u8], list: &[u64], count: usize, cursor: Cursor) -> Cursor
-    requires { ⌜ count + count ≤ length (now list) ⌝ }
+    requires { ⌜ 4 * count ≤ length (now list) ⌝ }
     requires { ⌜ Ready (now image) (now list) count cursor ⌝ }
     ensures { λ r. ⌜ ((waiting : List Message) → Waiting (now (image .entry)) (now (list .entry)) count cursor waiting → Sought (now (image .entry))
         (now (list .entry)) count r waiting) ⌝ }
@@ -51,8 +51,8 @@ fn seek(image: &[u8], list: &[u64], count: usize, cursor: Cursor) -> Cursor
             return Cursor { block, at, end };
         }
         block += 1;
-        let from = list[block + block] as usize;
-        end = from + list[block + block + 1] as usize;
+        let from = list[4 * block] as usize;
+        end = from + list[4 * block + 1] as usize;
         at = scan::next_continuation(image, from, end);
     }
     Cursor { block, at, end }

@@ -5,10 +5,11 @@ use mathlib.Core.List.{List, [], _∷_, _++_}
 use mathlib.Core.Path.{_≡_, refl, ap}
 use native.Mathlib.Omega.{arith}
 use Rattle.format.specs.Bytes.{part}
-use Rattle.format.specs.Blocks.{Block, block, entryAnswer}
+use Rattle.format.specs.Blocks.{Block, blockOf, entryAnswer}
 use Rattle.format.specs.declared.Refusal.{Refusal}
 use Rattle.format.specs.Result.{Result, value, answer}
-use Rattle.format.specs.Walk.{Kind, Length, fixed, lengthIn, shown, fault, Walk, ret, refuse, enter, enterBlock, check, located, _>>=_, _>>_, done, run}
+use Rattle.format.specs.Walk.{kindNumber, Kind, Length, fixed, lengthIn, shown, fault, Walk, ret, refuse, enter, enterBlock, check, located, _>>=_, _>>_}
+use Rattle.format.specs.Walk.{done, run}
 use Rattle.walk.specs.Lent.{lengthSum}
 use Rattle.laws.proofs.SumOfLengths.{lengths-append}
 use Rattle.laws.proofs.Plan.{plan, blocks}
@@ -59,7 +60,7 @@ module _ (im : List ℕ) (eof room : ℕ) where
     rises-enter v a l k x h bs b ms e =
         let n = lengthIn im v a l in
         let d = entered-done (entryAnswer eof room bs a n) _ _ bs b ms e in
-        omega (arith, h (bs ++ (block a n ∷ [])) b ms (d .1), lengths-append bs (block a n ∷ []))
+        omega (arith, h (bs ++ (blockOf (kindNumber v) a n ∷ [])) b ms (d .1), lengths-append bs (blockOf (kindNumber v) a n ∷ []))
 
     pub rises-block : (v : Kind) (a n : ℕ) (k : List ℕ → Walk S) (x : ℕ) → Rises (k (shown v (part im a n))) (x + n) → Rises (enterBlock v a n >>= k) x
     unfolding _>>=_

@@ -33,7 +33,7 @@ corrected (o ∷ os) = record { address = o .address; storedCount = o .trueCount
 
 -- the reply of the audit of a mended image: as before, but for the stored counts
 abbrev pub cleanReply : AuditReply → AuditReply
-cleanReply a = record { number = 0; blockCount = a .blockCount; objects = corrected (a .objects); list = a .list }
+cleanReply a = record { number = 0; met = 0; blockCount = a .blockCount; objects = corrected (a .objects); list = a .list }
 
 -- the audit of im′ is done, with the blocks and objects of that of im, and finds no wrong count; with any other list lent it runs as that of im does
 pub record Clean (im : List ℕ) (lent : ℕ) (im′ : List ℕ) : Type 0 where

@@ -1,11 +1,11 @@
 -- From what was read to the reply.
-use Prim.Native.Nat.{ℕ, _+_, _-_, _≤_}
+use Prim.Native.Nat.{ℕ, _-_, _*_, _≤_}
 use mathlib.Core.Bool.{Bool, true, false}
 use mathlib.Core.List.{List, [], _++_}
 use mathlib.Core.Path.{_≡_}
 use native.Mathlib.Omega.{arith}
 use lib.ListN.{length, take, drop, replicate}
-use Rattle.format.specs.Limits.{rankMost, blocksMost}
+use Rattle.format.specs.Limits.{rankMost}
 use Rattle.format.specs.Bytes.{toWords, padded}
 use Rattle.format.specs.Blocks.{Block, roomOf, blockList}
 use Rattle.format.specs.declared.Refusal.{Refusal}
@@ -44,13 +44,13 @@ pub fields-are : (b : List ℕ) (d : Dataset) (count : ℕ) (sizes maxima : List
     (bs : List Block) → length bs ≡ count →
     replyOf (blockList lent bs) (record {
       number = 0;
+      met = 0;
       «block_count» = count;
       rank = d .rank;
       sizes = sizes;
       maxima = maxima;
       class = t .class;
-      version
-          = t .version;
+      version = t .version;
       bits = t .bits;
       size = t .size;
       shared = t .shared;
@@ -74,17 +74,13 @@ module _ (im : List ℕ) (eof room : ℕ) (w : Walk datasets.Dataset) (ws ws₁ 
 
   -- it is done
   module _ (d : Dataset) (space : Body) (count : ℕ) (h : ReaderIs im eof room w [] ws ws₁ (Read d space count)) where
-    pub count-fits : count + count ≤ length ws₁
+    pub count-fits : 4 * count ≤ length ws₁
     count-fits = omega (arith, h .lent .counted, h .lent .lent)
 
-    pub count-small : count + count ≤ 2048
-    unfolding roomOf blocksMost
-    count-small = omega (arith, h .lent .counted)
+    list-is : take (4 * count) ws₁ ++ replicate (length ws₁ - 4 * count) 0 ≡ blockList (length ws) (blocksOf count ws₁)
+    list-is = rw (list-cleared count (blocksOf count ws₁) ws₁ count-fits (h .lent .numbered), same)
 
-    list-is : take (count + count) ws₁ ++ replicate (length ws₁ - (count + count)) 0 ≡ blockList (length ws) (blocksOf count ws₁)
-    list-is = rw (list-cleared count ws₁ count-fits, same)
-
-    pub object-described : (ws₂ : List ℕ) (r : Description) → ws₂ ≡ take (count + count) ws₁ ++ replicate (length ws₁ - (count + count)) 0 →
+    pub object-described : (ws₂ : List ℕ) (r : Description) → ws₂ ≡ take (4 * count) ws₁ ++ replicate (length ws₁ - 4 * count) 0 →
         ((lent : ℕ) (bs : List Block) → length bs ≡ count → replyOf (blockList lent bs) r ≡ describeEnd lent (done (datasetOf (bodyOf im space) d) bs)) →
         replyOf ws₂ r ≡ describeEnd (length ws) (run im eof (roomOf (length ws)) w [])
     object-described ws₂ r c f =

@@ -8,6 +8,7 @@ use Rattle.describe.specs.declared.Description.{Description}
 abbrev pub replyOf : List ℕ → Description → DescribeReply
 replyOf ws r = record {
   number = r .number;
+  met = r .met;
   blockCount = r .«block_count»;
   rank = r .rank;
   sizes = r .sizes;

@@ -10,6 +10,7 @@ use format::NO_PLACE;
 use format::RANK_MOST;
 use format::Refusal;
 use format::answers;
+use format::met_of;
 use format::number_of;
 use message::Body;
 use superblock::Opening;
@@ -31,9 +32,11 @@ ghost use Rattle.object.specs.Object.{Bounded};
 ghost use Rattle.dataset_at.specs.Reader.{datasetAtWalk, Readable};
 ghost use Rattle.describe.specs.Describe.{replyOf};
 
-// The answer, the number of blocks entered, and the dataset's fields; zeros where the answer isn't 0.
+// The answer, with 6 the first block met, the number of blocks entered, and the dataset's fields; zeros where the answer
+// isn't 0.
 pub struct Description {
     pub number: u8,
+    pub met: u64,
     pub block_count: usize,
     pub rank: usize,
     pub sizes: [u64; RANK_MOST],
@@ -48,7 +51,7 @@ pub struct Description {
     pub data_size: u64,
 }
 
-// A refusal: the list is all zeros, and so are the fields but for the answer.
+// A refusal: the list is all zeros, and so are the fields but for the answer and the block met.
 fn refused(list: &mut [u64], refusal: Refusal) -> Description
     ensures { λ r. ⌜ ((bs : List Block) → replyOf (now (list .exit)) r ≡ describeEnd (length (now (list .entry))) (refusedRun refusal bs)) ⌝ }
 {
@@ -57,6 +60,7 @@ fn refused(list: &mut [u64], refusal: Refusal) -> Description
     let maxima = [0u64; RANK_MOST];
     Description {
         number: number_of(refusal),
+        met: met_of(refusal),
         block_count: 0,
         rank: 0,
         sizes,
@@ -87,6 +91,7 @@ fn described(image: &[u8], space: Body, dataset: Dataset, count: usize) -> Descr
     let layouts = fields::layout_fields(layout);
     Description {
         number: answers::DONE,
+        met: 0,
         block_count: count,
         rank,
         sizes,
@@ -116,7 +121,7 @@ fn describe_object(image: &[u8], list: &mut [u64], superblock: Superblock, at: u
             space,
             count,
         } => {
-            blocks::clear_from(list, count + count);
+            blocks::clear_from(list, 4 * count);
             described(image, space, dataset, count)
         }
     }
@@ -137,7 +142,7 @@ fn describe_path(image: &[u8], path: &[u8], list: &mut [u64], superblock: Superb
     }
 }
 
-// The description of the dataset that a path leads to. The list is lent for the blocks, two words a block.
+// The description of the dataset that a path leads to. The list is lent for the blocks, four words a block.
 pub fn describe(image: &[u8], path: &[u8], list: &mut [u64]) -> Description
     ensures { λ r. ⌜ replyOf (now (list .exit)) r ≡ describeReply (now (image .entry)) (now (path .entry)) (length (now (list .entry))) ⌝ }
 {

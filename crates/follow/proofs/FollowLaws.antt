@@ -13,7 +13,8 @@ use Rattle.format.specs.Walk.{Walk, Outcome, done, refused, run, andThen, _>>_}
 use Rattle.format.specs.Superblock.{Superblock, superblockWalk}
 use Rattle.format.specs.Path.{withByte, pathParts}
 use Rattle.format.specs.Lookup.{Target, object, symbolic, componentWalk, fromTarget, follow}
-use Rattle.walk.specs.Lent.{Lent}
+use Rattle.format.specs.Blocks.{blockWords}
+use Rattle.walk.specs.Lent.{Lent, blocksOf}
 use Rattle.path.specs.Form.{EndsAt, componentsOf}
 use Rattle.component.specs.Component.{EndsAs}
 use Rattle.follow.specs.Follow.{targetRun, restOf}
@@ -66,9 +67,10 @@ module _ (path : List ℕ) (start end : ℕ) (h : start ≤ length path) (e : En
       go true q = rw q (parts-some (drop (end + 1) path) ∙ sym (ne-eqb end (length path) (λ z. omega (arith, leb-true (end + 1) (length path) q, z))))
       go false q = rw q (sym (eq-eqb end (length path) (omega (arith, leb-false (end + 1) (length path) q, e .inside))))
 
--- a list of the same length is lent as this one is
-pub lent-same : {ws ws′ : List ℕ} {n room : ℕ} → Lent ws n room → length ws′ ≡ length ws → Lent ws′ n room
-lent-same l e = record { counted = l .counted; lent = omega (arith, l .lent, e) }
+-- a list of the same length is lent anew as this one was
+pub lent-same : {ws ws′ : List ℕ} {room : ℕ} → Lent ws 0 room → length ws′ ≡ length ws → Lent ws′ 0 room
+unfolding blocksOf blockWords
+lent-same l e = record { counted = l .counted; lent = omega (arith, l .lent, e); numbered = refl }
 
 -- one component was looked up
 module _ (im path : List ℕ) (s : Superblock) (room start end at : ℕ) (h : start ≤ length path) (e : EndsAt path start end) where

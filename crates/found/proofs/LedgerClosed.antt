@@ -30,7 +30,7 @@ use Rattle.found.proofs.IndexLaws.{index-object}
 ends-one : {A : Type 0} (p : Plan A) (a b : A) → EndsIn a p → EndsIn b p → a ≡ b
 ends-one (value c) a b e f = sym e ∙ f
 ends-one (fault r) a b e f = absurd e
-ends-one (step v c p) a b e f = ends-one p a b e f
+ends-one (step c p) a b e f = ends-one p a b e f
 
 -- so a walk that is done has one value, wherever it began and with any room
 done-one : {A : Type 0} (im : List ℕ) (eof : ℕ) (w : Walk A) (room room′ : ℕ) (bs bs′ ms ms′ : List Block) (a b : A) →

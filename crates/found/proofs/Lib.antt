@@ -11,6 +11,8 @@ pub mod PathFound
 pub mod PathRefused
 pub mod LookupFound
 pub mod DescribeFound
+pub mod PathMet
+pub mod DescribeOwned
 pub mod Whole
 pub mod WholeApart
 pub mod WholeShown

@@ -5,7 +5,7 @@ use mathlib.Core.List.{List, [], _∷_, _++_}
 use mathlib.Core.Path.{_≡_, refl, ap}
 use lib.Dec.{leb}
 use Rattle.format.specs.Bytes.{if_then_else_, part}
-use Rattle.format.specs.Blocks.{Block, block}
+use Rattle.format.specs.Blocks.{Block, blockOf}
 use Rattle.format.specs.declared.Refusal.{Refusal}
 use Rattle.format.specs.Walk.{kindNumber, shown, lengthIn, Walk, ret, refuse, enter, _>>=_, done, run}
 use Rattle.laws.proofs.Plan.{fault, step, plan, EndsIn}
@@ -31,7 +31,7 @@ module _ (im : List ℕ) (eof : ℕ) where
       let n = lengthIn im v a l in
       go _ n (leb (a + n) eof) e (whole-bind (k (shown v (part im a n))) f x)
     where
-      go : (r : Refusal) (n : ℕ) (t : Bool) → EndsIn x (if t then step (kindNumber v) (block a n) (plan im eof (k (shown v (part im a n)))) else fault r) →
+      go : (r : Refusal) (n : ℕ) (t : Bool) → EndsIn x (if t then step (blockOf (kindNumber v) a n) (plan im eof (k (shown v (part im a n)))) else fault r) →
           (EndsIn x (plan im eof (k (shown v (part im a n)))) → whole im eof (k (shown v (part im a n)) >>= f) ≡ whole im eof
           (k (shown v (part im a n))) ++ whole im eof (f x)) →
           (if t then contents v a n ∷ whole im eof (k (shown v (part im a n)) >>= f) else size v a l ∷ []) ≡
@@ -58,7 +58,7 @@ module _ (im : List ℕ) (eof : ℕ) where
       let n = lengthIn im v a l in
       rw (h .1) (go _ n (leb (a + n) eof) e (whole-follow exact R (k (shown v (part im a n))) (h .0 (shown v (part im a n))) x (h .2 (shown v (part im a n)))))
     where
-      go : (r : Refusal) (n : ℕ) (t : Bool) → EndsIn x (if t then step (kindNumber v) (block a n) (plan im eof (k (shown v (part im a n)))) else fault r) →
+      go : (r : Refusal) (n : ℕ) (t : Bool) → EndsIn x (if t then step (blockOf (kindNumber v) a n) (plan im eof (k (shown v (part im a n)))) else fault r) →
           (EndsIn x (plan im eof (k (shown v (part im a n)))) → whole im eof (h .0 (shown v (part im a n))) ≡ whole im eof (k (shown v (part im a n)))) →
           (if t then contents v a n ∷ whole im eof (h .0 (shown v (part im a n))) else size v a l ∷ []) ≡
           (if t then contents v a n ∷ whole im eof (k (shown v (part im a n))) else size v a l ∷ [])

@@ -7,7 +7,7 @@ use mathlib.Core.Path.{_≡_, sym, _∙_}
 use native.Mathlib.Omega.{arith}
 use lib.Dec.{leb}
 use Rattle.format.specs.Bytes.{if_then_else_, part}
-use Rattle.format.specs.Blocks.{Block, block, overlapsAny}
+use Rattle.format.specs.Blocks.{Block, blockOf, overlapsAny}
 use Rattle.format.specs.declared.Refusal.{Refusal}
 use Rattle.format.specs.Walk.{Kind, kindNumber, Length, shown, lengthIn, Walk, ret, refuse, enter, done, run}
 use Rattle.laws.specs.Blocks.{Fresh}
@@ -33,8 +33,8 @@ module _ (im : List ℕ) (eof : ℕ) {A : Type 0} where
       let size = lengthIn im u b l in
       go _ size (leb (b + size) eof) e h m (shown-apart (k (shown u (part im b size))) x bs)
     where
-      go : (r : Refusal) (c : ℕ) (t : Bool) → EndsIn x (if t then step (kindNumber u) (block b c) (plan im eof (k (shown u (part im b c)))) else fault r) →
-          Apart bs (blocks (if t then step (kindNumber u) (block b c) (plan im eof (k (shown u (part im b c)))) else fault r)) →
+      go : (r : Refusal) (c : ℕ) (t : Bool) → EndsIn x (if t then step (blockOf (kindNumber u) b c) (plan im eof (k (shown u (part im b c)))) else fault r) →
+          Apart bs (blocks (if t then step (blockOf (kindNumber u) b c) (plan im eof (k (shown u (part im b c)))) else fault r)) →
           List·Memᴰ (contents v a n) (if t then contents u b c ∷ whole im eof (k (shown u (part im b c))) else size u b l ∷ []) →
           (EndsIn x (plan im eof (k (shown u (part im b c)))) → Apart bs (blocks (plan im eof (k (shown u (part im b c))))) → (v : Kind) (a n : ℕ) →
           List·Memᴰ (contents v a n) (whole im eof (k (shown u (part im b c)))) → overlapsAny bs a n ≡ false) →
@@ -56,7 +56,7 @@ module _ (im : List ℕ) (eof : ℕ) {A : Type 0} where
       let size = lengthIn im u b l in
       go _ size (leb (b + size) eof) e m (no-size (k (shown u (part im b size))) x)
     where
-      go : (r : Refusal) (c : ℕ) (t : Bool) → EndsIn x (if t then step (kindNumber u) (block b c) (plan im eof (k (shown u (part im b c)))) else fault r) →
+      go : (r : Refusal) (c : ℕ) (t : Bool) → EndsIn x (if t then step (blockOf (kindNumber u) b c) (plan im eof (k (shown u (part im b c)))) else fault r) →
           List·Memᴰ (size v a j) (if t then contents u b c ∷ whole im eof (k (shown u (part im b c))) else size u b l ∷ []) →
           (EndsIn x (plan im eof (k (shown u (part im b c)))) → (v : Kind) (a : ℕ) (l : Length) →
           List·Memᴰ (size v a l) (whole im eof (k (shown u (part im b c)))) → ⊥) → ⊥
@@ -70,22 +70,24 @@ module _ (im : List ℕ) (eof : ℕ) {A : Type 0} where
   two-beside (refuse k) x bs e h v v′ a n a′ n′ m m′ = absurd (List·Memᴰ·not-nil m)
   two-beside (enter u b l k) x bs e h v v′ a n a′ n′ m m′ =
       let size = lengthIn im u b l in
-      go _ size (leb (b + size) eof) e h m m′ (two-beside (k (shown u (part im b size))) x (bs ++ (block b size ∷ [])))
+      go _ size (leb (b + size) eof) e h m m′ (two-beside (k (shown u (part im b size))) x (bs ++ (blockOf (kindNumber u) b size ∷ [])))
     where
       -- the first block, and a later one
       apart : (c : ℕ) → EndsIn x (plan im eof (k (shown u (part im b c)))) →
-          Fresh (bs ++ (block b c ∷ [])) (blocks (plan im eof (k (shown u (part im b c))))) → (y : Kind) (d o : ℕ) →
+          Fresh (bs ++ (blockOf (kindNumber u) b c ∷ [])) (blocks (plan im eof (k (shown u (part im b c))))) → (y : Kind) (d o : ℕ) →
           List·Memᴰ (contents y d o) (whole im eof (k (shown u (part im b c)))) → Beside d o b c
       apart c q f y d o i =
-          apart-order (block b c) d o
-          (shown-apart (k (shown u (part im b c))) x (block b c ∷ []) q (apart-second bs (block b c ∷ []) (blocks (plan im eof (k (shown u (part im b c)))))
-          (fresh-apart (bs ++ (block b c ∷ [])) (blocks (plan im eof (k (shown u (part im b c))))) f)) y d o i)
+          apart-order (blockOf (kindNumber u) b c) d o
+          (shown-apart (k (shown u (part im b c))) x (blockOf (kindNumber u) b c ∷ []) q
+          (apart-second bs (blockOf (kindNumber u) b c ∷ []) (blocks (plan im eof (k (shown u (part im b c)))))
+          (fresh-apart (bs ++ (blockOf (kindNumber u) b c ∷ [])) (blocks (plan im eof (k (shown u (part im b c))))) f)) y d o i)
 
-      go : (r : Refusal) (c : ℕ) (t : Bool) → EndsIn x (if t then step (kindNumber u) (block b c) (plan im eof (k (shown u (part im b c)))) else fault r) →
-          Fresh bs (blocks (if t then step (kindNumber u) (block b c) (plan im eof (k (shown u (part im b c)))) else fault r)) →
+      go : (r : Refusal) (c : ℕ) (t : Bool) → EndsIn x (if t then step (blockOf (kindNumber u) b c) (plan im eof (k (shown u (part im b c)))) else fault r) →
+          Fresh bs (blocks (if t then step (blockOf (kindNumber u) b c) (plan im eof (k (shown u (part im b c)))) else fault r)) →
           List·Memᴰ (contents v a n) (if t then contents u b c ∷ whole im eof (k (shown u (part im b c))) else size u b l ∷ []) →
           List·Memᴰ (contents v′ a′ n′) (if t then contents u b c ∷ whole im eof (k (shown u (part im b c))) else size u b l ∷ []) →
-          (EndsIn x (plan im eof (k (shown u (part im b c)))) → Fresh (bs ++ (block b c ∷ [])) (blocks (plan im eof (k (shown u (part im b c))))) →
+          (EndsIn x (plan im eof (k (shown u (part im b c)))) →
+          Fresh (bs ++ (blockOf (kindNumber u) b c ∷ [])) (blocks (plan im eof (k (shown u (part im b c))))) →
           (v v′ : Kind) (a n a′ n′ : ℕ) →
           List·Memᴰ (contents v a n) (whole im eof (k (shown u (part im b c)))) → List·Memᴰ (contents v′ a′ n′) (whole im eof (k (shown u (part im b c)))) →
           (contents v a n ≡ contents v′ a′ n′) ⊎ Beside a n a′ n′) →

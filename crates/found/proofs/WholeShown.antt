@@ -9,9 +9,9 @@ use borrow.Author.Tests.{le-leb}
 use lib.Dec.{leb, ltb}
 use lib.ListN.{length}
 use Rattle.format.specs.Bytes.{if_then_else_, part}
-use Rattle.format.specs.Blocks.{Block, block, overlapsAny, entryAnswer}
+use Rattle.format.specs.Blocks.{Block, blockOf, overlapsAny, entryAnswer}
 use Rattle.format.specs.declared.Refusal.{Refusal}
-use Rattle.format.specs.Walk.{Kind, Length, shown, lengthIn, Walk, ret, refuse, enter, Outcome, done, refused, ifEntered, run}
+use Rattle.format.specs.Walk.{kindNumber, Kind, Length, shown, lengthIn, Walk, ret, refuse, enter, Outcome, done, refused, ifEntered, run}
 use Rattle.laws.specs.Shown.{Shown, contents, size, shownBy}
 use Rattle.links.proofs.Outcomes.{enter-inside}
 use Rattle.found.specs.Covered.{Covered}
@@ -55,8 +55,8 @@ module _ (im : List ℕ) where
     shown-begun (refuse k) room bs x m = absurd (List·Memᴰ·not-nil m)
     shown-begun (enter v a l k) room bs x m =
         let n = lengthIn im v a l in
-        block-begun x v a l _ _ (shown-begun (k (shown v (part im a n))) room (bs ++ (block a n ∷ [])) x) (leb (a + n) eof) (overlapsAny bs a n)
-        (ltb (length bs) room) m
+        block-begun x v a l _ _ (shown-begun (k (shown v (part im a n))) room (bs ++ (blockOf (kindNumber v) a n ∷ [])) x)
+        (leb (a + n) eof) (overlapsAny bs a n) (ltb (length bs) room) m
 
     entered-whole : (n : ℕ) (g : ℕ → Refusal) (c : Shown) (ss ts us : List Shown) (o : Outcome A) (x : A) (bs ms : List Block) →
         ifEntered n o (λ m. refused (g m) bs) ≡ done x ms → (o ≡ done x ms → ss ≡ ts) →
@@ -75,7 +75,7 @@ module _ (im : List ℕ) where
         let inside = le-leb (a + n) eof (enter-inside im eof room v a l k bs x ms e) in
         rw inside
         (entered-whole (entryAnswer eof room bs a n) _ (contents v a n) _ _ _ _ x bs ms e
-        (done-shown (k (shown v (part im a n))) room (bs ++ (block a n ∷ [])) x ms))
+        (done-shown (k (shown v (part im a n))) room (bs ++ (blockOf (kindNumber v) a n ∷ [])) x ms))
 
   -- among all that a walk is shown whose run is done
   pub begun-covered : (eof : ℕ) {A : Type 0} (w : Walk A) (room : ℕ) (bs : List Block) (x : A) (ms : List Block) → run im eof room w bs ≡ done x ms →

@@ -5,3 +5,4 @@ pub mod Beside
 pub mod Covered
 pub mod PathShown
 pub mod Accepted
+pub mod DescribeOwned

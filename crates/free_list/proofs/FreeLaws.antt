@@ -59,15 +59,15 @@ search-turn seg count i at own off size whole h o e = let f : count - i ≡ suc 
 module _ (at own : ℕ) (rest : List Block) (off size : ℕ) (whole : Bool) (e : whole ≡ overlapsAny (block at own ∷ rest) off size) where
   pub search-hit : at < off + size → off < at + own → true ≡ whole
   unfolding overlapsAny
-  search-hit l k = sym (e ∙ rw (overlaps-hit at own off size l k))
+  search-hit l k = sym (e ∙ rw (overlaps-hit 0 at own off size l k))
 
   pub search-below : off + size ≤ at → whole ≡ overlapsAny rest off size
   unfolding overlapsAny
-  search-below l = e ∙ rw (overlaps-not-below at own off size l)
+  search-below l = e ∙ rw (overlaps-not-below 0 at own off size l)
 
   pub search-above : at + own ≤ off → whole ≡ overlapsAny rest off size
   unfolding overlapsAny
-  search-above l = e ∙ rw (overlaps-not-above at own off size l)
+  search-above l = e ∙ rw (overlaps-not-above 0 at own off size l)
 
 pub search-end : (seg : List ℕ) (count i at off size : ℕ) (whole : Bool) → count ≤ i → whole ≡ overlapsAny (chain (count - i) seg at) off size → false ≡ whole
 unfolding overlapsAny chain

@@ -13,7 +13,7 @@ use Rattle.laws.proofs.Growth.{run-grown}
 use Rattle.front.proofs.Lent.{roomOf-room}
 
 -- the run depends on the words lent by their room alone
-pub run-room : (im : List ℕ) (k : ℕ) → auditRun im (2 * roomOf k) ≡ auditRun im k
+pub run-room : (im : List ℕ) (k : ℕ) → auditRun im (4 * roomOf k) ≡ auditRun im k
 unfolding auditRun
 run-room im k = ap (λ (m : ℕ). runOpened (openImage im) (λ s. run im (s .endOfFile) m (auditWalk s) [])) (roomOf-room k)
 

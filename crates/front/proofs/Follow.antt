@@ -17,7 +17,7 @@ use Rattle.front.proofs.Lent.{roomOf-room}
 -- The object found is walked by `last`, and a symbolic link ends in x.
 module _ {A : Type 0} (im : List ℕ) (k : ℕ) (last : ℕ → Walk A) (x : Outcome A) where
   -- the words lent matter by their room alone
-  pub path-room : (p : Parsed) → followPath im p (2 * roomOf k) last x ≡ followPath im p k last x
+  pub path-room : (p : Parsed) → followPath im p (4 * roomOf k) last x ≡ followPath im p k last x
   path-room (components ps) = ap (λ (m : ℕ). runOpened (openImage im) (λ s. follow im s m last x ps (s .root))) (roomOf-room k)
   path-room badPath = refl
 

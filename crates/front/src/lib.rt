@@ -1,9 +1,18 @@
-// What the calls share: the answer to a short reply, and zeros.
+// What the calls share: the answer for want of room, the sizes of a working list, zeros, and the reply to a refusal.
+use format::answers;
 ghost use mathlib.Core.Path.{_≡_};
+ghost use Prim.Native.Nat.{_≤_};
 ghost use lib.ListN.{length, replicate};
+ghost use Rattle.format.specs.Front.{paddedBytes, refusalWords};
 
-// The answer to a reply that is too short, given before the image is read.
-pub const SHORT_REPLY: u32 = 13;
+// The answer for want of room: to a reply that is too short it is given before the image is read.
+pub const NO_ROOM: u32 = 13;
+
+// A working list for all blocks takes longer to clear than a small file to read. So an image of at most so many bytes is first
+// read with a list for few blocks.
+pub const SMALL_IMAGE: usize = 16384;
+
+pub const FEW_BLOCKS: usize = 64;
 
 // Zeros for both slices.
 pub fn clear_both(blocks: &mut [u8], reply: &mut [u8])
@@ -12,4 +21,21 @@ pub fn clear_both(blocks: &mut [u8], reply: &mut [u8])
 {
     words::clear_from(blocks, 0);
     words::clear_from(reply, 0);
+}
+
+// The reply to a refusal: zeros, but with 6 the block met in the first word.
+pub fn refuse(blocks: &mut [u8], reply: &mut [u8], number: u8, met: u64) -> u32
+    requires { ⌜ 8 ≤ length (now reply) ⌝ }
+    ensures { λ r. ⌜ r ≡ number ⌝ }
+    ensures { λ _. ⌜ now (blocks .exit) ≡ replicate (length (now (blocks .entry))) 0 ⌝ }
+    ensures { λ _. ⌜ now (reply .exit) ≡ paddedBytes (length (now (reply .entry))) (refusalWords number met) ⌝ }
+{
+    if number != answers::OVERLAP {
+        clear_both(blocks, reply);
+        return number as u32;
+    }
+    let words = [met];
+    words::clear_from(blocks, 0);
+    words::spill(&words, reply);
+    number as u32
 }

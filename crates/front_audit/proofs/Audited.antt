@@ -1,35 +1,36 @@
--- The reply in C of an audit with the words lent that its room needs.
+-- The reply in C of an audit: with the words that a list has, and the same with more.
 use Prim.Native.Nat.{ℕ, _+_, _*_, _/_, _≤_, _<_}
-use mathlib.Core.Path.{_≡_, refl, ap, _∙_}
-use mathlib.Core.List.{List, [], _∷_}
+use mathlib.Core.Path.{_≡_, refl, ap, sym, _∙_}
+use mathlib.Core.List.{List, _∷_}
 use native.Mathlib.Omega.{arith}
 use lib.ListN.{length, take, replicate}
+use lib.Seq.{length-take-le}
 use Rattle.format.specs.Limits.{objectsMost}
 use Rattle.format.specs.Blocks.{roomOf}
-use Rattle.format.specs.Walk.{Outcome, done, refused, run}
-use Rattle.format.specs.Superblock.{Opening, opened, notOpened, openImage, runOpened}
+use Rattle.format.specs.Walk.{Outcome, done, refused}
 use Rattle.format.specs.Ledger.{Linked}
-use Rattle.format.specs.Audit.{auditRun, auditWalk}
+use Rattle.format.specs.Audit.{auditRun}
 use Rattle.format.specs.Answers.{AuditReply, auditEnd, audit}
-use Rattle.format.specs.Front.{paddedBytes, objectWords, CReply, cAuditEnd, cAudit}
+use Rattle.format.specs.Front.{paddedBytes, refusalWords, objectWords, CReply, cAuditEnd, cAudit}
 use Rattle.ledger.specs.Report.{countedPlaces}
 use Rattle.walk.specs.Lent.{left}
-use Rattle.laws.proofs.Growth.{run-grown}
+use Rattle.laws.proofs.MoreRuns.{audit-run-more}
+use Rattle.words.proofs.Words.{padded-zeros}
 use Rattle.audit.specs.Audit.{AuditedIs, replyOf}
 use Rattle.audit.specs.declared.Audited.{Audited}
 use Rattle.front.proofs.Reply.{length-places}
+use Rattle.front.proofs.Lent.{room-lent, less-room, list-bytes}
 use Rattle.front.proofs.AuditRoom.{run-room, run-fits}
-use Rattle.front.proofs.Ended.{ended, too-short, long-enough, Ends, count-fits, done-is, refused-is}
+use Rattle.front.proofs.Ended.{refusal-words, too-short, long-enough, Ends, count-fits, list-used, list-zero, had-room}
 
--- the words of a reply
-abbrev auditWords : AuditReply → List ℕ
-auditWords a = a .blockCount ∷ length (a .objects) ∷ objectWords (a .objects)
+-- the number, the block count and the list of a reply
+ends : (im : List ℕ) (lent : ℕ) (o : Outcome (List Linked)) (a : AuditReply) → a ≡ auditEnd im lent o → Ends lent o (a .number) (a .blockCount) (a .list)
+ends im lent (done os bs) a e = rw e (refl, refl, refl)
+ends im lent (refused x bs) a e = rw e (refl, refl, refl)
 
--- the number, the block count and the list, and the same number and block count whatever is lent
-ends : (im : List ℕ) (m k : ℕ) (o : Outcome (List Linked)) (a : AuditReply) → a ≡ auditEnd im m o →
-    Ends m o (a .number) (a .blockCount) (a .list) × Ends k o (a .number) (a .blockCount) (auditEnd im k o .list)
-ends im m k (done os bs) a e = rw e ((refl, refl, refl), (refl, refl, refl))
-ends im m k (refused n bs) a e = rw e ((refl, refl, refl), (refl, refl, refl))
+audit-ends : (im : List ℕ) (lent : ℕ) (a : AuditReply) → a ≡ audit im lent → Ends lent (auditRun im lent) (a .number) (a .blockCount) (a .list)
+unfolding audit
+audit-ends im lent a e = ends im lent (auditRun im lent) a e
 
 -- Slices of l and r bytes.
 module _ (im : List ℕ) (l r : ℕ) where
@@ -38,47 +39,62 @@ module _ (im : List ℕ) (l r : ℕ) where
   unfolding cAudit
   short-reply list reply = too-short l r (2 + 3 * objectsMost) _ list reply
 
-  -- the same fields, whatever is lent
-  fields-same : (m : ℕ) (o : Outcome (List Linked)) (a : AuditReply) → a ≡ auditEnd im m o →
-      ended l r (a .number) (auditEnd im (l / 8) o .list) (auditWords a) ≡ cAuditEnd l r (auditEnd im (l / 8) o)
-  fields-same m (done os bs) a e = rw e
-  fields-same m (refused n bs) a e = rw e
+  -- What the audit left in a list of so many words and in the arrays of the ledger.
+  module _ (lent : ℕ) (h : lent ≤ l / 8) (ws xs ss ts : List ℕ) (a : Audited) (d : AuditedIs im lent ws xs ss ts a) where
+    at-end : Ends lent (auditRun im lent) (a .number) (a .«block_count») ws
+    at-end = audit-ends im lent (replyOf ws xs ss ts a) (d .reply)
 
-  -- What the audit left in the list lent and in the arrays of the ledger.
-  module _ (lent : ℕ) (ws xs ss ts : List ℕ) (a : Audited) (q : lent ≡ 2 * roomOf (l / 8)) (d : AuditedIs im lent ws xs ss ts a) where
-    abbrev outcome : Outcome (List Linked)
-    outcome = auditRun im (l / 8)
+    pub used-fit : 4 * a .«block_count» ≤ lent
+    used-fit = count-fits l lent (a .number) (a .«block_count») ws h (auditRun im lent) (run-fits im lent) at-end
 
-    abbrev whole : List ℕ
-    whole = auditEnd im (l / 8) outcome .list
-
-    abbrev words : List ℕ
-    words = auditWords (replyOf ws xs ss ts a)
-
-    replied : replyOf ws xs ss ts a ≡ auditEnd im (2 * roomOf (l / 8)) outcome
-    unfolding audit
-    replied = d .reply ∙ rw (q, run-room im (l / 8))
-
-    both : Ends (2 * roomOf (l / 8)) outcome (a .number) (a .«block_count») ws × Ends (l / 8) outcome (a .number) (a .«block_count») whole
-    both = ends im (2 * roomOf (l / 8)) (l / 8) outcome (replyOf ws xs ss ts a) replied
-
-    audited : 2 + 3 * objectsMost ≤ r / 8 → ended l r (a .number) whole words ≡ cAudit im l r
-    unfolding cAudit audit
-    audited h = fields-same (2 * roomOf (l / 8)) outcome (replyOf ws xs ss ts a) replied ∙ long-enough l r (2 + 3 * objectsMost) _ h
-
-    pub blocks-fit : a .«block_count» ≤ roomOf (l / 8)
-    blocks-fit = count-fits l (a .number) (a .«block_count») ws whole outcome (run-fits im (l / 8)) (both .0)
-
-    pub used-fit : length ws ≡ lent → 2 * a .«block_count» ≤ length ws
-    used-fit e = omega (arith, blocks-fit)
-
-    pub done-reply : (list reply : List ℕ) → 2 + 3 * objectsMost ≤ r / 8 → a .number ≡ 0 → list ≡ paddedBytes l (take (2 * a .«block_count») ws) →
+    pub done-reply : (list reply : List ℕ) → a .number ≡ 0 → list ≡ paddedBytes l (take (4 * a .«block_count») ws) →
         reply ≡ paddedBytes r (a .«block_count» ∷ a .objects ∷ objectWords (countedPlaces (a .objects) xs ss ts)) →
-        _≡_ {A = CReply} (record { number = 0; list = list; reply = reply }) (cAudit im l r)
-    done-reply list reply h z e f =
-        let n : length (countedPlaces (a .objects) xs ss ts) ≡ a .objects = length-places (a .objects) xs ss ts in
-        done-is l r (a .number) (a .«block_count») ws whole words outcome _ (run-fits im (l / 8)) both (audited h) list reply z e (f ∙ rw n)
+        _≡_ {A = CReply} (record { number = 0; list = list; reply = reply }) (cAuditEnd l r (audit im lent))
+    done-reply list reply z e f =
+        let used = list-used l lent (a .number) (a .«block_count») ws h (auditRun im lent) (run-fits im lent) at-end in
+        rw (← (d .reply), z, e, f, used, length-places (a .objects) xs ss ts)
 
-    pub refused-reply : (list reply : List ℕ) → 2 + 3 * objectsMost ≤ r / 8 → (a .number ≡ 0 → ⊥) → list ≡ replicate l 0 → reply ≡ replicate r 0 →
-        _≡_ {A = CReply} (record { number = a .number; list = list; reply = reply }) (cAudit im l r)
-    refused-reply list reply h = refused-is l r (a .number) (a .«block_count») ws whole words outcome _ (run-fits im (l / 8)) both (audited h) list reply
+    pub refused-reply : (list reply : List ℕ) → (a .number ≡ 0 → ⊥) → list ≡ replicate l 0 → reply ≡ paddedBytes r (refusalWords (a .number) (a .met)) →
+        _≡_ {A = CReply} (record { number = a .number; list = list; reply = reply }) (cAuditEnd l r (audit im lent))
+    refused-reply list reply z e f =
+        let zeros = list-zero l lent (a .number) (a .«block_count») ws h (auditRun im lent) at-end z in
+        rw (← (d .reply), e, f, zeros, refusal-words (a .number) (a .met) _ z)
+
+  -- a part of a list was lent
+  pub part-reply : (x : CReply) (zs : List ℕ) (n : ℕ) → n ≤ length zs → x ≡ cAuditEnd l r (audit im (length (take n zs))) →
+      x ≡ cAuditEnd l r (audit im n)
+  part-reply x zs n h e = e ∙ ap (λ (k : ℕ). cAuditEnd l r (audit im k)) (length-take-le n zs h)
+
+  -- a run that is the same with other words lent gives the same bytes
+  end-same : (lent more : ℕ) (o : Outcome (List Linked)) → lent ≤ l / 8 → more ≤ l / 8 → 4 * length (left o) ≤ lent → 4 * length (left o) ≤ more →
+      cAuditEnd l r (auditEnd im lent o) ≡ cAuditEnd l r (auditEnd im more o)
+  end-same lent more (done os bs) h k f g = rw (list-bytes l lent bs f h, list-bytes l more bs g k)
+  end-same lent more (refused x bs) h k f g = rw (padded-zeros l lent (omega arith), padded-zeros l more (omega arith))
+
+  run-same : (lent : ℕ) → lent ≤ l / 8 → auditRun im lent ≡ auditRun im (l / 8) → cAuditEnd l r (audit im lent) ≡ cAuditEnd l r (audit im (l / 8))
+  unfolding audit
+  run-same lent h e =
+      let fits : 4 * length (left (auditRun im lent)) ≤ lent = omega (arith, run-fits im lent, room-lent lent) in
+      let more : 4 * length (left (auditRun im lent)) ≤ l / 8 = omega arith in
+      end-same lent (l / 8) (auditRun im lent) h (omega arith) fits more ∙ ap (λ (o : Outcome (List Linked)). cAuditEnd l r (auditEnd im (l / 8) o)) e
+
+  -- The reply x with so many words lent, where the reply's slice is long enough.
+  module _ (long : 2 + 3 * objectsMost ≤ r / 8) (m : ℕ) (x : CReply) (is : x ≡ cAuditEnd l r (audit im (4 * m))) where
+    whole : cAuditEnd l r (audit im (4 * m)) ≡ cAuditEnd l r (audit im (l / 8)) → x ≡ cAudit im l r
+    unfolding cAudit
+    whole e = is ∙ e ∙ long-enough l r (2 + 3 * objectsMost) _ long
+
+    -- the whole room was lent
+    pub all-reply : m ≡ roomOf (l / 8) → x ≡ cAudit im l r
+    all-reply e = whole (run-same (4 * m) (omega (arith, room-lent (l / 8))) (rw e (run-room im (l / 8))))
+
+    -- less was lent, and it was enough
+    pub few-reply : m ≤ roomOf (l / 8) → (x .number ≡ 13 → ⊥) → x ≡ cAudit im l r
+    few-reply h z =
+        let number : (audit im (4 * m) .number ≡ 13 → ⊥) = λ q. z (ap (λ (y : CReply). y .number) is ∙ q) in
+        let room = had-room (4 * m) _ _ _ (auditRun im (4 * m)) (audit-ends im (4 * m) _ refl) number in
+        whole (run-same (4 * m) (omega (arith, room-lent (l / 8))) (sym (audit-run-more im (4 * m) (l / 8) (less-room m (l / 8) h) room)))
+
+-- slices that came back with the same lengths
+pub same-slices : (l r l′ r′ : ℕ) (x : CReply) (a : AuditReply) → l′ ≡ l → r′ ≡ r → x ≡ cAuditEnd l′ r′ a → x ≡ cAuditEnd l r a
+same-slices l r l′ r′ x a e f q = rw (← e, ← f) q

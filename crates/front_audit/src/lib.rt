@@ -2,14 +2,18 @@
 use format::BLOCKS_MOST;
 use format::OBJECTS_MOST;
 use format::answers;
+use front::FEW_BLOCKS;
 ghost use mathlib.Core.Path.{_≡_};
 ghost use mathlib.Core.List.{[], _∷_};
-ghost use Prim.Native.Nat.{_+_, _≤_};
+ghost use Prim.Native.Nat.{_+_, _*_, _/_, _≤_};
 ghost use lib.ListN.{length};
 ghost use Rattle.format.specs.Bytes.{overwrite};
-ghost use Rattle.format.specs.Front.{wordBytes, paddedBytes, objectWords, CReply, cAudit};
+ghost use Rattle.format.specs.Limits.{objectsMost, blocksMost};
+ghost use Rattle.format.specs.Answers as definitions;
+ghost use Rattle.format.specs.Front.{wordBytes, paddedBytes, objectWords, CReply, cAuditEnd, cAudit};
 ghost use Rattle.ledger.specs.Report.{countedPlaces};
 ghost use Rattle.front_audit.specs.Room.{Roomy};
+ghost use Rattle.front.specs.Few.{fewBlocks};
 
 // Writes the words of one object.
 fn put_object(reply: &mut [u8], at: usize, address: u64, stored: u32, true_count: u32)
@@ -44,33 +48,21 @@ fn write_reply(
     words::clear_from(reply, 16 + 24 * i);
 }
 
-// The audit of an image. `blocks` gets the block list, `reply` the other fields; the number is returned.
-pub fn audit_bytes(image: &[u8], blocks: &mut [u8], reply: &mut [u8]) -> u32
+// The audit with the words of a list, which are no more than those of `blocks`.
+fn audit_with(image: &[u8], list: &mut [u64], blocks: &mut [u8], reply: &mut [u8]) -> u32
+    requires { ⌜ length (now list) ≤ length (now blocks) / 8 ⌝ }
+    requires { ⌜ 2 + 3 * objectsMost ≤ length (now reply) / 8 ⌝ }
     ensures { λ r. ⌜ _≡_ {A = CReply} (record { number = r; list = now (blocks .exit); reply = now (reply .exit) })
-        (cAudit (now (image .entry)) (length (now (blocks .entry))) (length (now (reply .entry)))) ⌝ }
+        (cAuditEnd (length (now (blocks .entry))) (length (now (reply .entry))) (definitions.audit (now (image .entry)) (length (now (list .entry))))) ⌝ }
 {
-    let limits = format::the_limits();
-    if reply.len() / 8 < 2 + 3 * limits.objects_most {
-        front::clear_both(blocks, reply);
-        return front::SHORT_REPLY;
-    }
-    let mut list = [0u64; 2 * BLOCKS_MOST];
     let mut addresses = [0u64; OBJECTS_MOST];
     let mut stored = [0u32; OBJECTS_MOST];
     let mut true_counts = [0u32; OBJECTS_MOST];
-    let n = 2 * walk::blocks::room(blocks.len() / 8);
-    let r = audit::audit_into(
-        image,
-        &mut list[..n],
-        &mut addresses,
-        &mut stored,
-        &mut true_counts,
-    );
+    let r = audit::audit_into(image, list, &mut addresses, &mut stored, &mut true_counts);
     if r.number != answers::DONE {
-        front::clear_both(blocks, reply);
-        return r.number as u32;
+        return front::refuse(blocks, reply, r.number, r.met);
     }
-    let used = 2 * r.block_count;
+    let used = 4 * r.block_count;
     words::spill(&list[..used], blocks);
     write_reply(
         reply,
@@ -81,4 +73,53 @@ pub fn audit_bytes(image: &[u8], blocks: &mut [u8], reply: &mut [u8]) -> u32
         &true_counts,
     );
     0
+}
+
+// The audit with room for few blocks, and for all.
+fn audit_few(image: &[u8], blocks: &mut [u8], reply: &mut [u8], room: usize) -> u32
+    requires { ⌜ room ≤ fewBlocks ⌝ }
+    requires { ⌜ 4 * room ≤ length (now blocks) / 8 ⌝ }
+    requires { ⌜ 2 + 3 * objectsMost ≤ length (now reply) / 8 ⌝ }
+    ensures { λ r. ⌜ _≡_ {A = CReply} (record { number = r; list = now (blocks .exit); reply = now (reply .exit) })
+        (cAuditEnd (length (now (blocks .entry))) (length (now (reply .entry))) (definitions.audit (now (image .entry)) (4 * room))) ⌝ }
+{
+    let mut list = [0u64; 4 * FEW_BLOCKS];
+    let n = 4 * room;
+    audit_with(image, &mut list[..n], blocks, reply)
+}
+
+fn audit_all(image: &[u8], blocks: &mut [u8], reply: &mut [u8], room: usize) -> u32
+    requires { ⌜ room ≤ blocksMost ⌝ }
+    requires { ⌜ 4 * room ≤ length (now blocks) / 8 ⌝ }
+    requires { ⌜ 2 + 3 * objectsMost ≤ length (now reply) / 8 ⌝ }
+    ensures { λ r. ⌜ _≡_ {A = CReply} (record { number = r; list = now (blocks .exit); reply = now (reply .exit) })
+        (cAuditEnd (length (now (blocks .entry))) (length (now (reply .entry))) (definitions.audit (now (image .entry)) (4 * room))) ⌝ }
+{
+    let mut list = [0u64; 4 * BLOCKS_MOST];
+    let n = 4 * room;
+    audit_with(image, &mut list[..n], blocks, reply)
+}
+
+// The audit of an image. `blocks` gets the block list, `reply` the other fields; the number is returned.
+pub fn audit_bytes(image: &[u8], blocks: &mut [u8], reply: &mut [u8]) -> u32
+    ensures { λ r. ⌜ _≡_ {A = CReply} (record { number = r; list = now (blocks .exit); reply = now (reply .exit) })
+        (cAudit (now (image .entry)) (length (now (blocks .entry))) (length (now (reply .entry)))) ⌝ }
+{
+    let limits = format::the_limits();
+    if reply.len() / 8 < 2 + 3 * limits.objects_most {
+        front::clear_both(blocks, reply);
+        return front::NO_ROOM;
+    }
+    let room = walk::blocks::room(blocks.len() / 8);
+    if room <= FEW_BLOCKS {
+        return audit_few(image, blocks, reply, room);
+    }
+    if front::SMALL_IMAGE < image.len() {
+        return audit_all(image, blocks, reply, room);
+    }
+    let number = audit_few(image, blocks, reply, FEW_BLOCKS);
+    if number != front::NO_ROOM {
+        return number;
+    }
+    audit_all(image, blocks, reply, room)
 }

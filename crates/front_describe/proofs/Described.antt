@@ -1,9 +1,10 @@
--- The reply in C of a description with the words lent that its room needs.
+-- The reply in C of a description: with the words that a list has, and the same with more.
 use Prim.Native.Nat.{ℕ, _+_, _*_, _/_, _≤_, _<_}
-use mathlib.Core.Path.{_≡_, refl, _∙_}
+use mathlib.Core.Path.{_≡_, refl, ap, sym, _∙_}
 use mathlib.Core.List.{List, []}
 use native.Mathlib.Omega.{arith}
 use lib.ListN.{length, take, replicate}
+use lib.Seq.{length-take-le}
 use Rattle.format.specs.Limits.{rankMost}
 use Rattle.format.specs.Blocks.{roomOf}
 use Rattle.format.specs.Walk.{Outcome, done, refused}
@@ -11,14 +12,17 @@ use Rattle.format.specs.Path.{parsePath}
 use Rattle.format.specs.Dataset.{Dataset}
 use Rattle.format.specs.Describe.{describeWalk, describeRun}
 use Rattle.format.specs.Answers.{DescribeReply, describeEnd, describe}
-use Rattle.format.specs.Front.{paddedBytes, descriptionWords, CReply, cDescribeEnd, cDescribe}
+use Rattle.format.specs.Front.{paddedBytes, refusalWords, descriptionWords, CReply, cDescribeEnd, cDescribe}
 use Rattle.walk.specs.Lent.{left}
+use Rattle.laws.proofs.MoreRuns.{describe-run-more}
+use Rattle.words.proofs.Words.{padded-zeros}
 use Rattle.describe.specs.Describe.{replyOf}
 use Rattle.describe.specs.declared.Description.{Description}
-use Rattle.front.proofs.Ended.{ended, too-short, long-enough, Ends, count-fits, done-is, refused-is}
+use Rattle.front.proofs.Lent.{room-lent, less-room, list-bytes}
 use Rattle.front.proofs.Follow.{path-room, path-fits}
+use Rattle.front.proofs.Ended.{refusal-words, too-short, long-enough, Ends, count-fits, list-used, list-zero, had-room}
 
-run-room : (im path : List ℕ) (k : ℕ) → describeRun im path (2 * roomOf k) ≡ describeRun im path k
+run-room : (im path : List ℕ) (k : ℕ) → describeRun im path (4 * roomOf k) ≡ describeRun im path k
 unfolding describeRun
 run-room im path k = path-room im k describeWalk _ (parsePath path)
 
@@ -26,11 +30,15 @@ run-fits : (im path : List ℕ) (k : ℕ) → length (left (describeRun im path 
 unfolding describeRun
 run-fits im path k = path-fits im k describeWalk _ (omega arith) (parsePath path)
 
--- the number, the block count and the list, and the same number and block count whatever is lent
-ends : (m k : ℕ) (o : Outcome Dataset) (a : DescribeReply) → a ≡ describeEnd m o →
-    Ends m o (a .number) (a .blockCount) (a .list) × Ends k o (a .number) (a .blockCount) (describeEnd k o .list)
-ends m k (done d bs) a e = rw e ((refl, refl, refl), (refl, refl, refl))
-ends m k (refused n bs) a e = rw e ((refl, refl, refl), (refl, refl, refl))
+-- the number, the block count and the list of a reply
+ends : (lent : ℕ) (o : Outcome Dataset) (a : DescribeReply) → a ≡ describeEnd lent o → Ends lent o (a .number) (a .blockCount) (a .list)
+ends lent (done d bs) a e = rw e (refl, refl, refl)
+ends lent (refused x bs) a e = rw e (refl, refl, refl)
+
+describe-ends : (im path : List ℕ) (lent : ℕ) (a : DescribeReply) → a ≡ describe im path lent →
+    Ends lent (describeRun im path lent) (a .number) (a .blockCount) (a .list)
+unfolding describe
+describe-ends im path lent a e = ends lent (describeRun im path lent) a e
 
 -- Slices of l and r bytes.
 module _ (im path : List ℕ) (l r : ℕ) where
@@ -39,45 +47,63 @@ module _ (im path : List ℕ) (l r : ℕ) where
   unfolding cDescribe
   short-reply list reply = too-short l r (10 + 2 * rankMost) _ list reply
 
-  -- the same fields, whatever is lent
-  fields-same : (m : ℕ) (o : Outcome Dataset) (a : DescribeReply) → a ≡ describeEnd m o →
-      ended l r (a .number) (describeEnd (l / 8) o .list) (descriptionWords a) ≡ cDescribeEnd l r (describeEnd (l / 8) o)
-  fields-same m (done d bs) a e = rw e
-  fields-same m (refused n bs) a e = rw e
+  -- What the description returned and left in a list of so many words.
+  module _ (lent : ℕ) (h : lent ≤ l / 8) (ws : List ℕ) (a : Description) (d : replyOf ws a ≡ describe im path lent) where
+    at-end : Ends lent (describeRun im path lent) (a .number) (a .«block_count») ws
+    at-end = describe-ends im path lent (replyOf ws a) d
 
-  -- What the description returned and left in the list lent.
-  module _ (lent : ℕ) (ws : List ℕ) (a : Description) (q : lent ≡ 2 * roomOf (l / 8)) (d : replyOf ws a ≡ describe im path lent) where
-    abbrev outcome : Outcome Dataset
-    outcome = describeRun im path (l / 8)
+    pub used-fit : 4 * a .«block_count» ≤ lent
+    used-fit = count-fits l lent (a .number) (a .«block_count») ws h (describeRun im path lent) (run-fits im path lent) at-end
 
-    abbrev whole : List ℕ
-    whole = describeEnd (l / 8) outcome .list
+    pub done-reply : (list reply : List ℕ) → a .number ≡ 0 → list ≡ paddedBytes l (take (4 * a .«block_count») ws) →
+        reply ≡ paddedBytes r (descriptionWords (replyOf [] a)) →
+        _≡_ {A = CReply} (record { number = 0; list = list; reply = reply }) (cDescribeEnd l r (describe im path lent))
+    done-reply list reply z e f =
+        let used = list-used l lent (a .number) (a .«block_count») ws h (describeRun im path lent) (run-fits im path lent) at-end in
+        rw (← d, z, e, f, used)
 
-    replied : replyOf ws a ≡ describeEnd (2 * roomOf (l / 8)) outcome
-    unfolding describe
-    replied = d ∙ rw (q, run-room im path (l / 8))
+    pub refused-reply : (list reply : List ℕ) → (a .number ≡ 0 → ⊥) → list ≡ replicate l 0 → reply ≡ paddedBytes r (refusalWords (a .number) (a .met)) →
+        _≡_ {A = CReply} (record { number = a .number; list = list; reply = reply }) (cDescribeEnd l r (describe im path lent))
+    refused-reply list reply z e f =
+        let zeros = list-zero l lent (a .number) (a .«block_count») ws h (describeRun im path lent) at-end z in
+        rw (← d, e, f, zeros, refusal-words (a .number) (a .met) _ z)
 
-    both : Ends (2 * roomOf (l / 8)) outcome (a .number) (a .«block_count») ws × Ends (l / 8) outcome (a .number) (a .«block_count») whole
-    both = ends (2 * roomOf (l / 8)) (l / 8) outcome (replyOf ws a) replied
+  -- a part of a list was lent
+  pub part-reply : (x : CReply) (zs : List ℕ) (n : ℕ) → n ≤ length zs → x ≡ cDescribeEnd l r (describe im path (length (take n zs))) →
+      x ≡ cDescribeEnd l r (describe im path n)
+  part-reply x zs n h e = e ∙ ap (λ (k : ℕ). cDescribeEnd l r (describe im path k)) (length-take-le n zs h)
 
-    described : 10 + 2 * rankMost ≤ r / 8 → ended l r (a .number) whole (descriptionWords (replyOf [] a)) ≡ cDescribe im path l r
-    unfolding cDescribe describe
-    described h = fields-same (2 * roomOf (l / 8)) outcome (replyOf ws a) replied ∙ long-enough l r (10 + 2 * rankMost) _ h
+  -- a run that is the same with other words lent gives the same bytes
+  end-same : (lent more : ℕ) (o : Outcome Dataset) → lent ≤ l / 8 → more ≤ l / 8 → 4 * length (left o) ≤ lent → 4 * length (left o) ≤ more →
+      cDescribeEnd l r (describeEnd lent o) ≡ cDescribeEnd l r (describeEnd more o)
+  end-same lent more (done d bs) h k f g = rw (list-bytes l lent bs f h, list-bytes l more bs g k)
+  end-same lent more (refused x bs) h k f g = rw (padded-zeros l lent (omega arith), padded-zeros l more (omega arith))
 
-    pub blocks-fit : a .«block_count» ≤ roomOf (l / 8)
-    blocks-fit = count-fits l (a .number) (a .«block_count») ws whole outcome (run-fits im path (l / 8)) (both .0)
+  run-same : (lent : ℕ) → lent ≤ l / 8 → describeRun im path lent ≡ describeRun im path (l / 8) →
+      cDescribeEnd l r (describe im path lent) ≡ cDescribeEnd l r (describe im path (l / 8))
+  unfolding describe
+  run-same lent h e =
+      let fits : 4 * length (left (describeRun im path lent)) ≤ lent = omega (arith, run-fits im path lent, room-lent lent) in
+      let more : 4 * length (left (describeRun im path lent)) ≤ l / 8 = omega arith in
+      end-same lent (l / 8) (describeRun im path lent) h (omega arith) fits more ∙ ap (λ (o : Outcome Dataset). cDescribeEnd l r (describeEnd (l / 8) o)) e
 
-    pub used-fit : length ws ≡ lent → 2 * a .«block_count» ≤ length ws
-    used-fit e = omega (arith, blocks-fit)
+  -- The reply x with so many words lent, where the reply's slice is long enough.
+  module _ (long : 10 + 2 * rankMost ≤ r / 8) (m : ℕ) (x : CReply) (is : x ≡ cDescribeEnd l r (describe im path (4 * m))) where
+    whole : cDescribeEnd l r (describe im path (4 * m)) ≡ cDescribeEnd l r (describe im path (l / 8)) → x ≡ cDescribe im path l r
+    unfolding cDescribe
+    whole e = is ∙ e ∙ long-enough l r (10 + 2 * rankMost) _ long
 
-    pub done-reply : (list reply : List ℕ) → 10 + 2 * rankMost ≤ r / 8 → a .number ≡ 0 → list ≡ paddedBytes l (take (2 * a .«block_count») ws) →
-        reply ≡ paddedBytes r (descriptionWords (replyOf [] a)) → _≡_ {A = CReply} (record { number = 0; list = list; reply = reply }) (cDescribe im path l r)
-    done-reply list reply h =
-        done-is l r (a .number) (a .«block_count») ws whole (descriptionWords (replyOf [] a)) outcome _ (run-fits im path (l / 8)) both (described h) list
-        reply
+    -- the whole room was lent
+    pub all-reply : m ≡ roomOf (l / 8) → x ≡ cDescribe im path l r
+    all-reply e = whole (run-same (4 * m) (omega (arith, room-lent (l / 8))) (rw e (run-room im path (l / 8))))
 
-    pub refused-reply : (list reply : List ℕ) → 10 + 2 * rankMost ≤ r / 8 → (a .number ≡ 0 → ⊥) → list ≡ replicate l 0 → reply ≡ replicate r 0 →
-        _≡_ {A = CReply} (record { number = a .number; list = list; reply = reply }) (cDescribe im path l r)
-    refused-reply list reply h =
-        refused-is l r (a .number) (a .«block_count») ws whole (descriptionWords (replyOf [] a)) outcome _ (run-fits im path (l / 8)) both (described h) list
-        reply
+    -- less was lent, and it was enough
+    pub few-reply : m ≤ roomOf (l / 8) → (x .number ≡ 13 → ⊥) → x ≡ cDescribe im path l r
+    few-reply h z =
+        let number : (describe im path (4 * m) .number ≡ 13 → ⊥) = λ q. z (ap (λ (y : CReply). y .number) is ∙ q) in
+        let room = had-room (4 * m) _ _ _ (describeRun im path (4 * m)) (describe-ends im path (4 * m) _ refl) number in
+        whole (run-same (4 * m) (omega (arith, room-lent (l / 8))) (sym (describe-run-more im (4 * m) (l / 8) (less-room m (l / 8) h) path room)))
+
+-- slices that came back with the same lengths
+pub same-slices : (l r l′ r′ : ℕ) (x : CReply) (a : DescribeReply) → l′ ≡ l → r′ ≡ r → x ≡ cDescribeEnd l′ r′ a → x ≡ cDescribeEnd l r a
+same-slices l r l′ r′ x a e f q = rw (← e, ← f) q

@@ -2,13 +2,17 @@
 use describe::Description;
 use format::BLOCKS_MOST;
 use format::answers;
+use front::FEW_BLOCKS;
 ghost use mathlib.Core.Path.{_≡_};
 ghost use mathlib.Core.List.{[]};
-ghost use Prim.Native.Nat.{_+_, _*_, _≤_};
+ghost use Prim.Native.Nat.{_+_, _*_, _/_, _≤_};
 ghost use lib.ListN.{length};
 ghost use Rattle.format.specs.Bytes.{overwrite};
-ghost use Rattle.format.specs.Front.{wordBytes, paddedBytes, descriptionWords, CReply, cDescribe};
+ghost use Rattle.format.specs.Limits.{rankMost, blocksMost};
+ghost use Rattle.format.specs.Answers as definitions;
+ghost use Rattle.format.specs.Front.{wordBytes, paddedBytes, descriptionWords, CReply, cDescribeEnd, cDescribe};
 ghost use Rattle.describe.specs.Describe.{replyOf};
+ghost use Rattle.front.specs.Few.{fewBlocks};
 
 // Writes words one after the other.
 fn put_words(reply: &mut [u8], at: usize, words: &[u64])
@@ -47,6 +51,57 @@ fn write_description(reply: &mut [u8], d: Description)
     words::clear_from(reply, 592);
 }
 
+// The description with the words of a list, which are no more than those of `blocks`.
+fn describe_with(
+    image: &[u8],
+    path: &[u8],
+    list: &mut [u64],
+    blocks: &mut [u8],
+    reply: &mut [u8],
+) -> u32
+    requires { ⌜ length (now list) ≤ length (now blocks) / 8 ⌝ }
+    requires { ⌜ 10 + 2 * rankMost ≤ length (now reply) / 8 ⌝ }
+    ensures { λ r. ⌜ _≡_ {A = CReply} (record { number = r; list = now (blocks .exit); reply = now (reply .exit) })
+        (cDescribeEnd (length (now (blocks .entry))) (length (now (reply .entry)))
+        (definitions.describe (now (image .entry)) (now (path .entry)) (length (now (list .entry))))) ⌝ }
+{
+    let r = describe::describe(image, path, list);
+    if r.number != answers::DONE {
+        return front::refuse(blocks, reply, r.number, r.met);
+    }
+    let used = 4 * r.block_count;
+    words::spill(&list[..used], blocks);
+    write_description(reply, r);
+    0
+}
+
+// The description with room for few blocks, and for all.
+fn describe_few(image: &[u8], path: &[u8], blocks: &mut [u8], reply: &mut [u8], room: usize) -> u32
+    requires { ⌜ room ≤ fewBlocks ⌝ }
+    requires { ⌜ 4 * room ≤ length (now blocks) / 8 ⌝ }
+    requires { ⌜ 10 + 2 * rankMost ≤ length (now reply) / 8 ⌝ }
+    ensures { λ r. ⌜ _≡_ {A = CReply} (record { number = r; list = now (blocks .exit); reply = now (reply .exit) })
+        (cDescribeEnd (length (now (blocks .entry))) (length (now (reply .entry)))
+        (definitions.describe (now (image .entry)) (now (path .entry)) (4 * room))) ⌝ }
+{
+    let mut list = [0u64; 4 * FEW_BLOCKS];
+    let n = 4 * room;
+    describe_with(image, path, &mut list[..n], blocks, reply)
+}
+
+fn describe_all(image: &[u8], path: &[u8], blocks: &mut [u8], reply: &mut [u8], room: usize) -> u32
+    requires { ⌜ room ≤ blocksMost ⌝ }
+    requires { ⌜ 4 * room ≤ length (now blocks) / 8 ⌝ }
+    requires { ⌜ 10 + 2 * rankMost ≤ length (now reply) / 8 ⌝ }
+    ensures { λ r. ⌜ _≡_ {A = CReply} (record { number = r; list = now (blocks .exit); reply = now (reply .exit) })
+        (cDescribeEnd (length (now (blocks .entry))) (length (now (reply .entry)))
+        (definitions.describe (now (image .entry)) (now (path .entry)) (4 * room))) ⌝ }
+{
+    let mut list = [0u64; 4 * BLOCKS_MOST];
+    let n = 4 * room;
+    describe_with(image, path, &mut list[..n], blocks, reply)
+}
+
 // The description of what a path leads to. `blocks` gets the block list, `reply` the other fields; the number is returned.
 pub fn describe_bytes(image: &[u8], path: &[u8], blocks: &mut [u8], reply: &mut [u8]) -> u32
     ensures { λ r. ⌜ _≡_ {A = CReply} (record { number = r; list = now (blocks .exit); reply = now (reply .exit) })
@@ -55,17 +110,18 @@ pub fn describe_bytes(image: &[u8], path: &[u8], blocks: &mut [u8], reply: &mut 
     let limits = format::the_limits();
     if reply.len() / 8 < 10 + 2 * limits.rank_most {
         front::clear_both(blocks, reply);
-        return front::SHORT_REPLY;
+        return front::NO_ROOM;
     }
-    let mut list = [0u64; 2 * BLOCKS_MOST];
-    let n = 2 * walk::blocks::room(blocks.len() / 8);
-    let r = describe::describe(image, path, &mut list[..n]);
-    if r.number != answers::DONE {
-        front::clear_both(blocks, reply);
-        return r.number as u32;
+    let room = walk::blocks::room(blocks.len() / 8);
+    if room <= FEW_BLOCKS {
+        return describe_few(image, path, blocks, reply, room);
     }
-    let used = 2 * r.block_count;
-    words::spill(&list[..used], blocks);
-    write_description(reply, r);
-    0
+    if front::SMALL_IMAGE < image.len() {
+        return describe_all(image, path, blocks, reply, room);
+    }
+    let number = describe_few(image, path, blocks, reply, FEW_BLOCKS);
+    if number != front::NO_ROOM {
+        return number;
+    }
+    describe_all(image, path, blocks, reply, room)
 }

@@ -1,12 +1,69 @@
 // Path lookup on byte slices.
 use format::BLOCKS_MOST;
 use format::answers;
+use front::FEW_BLOCKS;
 ghost use mathlib.Core.Path.{_≡_};
+ghost use Prim.Native.Nat.{_*_, _/_, _≤_};
 ghost use lib.ListN.{length};
-ghost use Rattle.format.specs.Front.{CReply, cLookup};
+ghost use Rattle.format.specs.Limits.{blocksMost};
+ghost use Rattle.format.specs.Answers as definitions;
+ghost use Rattle.format.specs.Front.{CReply, cLookupEnd, cLookup};
+ghost use Rattle.front.specs.Few.{fewBlocks};
 
 // The words of the reply: block count, kind, address.
 const REPLY_WORDS: usize = 3;
+
+// The lookup with the words of a list. `blocks` is zeros at the end.
+fn lookup_with(
+    image: &[u8],
+    path: &[u8],
+    list: &mut [u64],
+    blocks: &mut [u8],
+    reply: &mut [u8],
+) -> u32
+    requires { ⌜ length (now list) ≤ length (now blocks) / 8 ⌝ }
+    requires { ⌜ 3 ≤ length (now reply) / 8 ⌝ }
+    ensures { λ r. ⌜ _≡_ {A = CReply} (record { number = r; list = now (blocks .exit); reply = now (reply .exit) })
+        (cLookupEnd (length (now (blocks .entry))) (length (now (reply .entry)))
+        (definitions.lookup (now (image .entry)) (now (path .entry)) (length (now (list .entry))))) ⌝ }
+{
+    let r = lookup::lookup::lookup(image, path, list);
+    if r.number != answers::DONE {
+        return front::refuse(blocks, reply, r.number, r.met);
+    }
+    let kind = r.kind as u64;
+    let words = [0u64, kind, r.address];
+    words::clear_from(blocks, 0);
+    words::spill(&words, reply);
+    0
+}
+
+// The lookup with room for few blocks, and for all.
+fn lookup_few(image: &[u8], path: &[u8], blocks: &mut [u8], reply: &mut [u8], room: usize) -> u32
+    requires { ⌜ room ≤ fewBlocks ⌝ }
+    requires { ⌜ 4 * room ≤ length (now blocks) / 8 ⌝ }
+    requires { ⌜ 3 ≤ length (now reply) / 8 ⌝ }
+    ensures { λ r. ⌜ _≡_ {A = CReply} (record { number = r; list = now (blocks .exit); reply = now (reply .exit) })
+        (cLookupEnd (length (now (blocks .entry))) (length (now (reply .entry)))
+        (definitions.lookup (now (image .entry)) (now (path .entry)) (4 * room))) ⌝ }
+{
+    let mut list = [0u64; 4 * FEW_BLOCKS];
+    let n = 4 * room;
+    lookup_with(image, path, &mut list[..n], blocks, reply)
+}
+
+fn lookup_all(image: &[u8], path: &[u8], blocks: &mut [u8], reply: &mut [u8], room: usize) -> u32
+    requires { ⌜ room ≤ blocksMost ⌝ }
+    requires { ⌜ 4 * room ≤ length (now blocks) / 8 ⌝ }
+    requires { ⌜ 3 ≤ length (now reply) / 8 ⌝ }
+    ensures { λ r. ⌜ _≡_ {A = CReply} (record { number = r; list = now (blocks .exit); reply = now (reply .exit) })
+        (cLookupEnd (length (now (blocks .entry))) (length (now (reply .entry)))
+        (definitions.lookup (now (image .entry)) (now (path .entry)) (4 * room))) ⌝ }
+{
+    let mut list = [0u64; 4 * BLOCKS_MOST];
+    let n = 4 * room;
+    lookup_with(image, path, &mut list[..n], blocks, reply)
+}
 
 // The lookup of a path. `blocks` is only lent, and is zeros at the end; `reply` gets the other fields; the number is returned.
 pub fn lookup_bytes(image: &[u8], path: &[u8], blocks: &mut [u8], reply: &mut [u8]) -> u32
@@ -15,18 +72,18 @@ pub fn lookup_bytes(image: &[u8], path: &[u8], blocks: &mut [u8], reply: &mut [u
 {
     if reply.len() / 8 < REPLY_WORDS {
         front::clear_both(blocks, reply);
-        return front::SHORT_REPLY;
+        return front::NO_ROOM;
     }
-    let mut list = [0u64; 2 * BLOCKS_MOST];
-    let n = 2 * walk::blocks::room(blocks.len() / 8);
-    let r = lookup::lookup::lookup(image, path, &mut list[..n]);
-    if r.number != answers::DONE {
-        front::clear_both(blocks, reply);
-        return r.number as u32;
+    let room = walk::blocks::room(blocks.len() / 8);
+    if room <= FEW_BLOCKS {
+        return lookup_few(image, path, blocks, reply, room);
     }
-    let kind = r.kind as u64;
-    let words = [0u64, kind, r.address];
-    words::clear_from(blocks, 0);
-    words::spill(&words, reply);
-    0
+    if front::SMALL_IMAGE < image.len() {
+        return lookup_all(image, path, blocks, reply, room);
+    }
+    let number = lookup_few(image, path, blocks, reply, FEW_BLOCKS);
+    if number != front::NO_ROOM {
+        return number;
+    }
+    lookup_all(image, path, blocks, reply, room)
 }

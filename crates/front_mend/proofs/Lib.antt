@@ -1,1 +1,2 @@
+mod Part
 mod Mended

@@ -1,6 +1,6 @@
--- The reply in C of a mending with the words lent that its room and its log need.
+-- The reply in C of a mending: with the words that a list and its log have, and the same with more.
 use Prim.Native.Nat.{ℕ, zero, suc, _*_, _/_, _-_, _≤_, _<_, min}
-use mathlib.Core.Path.{_≡_, refl, sym, _∙_}
+use mathlib.Core.Path.{_≡_, refl, ap, sym, _∙_}
 use mathlib.Core.Bool.{Bool, true, false}
 use mathlib.Core.List.{List, [], _∷_}
 use native.Mathlib.Omega.{arith}
@@ -11,18 +11,20 @@ use lib.Dec.{leb}
 use Rattle.format.specs.Limits.{objectsMost}
 use Rattle.format.specs.Bytes.{if_then_else_, padded}
 use Rattle.format.specs.Blocks.{roomOf, blockList}
-use Rattle.format.specs.Walk.{answerOf, Outcome, done, refused}
+use Rattle.format.specs.Walk.{answerOf, metOf, Outcome, done, refused}
 use Rattle.format.specs.Ledger.{Linked}
 use Rattle.format.specs.Audit.{Counted, countedIn, auditRun}
 use Rattle.format.specs.Log.{Change, logWords}
 use Rattle.format.specs.Mend.{corrections}
 use Rattle.format.specs.Answers.{AuditReply, MendReply, auditEnd, audit, notMended, mendedBy, mendAfter, mend}
-use Rattle.format.specs.Front.{paddedBytes, ifDone, CMend, cMendEnd, cMend}
+use Rattle.format.specs.Front.{paddedBytes, refusalWords, replyWords, CMend, cMendEnd, cMend}
 use Rattle.walk.specs.Lent.{left}
+use Rattle.laws.proofs.MoreRoom.{HadRoom}
+use Rattle.laws.proofs.MoreRuns.{audit-run-more}
 use Rattle.words.proofs.Words.{padded-twice, padded-zeros}
 use Rattle.undo_log.proofs.LogLaws.{length-logWords}
-use Rattle.front.proofs.Lent.{list-bytes}
-use Rattle.front.proofs.Ended.{zero-list}
+use Rattle.front.proofs.Lent.{room-lent, less-room, list-bytes, used-bytes}
+use Rattle.front.proofs.Ended.{refusal-words}
 use Rattle.front.proofs.AuditRoom.{run-room, run-fits}
 
 -- the words of the log that are lent, of so many
@@ -45,15 +47,15 @@ within n k lent back e f h = omega arith
 abbrev used : ℕ → ℕ → ℕ → MendReply → CMend
 used l g r x = record {
   number = x .number;
-  list = paddedBytes l (take (2 * x .blockCount) (x .list));
+  list = paddedBytes l (take (4 * x .blockCount) (x .list));
   log = paddedBytes g (take (2 * x .entries) (x .log));
-  reply = paddedBytes r (ifDone (x .number) (x .blockCount ∷ x .entries ∷ x .writes ∷ []));
+  reply = paddedBytes r (replyWords (x .number) (x .met) (x .blockCount ∷ x .entries ∷ x .writes ∷ []));
   image = x .image;
 }
 
--- the used words of a reply x fit, none are used with a refusal, and they are the bytes of the reply y
-pub record Taken (l g r : ℕ) (x y : MendReply) : Type 0 where
-  pub blocksFit : 2 * x .blockCount ≤ 2 * roomOf (l / 8)
+-- the used words of a reply x with so many words lent fit, none are used with a refusal, and they are the bytes of the reply y
+pub record Taken (l g r lent : ℕ) (x y : MendReply) : Type 0 where
+  pub blocksFit : 4 * x .blockCount ≤ lent
   pub entriesFit : 2 * x .entries ≤ logRoom (g / 8)
   pub noBlocks : (x .number ≡ 0 → ⊥) → x .blockCount ≡ 0
   pub noEntries : (x .number ≡ 0 → ⊥) → x .entries ≡ 0
@@ -70,53 +72,58 @@ module _ (im : List ℕ) (l g r n : ℕ) where
       take-at (logWords cs) (replicate (logRoom (g / 8) - length (logWords cs)) 0) (2 * length cs) k in
       rw t (sym (padded-twice g (g / 8) (logWords cs) (omega arith) (omega arith)))
 
-  no-words : (k : ℕ) → paddedBytes k [] ≡ paddedBytes k (replicate (k / 8) 0)
-  no-words k = padded-zeros k 0 (omega arith) ∙ sym (zero-list k k)
+  no-words : (k lent : ℕ) → lent ≤ k / 8 → paddedBytes k [] ≡ paddedBytes k (replicate lent 0)
+  no-words k lent h = padded-zeros k 0 (omega arith) ∙ sym (padded-zeros k lent (omega arith))
 
-  not-mended : (lent number : ℕ) → Taken l g r (notMended im lent (logRoom (g / 8)) (suc number)) (notMended im (l / 8) (g / 8) (suc number))
-  not-mended lent number = record {
-    blocksFit = omega arith;
-    entriesFit = omega arith;
-    noBlocks = λ _. refl;
-    noEntries = λ _. refl;
-    bytes = rw (no-words l, no-words g);
-  }
+  -- an audit's reply with this list
+  abbrev auditWith : ℕ → ℕ → List Counted → ℕ → List ℕ → AuditReply
+  auditWith met count os number ws = record { number = number; met = met; blockCount = count; objects = os; list = ws }
 
-  -- Two audits that differ in their lists alone, of which the used words are the same bytes.
-  module _ (lent count : ℕ) (os : List Counted) (list list′ : List ℕ) (fits : count ≤ roomOf (l / 8))
-      (same : paddedBytes l (take (2 * count) list) ≡ paddedBytes l list′) (most : length (corrections os) ≤ objectsMost) where
-    abbrev with-list : ℕ → List ℕ → AuditReply
-    with-list number ws = record { number = number; blockCount = count; objects = os; list = ws }
+  abbrev ending : ℕ → ℕ → Bool → AuditReply → MendReply
+  ending lent logLent t a =
+      let cs = corrections (a .objects) in
+      if t then mendedBy im logLent a cs (min n (length cs)) else notMended im lent logLent 18 0
 
-    abbrev wrong : List Change
-    wrong = corrections os
-
-    abbrev ending : Bool → ℕ → ℕ → ℕ → List ℕ → MendReply
-    ending t m k number ws = if t then mendedBy im k (with-list number ws) wrong (min n (length wrong)) else notMended im m k 18
-
-    ends-alike : (number : ℕ) (t : Bool) → (t ≡ true → 2 * length wrong ≤ logRoom (g / 8)) →
-        Taken l g r (ending t lent (logRoom (g / 8)) number list) (ending t (l / 8) (g / 8) number list′)
-    ends-alike number true h = record {
+  -- With so many words lent, and with a log of as many words as its room: the log's own words are the same bytes.
+  module _ (lent : ℕ) (h : lent ≤ l / 8) where
+    not-mended : (number met : ℕ) → Taken l g r lent (notMended im lent (logRoom (g / 8)) (suc number) met) (notMended im lent (g / 8) (suc number) met)
+    not-mended number met = record {
       blocksFit = omega arith;
-      entriesFit = h refl;
-      noBlocks = λ z. absurd (z refl);
-      noEntries = λ z. absurd (z refl);
-      bytes = rw (same, log-bytes wrong (h refl));
+      entriesFit = omega arith;
+      noBlocks = λ _. refl;
+      noEntries = λ _. refl;
+      bytes = rw (no-words l lent h, no-words g (g / 8) (omega arith));
     }
-    ends-alike number false h = not-mended lent 17
 
-    -- the log lent is too short exactly if the whole log is
-    tests-alike : leb (2 * length wrong) (g / 8) ≡ leb (2 * length wrong) (logRoom (g / 8))
-    tests-alike = go (leb (2 * length wrong) (logRoom (g / 8))) refl
-      where
-        go : (t : Bool) → leb (2 * length wrong) (logRoom (g / 8)) ≡ t → leb (2 * length wrong) (g / 8) ≡ t
-        go true e = le-leb (2 * length wrong) (g / 8) (omega (arith, leb-true (2 * length wrong) (logRoom (g / 8)) e))
-        go false e = lt-leb (2 * length wrong) (g / 8) (omega (arith, leb-false (2 * length wrong) (logRoom (g / 8)) e))
+    module _ (met count : ℕ) (os : List Counted) (list : List ℕ) (fits : 4 * count ≤ lent) (same : paddedBytes l (take (4 * count) list) ≡ paddedBytes l list)
+        (most : length (corrections os) ≤ objectsMost) where
+      abbrev wrong : List Change
+      wrong = corrections os
 
-    after-alike : (number given : ℕ) →
-        Taken l g r (mendAfter im lent (logRoom (g / 8)) n number (with-list given list)) (mendAfter im (l / 8) (g / 8) n number (with-list given list′))
-    after-alike zero given = rw tests-alike (ends-alike given (leb (2 * length wrong) (logRoom (g / 8))) (leb-true _ _))
-    after-alike (suc number) given = not-mended lent number
+      ends-alike : (number : ℕ) (t : Bool) → (t ≡ true → 2 * length wrong ≤ logRoom (g / 8)) →
+          Taken l g r lent (ending lent (logRoom (g / 8)) t (auditWith met count os number list)) (ending lent (g / 8) t (auditWith met count os number list))
+      ends-alike number true k = record {
+        blocksFit = fits;
+        entriesFit = k refl;
+        noBlocks = λ z. absurd (z refl);
+        noEntries = λ z. absurd (z refl);
+        bytes = rw (same, log-bytes wrong (k refl));
+      }
+      ends-alike number false k = not-mended 17 0
+
+      -- the log lent is too short exactly if the whole log is
+      tests-alike : leb (2 * length wrong) (g / 8) ≡ leb (2 * length wrong) (logRoom (g / 8))
+      tests-alike = go (leb (2 * length wrong) (logRoom (g / 8))) refl
+        where
+          go : (t : Bool) → leb (2 * length wrong) (logRoom (g / 8)) ≡ t → leb (2 * length wrong) (g / 8) ≡ t
+          go true e = le-leb (2 * length wrong) (g / 8) (omega (arith, leb-true (2 * length wrong) (logRoom (g / 8)) e))
+          go false e = lt-leb (2 * length wrong) (g / 8) (omega (arith, leb-false (2 * length wrong) (logRoom (g / 8)) e))
+
+      after-alike : (number given : ℕ) →
+          Taken l g r lent (mendAfter im lent (logRoom (g / 8)) n number (auditWith met count os given list))
+          (mendAfter im lent (g / 8) n number (auditWith met count os given list))
+      after-alike zero given = rw tests-alike (ends-alike given (leb (2 * length wrong) (logRoom (g / 8))) (leb-true _ _))
+      after-alike (suc number) given = not-mended number met
 
   -- the mending after an audit with this outcome
   abbrev mendEnd : ℕ → ℕ → Outcome (List Linked) → MendReply
@@ -126,50 +133,127 @@ module _ (im : List ℕ) (l g r n : ℕ) where
   abbrev Most : AuditReply → Type 0
   Most a = a .number ≡ 0 → length (corrections (a .objects)) ≤ objectsMost
 
-  end-taken : (o : Outcome (List Linked)) → Most (auditEnd im (2 * roomOf (l / 8)) o) → length (left o) ≤ roomOf (l / 8) →
-      Taken l g r (mendEnd (2 * roomOf (l / 8)) (logRoom (g / 8)) o) (mendEnd (l / 8) (g / 8) o)
+  end-taken : (lent : ℕ) → lent ≤ l / 8 → (o : Outcome (List Linked)) → Most (auditEnd im lent o) → length (left o) ≤ roomOf lent →
+      Taken l g r lent (mendEnd lent (logRoom (g / 8)) o) (mendEnd lent (g / 8) o)
   unfolding corrections
-  end-taken (done os bs) m h =
-      after-alike (2 * roomOf (l / 8)) (length bs) (countedIn im os) (blockList (2 * roomOf (l / 8)) bs) (blockList (l / 8) bs) h
-      (list-bytes l bs h) (m refl) 0 0
-  end-taken (refused x bs) m h =
-      after-alike (2 * roomOf (l / 8)) 0 [] (replicate (2 * roomOf (l / 8)) 0) (replicate (l / 8) 0) (omega arith) (no-words l) (omega arith) (answerOf x)
-      (answerOf x)
+  end-taken lent h (done os bs) m f =
+      let fits : 4 * length bs ≤ lent = omega (arith, room-lent lent) in
+      after-alike lent h 0 (length bs) (countedIn im os) (blockList lent bs) fits (used-bytes l lent bs fits h) (m refl) 0 0
+  end-taken lent h (refused x bs) m f =
+      after-alike lent h (metOf x) 0 [] (replicate lent 0) (omega arith) (no-words l lent h) (omega arith) (answerOf x) (answerOf x)
 
   -- what the mending returned and left, with these words lent
-  pub taken : (lent logLent : ℕ) (x : MendReply) → lent ≡ 2 * roomOf (l / 8) → logLent ≡ logRoom (g / 8) → x ≡ mend im lent logLent n → Most (audit im lent) →
-      Taken l g r x (mend im (l / 8) (g / 8) n)
+  pub taken : (lent logLent : ℕ) (x : MendReply) → lent ≤ l / 8 → logLent ≡ logRoom (g / 8) → x ≡ mend im lent logLent n → Most (audit im lent) →
+      Taken l g r lent x (mend im lent (g / 8) n)
   unfolding mend audit
-  taken lent logLent x p q e m =
-      let k = rw (p, run-room im (l / 8)) at m in
-      rw (e, p, q, run-room im (l / 8)) (end-taken (auditRun im (l / 8)) k (run-fits im (l / 8)))
+  taken lent logLent x h q e m = rw (e, q) (end-taken lent h (auditRun im lent) m (run-fits im lent))
+
+  module _ (lent : ℕ) (x : MendReply) (t : Taken l g r lent x (mend im lent (g / 8) n)) where
+    pub done-reply : (list log reply : List ℕ) → x .number ≡ 0 → list ≡ paddedBytes l (take (4 * x .blockCount) (x .list)) →
+        log ≡ paddedBytes g (take (2 * x .entries) (x .log)) →
+        reply ≡ paddedBytes r (x .blockCount ∷ x .entries ∷ x .writes ∷ []) →
+        _≡_ {A = CMend} (record { number = 0; list = list; log = log; reply = reply; image = x .image }) (cMendEnd l g r (mend im lent (g / 8) n))
+    done-reply list log reply z e f k = first ∙ t .bytes
+      where
+        first : _≡_ {A = CMend} (record { number = 0; list = list; log = log; reply = reply; image = x .image }) (used l g r x)
+        first = rw (e, f, k, z)
+
+    pub refused-reply : (list log reply : List ℕ) → (x .number ≡ 0 → ⊥) → list ≡ replicate l 0 → log ≡ replicate g 0 →
+        reply ≡ paddedBytes r (refusalWords (x .number) (x .met)) →
+        _≡_ {A = CMend} (record { number = x .number; list = list; log = log; reply = reply; image = x .image })
+        (cMendEnd l g r (mend im lent (g / 8) n))
+    refused-reply list log reply z e f k = first ∙ t .bytes
+      where
+        first : _≡_ {A = CMend} (record { number = x .number; list = list; log = log; reply = reply; image = x .image }) (used l g r x)
+        first =
+            let no-list = padded-zeros l 0 (omega arith) in
+            let no-log = padded-zeros g 0 (omega arith) in
+            rw (e, f, k, t .noBlocks z, t .noEntries z, refusal-words (x .number) (x .met) _ z, no-list, no-log)
 
   pub short-reply : (list log reply : List ℕ) → r / 8 < 3 → list ≡ replicate l 0 → log ≡ replicate g 0 → reply ≡ replicate r 0 →
       _≡_ {A = CMend} (record { number = 13; list = list; log = log; reply = reply; image = im }) (cMend im l g r n)
   unfolding cMend
   short-reply list log reply h e f k = rw (e, f, k, lt-leb 3 (r / 8) h)
 
-  module _ (x : MendReply) (t : Taken l g r x (mend im (l / 8) (g / 8) n)) (h : 3 ≤ r / 8) where
-    mended : used l g r x ≡ cMend im l g r n
+  -- Two audits that differ in their lists alone, which are the same bytes.
+  module _ (lent more : ℕ) (h : lent ≤ l / 8) (k : more ≤ l / 8) (met count : ℕ) (os : List Counted) (list list′ : List ℕ)
+      (same : paddedBytes l list ≡ paddedBytes l list′) where
+    not-same : (number met : ℕ) → cMendEnd l g r (notMended im lent (g / 8) number met) ≡ cMendEnd l g r (notMended im more (g / 8) number met)
+    not-same number met = rw (padded-zeros l lent (omega arith), padded-zeros l more (omega arith))
+
+    after-same : (number given : ℕ) →
+        cMendEnd l g r (mendAfter im lent (g / 8) n number (auditWith met count os given list)) ≡
+        cMendEnd l g r (mendAfter im more (g / 8) n number (auditWith met count os given list′))
+    after-same zero given = go (leb (2 * length (corrections os)) (g / 8))
+      where
+        go : (t : Bool) → cMendEnd l g r (ending lent (g / 8) t (auditWith met count os given list)) ≡
+            cMendEnd l g r (ending more (g / 8) t (auditWith met count os given list′))
+        go true = rw same
+        go false = not-same 18 0
+    after-same (suc number) given = not-same (suc number) met
+
+  -- a run that is the same with other words lent gives the same bytes
+  end-same : (lent more : ℕ) (o : Outcome (List Linked)) → lent ≤ l / 8 → more ≤ l / 8 → 4 * length (left o) ≤ lent → 4 * length (left o) ≤ more →
+      cMendEnd l g r (mendEnd lent (g / 8) o) ≡ cMendEnd l g r (mendEnd more (g / 8) o)
+  end-same lent more (done os bs) h k f f′ =
+      after-same lent more h k 0 (length bs) (countedIn im os) (blockList lent bs) (blockList more bs)
+      (list-bytes l lent bs f h ∙ sym (list-bytes l more bs f′ k)) 0 0
+  end-same lent more (refused x bs) h k f f′ =
+      after-same lent more h k (metOf x) 0 [] (replicate lent 0) (replicate more 0) (sym (no-words l lent h) ∙ no-words l more k) (answerOf x) (answerOf x)
+
+  run-same : (lent : ℕ) → lent ≤ l / 8 → auditRun im lent ≡ auditRun im (l / 8) →
+      cMendEnd l g r (mend im lent (g / 8) n) ≡ cMendEnd l g r (mend im (l / 8) (g / 8) n)
+  unfolding mend audit
+  run-same lent h e =
+      let fits : 4 * length (left (auditRun im lent)) ≤ lent = omega (arith, run-fits im lent, room-lent lent) in
+      let more : 4 * length (left (auditRun im lent)) ≤ l / 8 = omega arith in
+      end-same lent (l / 8) (auditRun im lent) h (omega arith) fits more
+      ∙ ap (λ (o : Outcome (List Linked)). cMendEnd l g r (mendEnd (l / 8) (g / 8) o)) e
+
+  -- a part of a list was lent
+  pub part-reply : (x : CMend) (zs : List ℕ) (k : ℕ) → k ≤ length zs → x ≡ cMendEnd l g r (mend im (length (take k zs)) (g / 8) n) →
+      x ≡ cMendEnd l g r (mend im k (g / 8) n)
+  part-reply x zs k h e = e ∙ ap (λ (lent : ℕ). cMendEnd l g r (mend im lent (g / 8) n)) (length-take-le k zs h)
+
+  -- a mending that is refused leaves the image
+  after-image : (lent logLent k : ℕ) (a : AuditReply) → (mendAfter im lent logLent n k a .number ≡ 0 → ⊥) → mendAfter im lent logLent n k a .image ≡ im
+  after-image lent logLent zero a z = go (leb (2 * length (corrections (a .objects))) logLent) z
+    where
+      go : (t : Bool) → (ending lent logLent t a .number ≡ 0 → ⊥) → ending lent logLent t a .image ≡ im
+      go true z = absurd (z refl)
+      go false z = refl
+  after-image lent logLent (suc k) a z = refl
+
+  pub refused-image : (lent : ℕ) (x : CMend) → x ≡ cMendEnd l g r (mend im lent (g / 8) n) → (x .number ≡ 0 → ⊥) → x .image ≡ im
+  unfolding mend
+  refused-image lent x is z =
+      ap (λ (y : CMend). y .image) is
+      ∙ after-image lent (g / 8) (audit im lent .number) (audit im lent) (λ q. z (ap (λ (y : CMend). y .number) is ∙ q))
+
+  -- a mending that didn't end for want of room is of an audit that had room
+  end-room : (lent logLent : ℕ) (o : Outcome (List Linked)) → (mendEnd lent logLent o .number ≡ 13 → ⊥) → HadRoom o
+  end-room lent logLent (done os bs) h = tt
+  end-room lent logLent (refused x bs) h = λ q. h (rw q)
+
+  -- The reply x with so many words lent, where the reply's slice is long enough.
+  module _ (long : 3 ≤ r / 8) (m : ℕ) (x : CMend) (is : x ≡ cMendEnd l g r (mend im (4 * m) (g / 8) n)) where
+    whole : cMendEnd l g r (mend im (4 * m) (g / 8) n) ≡ cMendEnd l g r (mend im (l / 8) (g / 8) n) → x ≡ cMend im l g r n
     unfolding cMend
-    mended = rw (le-leb 3 (r / 8) h) (t .bytes)
+    whole e = is ∙ e ∙ rw (le-leb 3 (r / 8) long)
 
-    pub done-reply : (list log reply : List ℕ) → x .number ≡ 0 → list ≡ paddedBytes l (take (2 * x .blockCount) (x .list)) →
-        log ≡ paddedBytes g (take (2 * x .entries) (x .log)) →
-        reply ≡ paddedBytes r (x .blockCount ∷ x .entries ∷ x .writes ∷ []) →
-        _≡_ {A = CMend} (record { number = 0; list = list; log = log; reply = reply; image = x .image }) (cMend im l g r n)
-    done-reply list log reply z e f k = first ∙ mended
-      where
-        first : _≡_ {A = CMend} (record { number = 0; list = list; log = log; reply = reply; image = x .image }) (used l g r x)
-        first = rw (e, f, k, z)
+    -- the whole room was lent
+    pub all-reply : m ≡ roomOf (l / 8) → x ≡ cMend im l g r n
+    all-reply e = whole (run-same (4 * m) (omega (arith, room-lent (l / 8))) (rw e (run-room im (l / 8))))
 
-    pub refused-reply : (list log reply : List ℕ) → (x .number ≡ 0 → ⊥) → list ≡ replicate l 0 → log ≡ replicate g 0 → reply ≡ replicate r 0 →
-        _≡_ {A = CMend} (record { number = x .number; list = list; log = log; reply = reply; image = x .image }) (cMend im l g r n)
-    refused-reply list log reply z e f k = first ∙ mended
-      where
-        fields : (m : ℕ) (ws : List ℕ) → (m ≡ 0 → ⊥) → paddedBytes r (ifDone m ws) ≡ replicate r 0
-        fields zero ws y = absurd (y refl)
-        fields (suc m) ws y = padded-zeros r 0 (omega arith)
+    -- less was lent, and it was enough
+    pub few-reply : m ≤ roomOf (l / 8) → (x .number ≡ 13 → ⊥) → x ≡ cMend im l g r n
+    unfolding mend audit
+    few-reply h z =
+        let number : (mend im (4 * m) (g / 8) n .number ≡ 13 → ⊥) = λ q. z (ap (λ (y : CMend). y .number) is ∙ q) in
+        let room = end-room (4 * m) (g / 8) (auditRun im (4 * m)) number in
+        whole (run-same (4 * m) (omega (arith, room-lent (l / 8))) (sym (audit-run-more im (4 * m) (l / 8) (less-room m (l / 8) h) room)))
 
-        first : _≡_ {A = CMend} (record { number = x .number; list = list; log = log; reply = reply; image = x .image }) (used l g r x)
-        first = rw (e, f, k, t .noBlocks z, t .noEntries z, fields (x .number) _ z, padded-zeros l 0 (omega arith), padded-zeros g 0 (omega arith))
+-- slices that came back with the same lengths, and the image as it was
+pub same-slices : (im im′ : List ℕ) (l g r l′ g′ r′ lent n : ℕ) (x : CMend) → im′ ≡ im → l′ ≡ l → g′ ≡ g → r′ ≡ r →
+    x ≡ cMendEnd l′ g′ r′ (mend im′ lent (g′ / 8) n) → x ≡ cMendEnd l g r (mend im lent (g / 8) n)
+same-slices im im′ l g r l′ g′ r′ lent n x i e f h q = rw (← i, ← e, ← f, ← h) q

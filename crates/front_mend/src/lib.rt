@@ -2,11 +2,14 @@
 use format::BLOCKS_MOST;
 use format::OBJECTS_MOST;
 use format::answers;
+use front::FEW_BLOCKS;
 ghost use mathlib.Core.Path.{_≡_};
-ghost use Prim.Native.Nat.{_*_, min};
+ghost use Prim.Native.Nat.{_*_, _/_, _≤_, min};
 ghost use lib.ListN.{length, replicate};
-ghost use Rattle.format.specs.Limits.{objectsMost};
-ghost use Rattle.format.specs.Front.{CMend, cMend};
+ghost use Rattle.format.specs.Limits.{objectsMost, blocksMost};
+ghost use Rattle.format.specs.Answers as definitions;
+ghost use Rattle.format.specs.Front.{paddedBytes, refusalWords, CMend, cMendEnd, cMend};
+ghost use Rattle.front.specs.Few.{fewBlocks};
 
 // The words of the reply: block count, entries, writes.
 const REPLY_WORDS: usize = 3;
@@ -32,8 +35,97 @@ fn clear_all(blocks: &mut [u8], log: &mut [u8], reply: &mut [u8])
     words::clear_from(log, 0);
 }
 
+// The reply to a refusal, with zeros for the log.
+fn refuse(blocks: &mut [u8], log: &mut [u8], reply: &mut [u8], number: u8, met: u64) -> u32
+    requires { ⌜ 8 ≤ length (now reply) ⌝ }
+    ensures { λ r. ⌜ r ≡ number ⌝ }
+    ensures { λ _. ⌜ now (blocks .exit) ≡ replicate (length (now (blocks .entry))) 0 ⌝ }
+    ensures { λ _. ⌜ now (log .exit) ≡ replicate (length (now (log .entry))) 0 ⌝ }
+    ensures { λ _. ⌜ now (reply .exit) ≡ paddedBytes (length (now (reply .entry))) (refusalWords number met) ⌝ }
+{
+    words::clear_from(log, 0);
+    front::refuse(blocks, reply, number, met)
+}
+
+// The mending with the words of a list, which are no more than those of `blocks`.
+fn mend_with(
+    image: &mut [u8],
+    list: &mut [u64],
+    blocks: &mut [u8],
+    log: &mut [u8],
+    reply: &mut [u8],
+    limit: u64,
+) -> u32
+    requires { ⌜ length (now list) ≤ length (now blocks) / 8 ⌝ }
+    requires { ⌜ 3 ≤ length (now reply) / 8 ⌝ }
+    ensures { λ r.
+        ⌜ _≡_ {A = CMend}
+        (record { number = r; list = now (blocks .exit); log = now (log .exit); reply = now (reply .exit); image = now (image .exit) })
+        (cMendEnd (length (now (blocks .entry))) (length (now (log .entry))) (length (now (reply .entry)))
+        (definitions.mend (now (image .entry)) (length (now (list .entry))) (length (now (log .entry)) / 8) limit)) ⌝ }
+{
+    let mut entries = [0u64; 2 * OBJECTS_MOST];
+    let m = log_room(log.len() / 8);
+    let r = mend::mend(image, list, &mut entries[..m], limit);
+    if r.number != answers::DONE {
+        return refuse(blocks, log, reply, r.number, r.met);
+    }
+    let used = 4 * r.block_count;
+    let logged = 2 * r.entries;
+    let words = [r.block_count as u64, r.entries as u64, r.writes as u64];
+    words::spill(&list[..used], blocks);
+    words::spill(&entries[..logged], log);
+    words::spill(&words, reply);
+    0
+}
+
+// The mending with room for few blocks, and for all.
+fn mend_few(
+    image: &mut [u8],
+    blocks: &mut [u8],
+    log: &mut [u8],
+    reply: &mut [u8],
+    limit: u64,
+    room: usize,
+) -> u32
+    requires { ⌜ room ≤ fewBlocks ⌝ }
+    requires { ⌜ 4 * room ≤ length (now blocks) / 8 ⌝ }
+    requires { ⌜ 3 ≤ length (now reply) / 8 ⌝ }
+    ensures { λ r.
+        ⌜ _≡_ {A = CMend}
+        (record { number = r; list = now (blocks .exit); log = now (log .exit); reply = now (reply .exit); image = now (image .exit) })
+        (cMendEnd (length (now (blocks .entry))) (length (now (log .entry))) (length (now (reply .entry)))
+        (definitions.mend (now (image .entry)) (4 * room) (length (now (log .entry)) / 8) limit)) ⌝ }
+{
+    let mut list = [0u64; 4 * FEW_BLOCKS];
+    let n = 4 * room;
+    mend_with(image, &mut list[..n], blocks, log, reply, limit)
+}
+
+fn mend_all(
+    image: &mut [u8],
+    blocks: &mut [u8],
+    log: &mut [u8],
+    reply: &mut [u8],
+    limit: u64,
+    room: usize,
+) -> u32
+    requires { ⌜ room ≤ blocksMost ⌝ }
+    requires { ⌜ 4 * room ≤ length (now blocks) / 8 ⌝ }
+    requires { ⌜ 3 ≤ length (now reply) / 8 ⌝ }
+    ensures { λ r.
+        ⌜ _≡_ {A = CMend}
+        (record { number = r; list = now (blocks .exit); log = now (log .exit); reply = now (reply .exit); image = now (image .exit) })
+        (cMendEnd (length (now (blocks .entry))) (length (now (log .entry))) (length (now (reply .entry)))
+        (definitions.mend (now (image .entry)) (4 * room) (length (now (log .entry)) / 8) limit)) ⌝ }
+{
+    let mut list = [0u64; 4 * BLOCKS_MOST];
+    let n = 4 * room;
+    mend_with(image, &mut list[..n], blocks, log, reply, limit)
+}
+
 // The mending of an image. `blocks` gets the block list, `log` the undo log, `reply` the other fields; the number is returned.
-// No more than `limit` counts are written.
+// No more than `limit` counts are written. A mending for which few blocks aren't room leaves the image as it was.
 pub fn mend_bytes(
     image: &mut [u8],
     blocks: &mut [u8],
@@ -48,22 +140,18 @@ pub fn mend_bytes(
 {
     if reply.len() / 8 < REPLY_WORDS {
         clear_all(blocks, log, reply);
-        return front::SHORT_REPLY;
+        return front::NO_ROOM;
     }
-    let mut list = [0u64; 2 * BLOCKS_MOST];
-    let mut entries = [0u64; 2 * OBJECTS_MOST];
-    let n = 2 * walk::blocks::room(blocks.len() / 8);
-    let m = log_room(log.len() / 8);
-    let r = mend::mend(image, &mut list[..n], &mut entries[..m], limit);
-    if r.number != answers::DONE {
-        clear_all(blocks, log, reply);
-        return r.number as u32;
+    let room = walk::blocks::room(blocks.len() / 8);
+    if room <= FEW_BLOCKS {
+        return mend_few(image, blocks, log, reply, limit, room);
     }
-    let used = 2 * r.block_count;
-    let logged = 2 * r.entries;
-    let words = [r.block_count as u64, r.entries as u64, r.writes as u64];
-    words::spill(&list[..used], blocks);
-    words::spill(&entries[..logged], log);
-    words::spill(&words, reply);
-    0
+    if front::SMALL_IMAGE < image.len() {
+        return mend_all(image, blocks, log, reply, limit, room);
+    }
+    let number = mend_few(image, blocks, log, reply, limit, FEW_BLOCKS);
+    if number != front::NO_ROOM {
+        return number;
+    }
+    mend_all(image, blocks, log, reply, limit, room)
 }

@@ -15,7 +15,7 @@ pub fn undo_bytes(image: &mut [u8], log: &[u8], reply: &mut [u8], entries: u64, 
 {
     if reply.len() / 8 < REPLY_WORDS {
         words::clear_from(reply, 0);
-        return front::SHORT_REPLY;
+        return front::NO_ROOM;
     }
     let r = undo::undo(image, log, entries, limit);
     if r.number != answers::DONE {

@@ -7,7 +7,7 @@ use mathlib.Core.Path.{_≡_, refl, ap, sym, _∙_}
 use native.Mathlib.Omega.{arith}
 use borrow.Author.Tests.{le-leb, eq-eqb, ne-eqb}
 use lib.Dec.{eqb}
-use lib.ListN.{length, getD, drop}
+use lib.ListN.{length, getD, drop, drop-of-length-le}
 use Rattle.format.specs.Bytes.{part, littleEndian, u8, u32}
 use Rattle.format.specs.Result.{Result}
 use Rattle.format.specs.Walk.{Walk, headerBlock, shown, stored, lengthIn, knownLength}
@@ -16,6 +16,7 @@ use Rattle.format.specs.Message.{Message, ofType}
 use Rattle.walk.specs.Lent.{blocksOf}
 use Rattle.walk.specs.Numbers.{Number}
 use Rattle.laws.proofs.Blank.{header-shown, blank-other, blank-length, blank-part, blank-drop}
+use Rattle.walk.proofs.BlockList.{length-blocksOf}
 use Rattle.walk.proofs.Parts.{part-length, part-byte, part-part, drop-part}
 use Rattle.scan.specs.Scan.{MessagesAre, Holds}
 use Rattle.continuations.specs.Continuations.{Waiting}
@@ -66,10 +67,10 @@ block-messages visit im at size found w h m =
 -- what waits behind the header block, which is the last of the list
 pub first-waiting : (im ws : List ℕ) (count from end : ℕ) (ms : List Message) → 0 < count → Holds im from end ms →
     Waiting im ws count (cursor (count - 1) from end) (ofType 0x0010 ms)
-unfolding blocksOf
 first-waiting im ws count from end ms h o =
-    let z : count - (count - 1 + 1) ≡ 0 = omega arith in
-    record { here = ms; later = []; block = omega arith; holds = o; behind = rw z refl; is = sym (append-nil (ofType 0x0010 ms)) }
+    let last : length (blocksOf count ws) ≤ count - 1 + 1 = rw length-blocksOf (omega arith) in
+    let none = drop-of-length-le (blocksOf count ws) {i = count - 1 + 1} last in
+    record { here = ms; later = []; block = omega arith; holds = o; behind = rw none refl; is = sym (append-nil (ofType 0x0010 ms)) }
 
 -- a total that stops at 65,536 is compared as the number itself
 pub total-equal : (n total x : ℕ) → total ≡ min n 65536 → x < 65536 → x ≡ total → eqb n x ≡ true

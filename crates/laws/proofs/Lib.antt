@@ -8,6 +8,7 @@ pub mod Growth
 pub mod SumOfLengths
 pub mod Restart
 pub mod MoreRoom
+pub mod MoreRuns
 pub mod Agreement
 pub mod Blank
 pub mod CountFields

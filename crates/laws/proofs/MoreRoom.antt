@@ -8,7 +8,7 @@ use borrow.Author.Tests.{lt-ltb, ltb-true}
 use lib.ListN.{length}
 use lib.Dec.{leb, ltb}
 use Rattle.format.specs.Bytes.{part}
-use Rattle.format.specs.Blocks.{Block, block, overlapsAny, entryAnswer}
+use Rattle.format.specs.Blocks.{Block, blockOf, overlapsAny, entryAnswer}
 use Rattle.format.specs.declared.Refusal.{Refusal}
 use Rattle.format.specs.Walk.{kindNumber, shown, lengthIn, knownLength, notEntered, answerOf, Walk, ret, refuse, enter, Outcome, done, refused}
 use Rattle.format.specs.Walk.{ifEntered, run, andThen}
@@ -47,7 +47,7 @@ module _ (im : List ℕ) (eof room room′ : ℕ) (l : room ≤ room′) {A : Ty
   more-room (enter v a len k) bs h =
       let n = lengthIn im v a len in
       entered-more a n bs (λ m. notEntered m (kindNumber v) a (knownLength im eof v a len) bs) _ _ refl
-      (more-room (k (shown v (part im a n))) (bs ++ (block a n ∷ []))) h
+      (more-room (k (shown v (part im a n))) (bs ++ (blockOf (kindNumber v) a n ∷ []))) h
 
   -- a run that is done is the same with more room
   pub done-more : (w : Walk A) (bs : List Block) (x : A) (ms : List Block) → run im eof room w bs ≡ done x ms → run im eof room′ w bs ≡ done x ms

@@ -2,23 +2,22 @@
 use mathlib.Core.Path.{_≡_, refl, ap, sym, _∙_}
 use mathlib.Core.Bool.{Bool, true, false}
 use mathlib.Core.List.{List, [], _∷_, _++_}
-use Prim.Native.Nat.{ℕ, suc, _+_, _≤_, _<_}
+use Prim.Native.Nat.{ℕ, suc, _+_, _*_, _≤_, _<_}
 use native.Mathlib.Omega.{arith}
-use native.Mathlib.Numerals.{add-one}
-use lib.ListN.{length, getD, set, length-append, length-set}
-use lib.Seq.{getD-set-other}
+use lib.ListN.{length, getD, length-append, length-set}
 use borrow.Author.Tests.{lt-leb}
 use Rattle.format.specs.Bytes.{if_then_else_, part}
-use Rattle.format.specs.Blocks.{Block, block, overlapsAny, entryAnswer}
+use Rattle.format.specs.Blocks.{Block, blockOf, noObject, overlapsAny, entryAnswer}
 use Rattle.format.specs.declared.Refusal.{Refusal}
 use Rattle.format.specs.Walk.{Kind, kindNumber, notEntered, shown, Length, stored, lengthIn, knownLength, Walk, ret, refuse}
 use Rattle.format.specs.Walk.{enter, enterBlock, check, _>>=_, _>>_, Outcome, done, refused, ifEntered, run, andThen}
-use Rattle.walk.specs.Lent.{blocksOf, Lent, Ended, ended, stopped, left, Walked, entering, entered, entryEnd}
+use Rattle.walk.specs.Lent.{blocksOf, Lent, Ended, ended, stopped, left, Walked, appended, entering, entered, entryEnd}
 use Rattle.walk.specs.declared.blocks.Entry.{Entry}
 use Rattle.walk.specs.declared.blocks.Entry.the-variants.{Entered, Refused}
 use Rattle.laws.proofs.Bind.{run-bind}
 use Rattle.laws.proofs.Growth.{Grown, unchanged, grown-on, run-grown}
-use Rattle.walk.proofs.BlockList.{length-blocksOf, blocks-snoc, entered-zero, refused-suc, entryAnswer-zero, entryAnswer-outside}
+use Rattle.walk.proofs.BlockList.{length-blocksOf, words-blocks, entered-zero, refused-suc, entryAnswer-zero, entryAnswer-outside}
+use Rattle.walk.proofs.Owners.{four-other, appended-blocks, appended-lent}
 
 -- The walk w₀, begun with n₀ blocks in the list ws₀, has come to w, with n blocks in ws.
 pub record Simulation (im : List ℕ) (eof room : ℕ) {A : Type 0} (w₀ : Walk A) (n₀ : ℕ) (ws₀ : List ℕ) (w : Walk A) (n : ℕ) (ws : List ℕ) : Type 0 where
@@ -27,7 +26,7 @@ pub record Simulation (im : List ℕ) (eof room : ℕ) {A : Type 0} (w₀ : Walk
   pub grown : n₀ ≤ n
   pub blocks : Grown eof room (blocksOf n₀ ws₀) (blocksOf n ws)
   pub sameRun : run im eof room w₀ (blocksOf n₀ ws₀) ≡ run im eof room w (blocksOf n ws)
-  pub rest : (k : ℕ) → n + n ≤ k → getD ws k 0 ≡ getD ws₀ k 0
+  pub rest : (k : ℕ) → 4 * n ≤ k → getD ws k 0 ≡ getD ws₀ k 0
 
 pub start : (im : List ℕ) (eof room : ℕ) {A : Type 0} (w : Walk A) (n : ℕ) (ws : List ℕ) → Lent ws n room → Simulation im eof room w n ws w n ws
 start im eof room w n ws l = record {
@@ -44,7 +43,7 @@ pub walked-done : {A : Type 0} (ws ws′ : List ℕ) (a : A) (c : ℕ) (o : Outc
 walked-done ws ws′ a c (done b bs) w =
     let e : length bs ≡ c = cc (w .answer) in
     let f : b ≡ a = cc (w .answer) in
-    rw f (ap (done a) (rw e at (sym (w .held))))
+    rw f (ap (done a) (rw e at (sym (words-blocks noObject bs ws′ (w .held)))))
 walked-done ws ws′ a c (refused r bs) w = let z : _≡_ {A = ℕ} 0 1 = cc (w .answer) in absurd (omega arith)
 
 -- a function that stopped: the outcome is its answer
@@ -72,7 +71,7 @@ come-from s u = record {
 
 -- the function `enter`, where it entered a block of m bytes
 module _ (eof room : ℕ) (v : Kind) (a m n : ℕ) (ws ws₁ : List ℕ) (l : Lent ws n room)
-    (q : ws₁ ≡ entered (entryAnswer eof room (blocksOf n ws) a m) ws n a m) (c : ℕ)
+    (q : ws₁ ≡ entered (entryAnswer eof room (blocksOf n ws) a m) ws n (kindNumber v) a m) (c : ℕ)
     (p : Entered c ≡ entering (entryAnswer eof room (blocksOf n ws) a m) (kindNumber v) a m (blocksOf n ws) n) where
   zero-answer : (entryAnswer eof room (blocksOf n ws) a m ≡ 0) × (c ≡ n + 1)
   zero-answer = entered-zero (kindNumber v) a m (blocksOf n ws) (entryAnswer eof room (blocksOf n ws) a m) n c p
@@ -81,17 +80,17 @@ module _ (eof room : ℕ) (v : Kind) (a m n : ℕ) (ws ws₁ : List ℕ) (l : Le
   allowed = entryAnswer-zero eof room (blocksOf n ws) a m (zero-answer .0)
 
   -- the block stands behind the others
-  pub entered-blocks : blocksOf c ws₁ ≡ blocksOf n ws ++ (block a m ∷ [])
+  pub entered-blocks : blocksOf c ws₁ ≡ blocksOf n ws ++ (blockOf (kindNumber v) a m ∷ [])
   entered-blocks =
       let y : n < room = rw length-blocksOf at (allowed .2) in
-      let w : ws₁ ≡ set (set ws (n + n) a) (n + n + 1) m = rw (zero-answer .0) at q in
-      rw (w, zero-answer .1, add-one, add-one) (blocks-snoc a m n (n + n) ws refl (omega (arith, l .lent)))
+      let w : ws₁ ≡ appended ws n (kindNumber v) a m = rw (zero-answer .0) at q in
+      rw (w, zero-answer .1) (appended-blocks ws n room (kindNumber v) a m l y)
 
   pub entered-grown : Grown eof room (blocksOf n ws) (blocksOf c ws₁)
   entered-grown =
       let y : n < room = rw length-blocksOf at (allowed .2) in
       record {
-        new = block a m ∷ [];
+        new = blockOf (kindNumber v) a m ∷ [];
         all = entered-blocks;
         fresh = (allowed .1, tt);
         inside = (allowed .0, tt);
@@ -115,14 +114,13 @@ module _ {im : List ℕ} {eof room : ℕ} {A : Type 0} {w₀ : Walk A} {n₀ : �
   unfolding run
   returned {a} s = rw (s .sameRun) (record {
     answer = ap (ended a) (sym (length-blocksOf n ws));
-    held = rw length-blocksOf;
-    rest = λ k h. s .rest k
-        (rw length-blocksOf at h);
+    held = rw length-blocksOf (s .lent .numbered);
+    rest = λ k h. s .rest k (rw length-blocksOf at h);
   })
 
   pub refusal : {r : Refusal} → Simulation im eof room w₀ n₀ ws₀ (refuse r) n ws → Walked ws₀ ws (stopped r) (run im eof room w₀ (blocksOf n₀ ws₀))
   unfolding run
-  refusal s = rw (s .sameRun) (record { answer = refl; held = rw length-blocksOf; rest = λ k h. s .rest k (rw length-blocksOf at h) })
+  refusal s = rw (s .sameRun) (record { answer = refl; held = rw length-blocksOf (s .lent .numbered); rest = λ k h. s .rest k (rw length-blocksOf at h) })
 
   -- a test that passed, and one that failed
   pub passed : (t : Bool) (r : Refusal) (f : Unit {0} → Walk A) → t ≡ true → Simulation im eof room w₀ n₀ ws₀ (check t r >>= f) n ws →
@@ -158,11 +156,11 @@ module _ {im : List ℕ} {eof room : ℕ} {A : Type 0} {w₀ : Walk A} {n₀ : �
   outside {v} {a} {p} {rest} {k} h s =
       let e : run im eof room w₀ (blocksOf n₀ ws₀) ≡ refused (notEntered 5 (kindNumber v) a p []) (blocksOf n ws) =
       s .sameRun ∙ rw (entryAnswer-outside eof room (blocksOf n ws) a (lengthIn im v a (stored p rest)) (omega arith), lt-leb (a + p) eof h) in
-      rw e (record { answer = refl; held = rw length-blocksOf; rest = λ k h. s .rest k (rw length-blocksOf at h) })
+      rw e (record { answer = refl; held = rw length-blocksOf (s .lent .numbered); rest = λ k h. s .rest k (rw length-blocksOf at h) })
 
   -- the function `enter`, called for a block of m bytes
   module _ {v : Kind} {a : ℕ} {l : Length} {k : List ℕ → Walk A} (m : ℕ) (sized : m ≡ lengthIn im v a l) (known : knownLength im eof v a l ≡ m) (ws₁ : List ℕ)
-      (s : Simulation im eof room w₀ n₀ ws₀ (enter v a l k) n ws) (q : ws₁ ≡ entered (entryAnswer eof room (blocksOf n ws) a m) ws n a m) where
+      (s : Simulation im eof room w₀ n₀ ws₀ (enter v a l k) n ws) (q : ws₁ ≡ entered (entryAnswer eof room (blocksOf n ws) a m) ws n (kindNumber v) a m) where
     abbrev answer : ℕ
     answer = entryAnswer eof room (blocksOf n ws) a m
 
@@ -175,19 +173,16 @@ module _ {im : List ℕ} {eof room : ℕ} {A : Type 0} {w₀ : Walk A} {n₀ : �
     block-entered c p =
         let z = entered-zero (kindNumber v) a m (blocksOf n ws) answer n c p in
         let y : n < room = rw length-blocksOf at (entryAnswer-zero eof room (blocksOf n ws) a m (z .0) .2) in
-        let w : ws₁ ≡ set (set ws (n + n) a) (n + n + 1) m = rw (z .0) at q in
+        let w : ws₁ ≡ appended ws n (kindNumber v) a m = rw (z .0) at q in
         let b = entered-blocks eof room v a m n ws ws₁ (s .lent) q c p in
         record {
-          lent = record { counted = omega (arith, z .1); lent = rw w (simp length-set (s .lent .lent)) };
+          lent = rw (w, z .1) (appended-lent ws n room (kindNumber v) a m (s .lent) y);
           sameLength = rw w (simp length-set (s .sameLength));
           grown = omega (arith, s .grown, z .1);
           blocks = grown-on (s .blocks) (entered-grown eof room v a m n ws ws₁ (s .lent) q c p);
           sameRun = s .sameRun ∙ rw (← sized, z .0, b);
           rest = λ i h.
-              rw w
-              (getD-set-other (set ws (n + n) a) (n + n + 1) i m 0 (omega (arith, z .1))
-              ∙ getD-set-other ws (n + n) i a 0 (omega (arith, z .1))
-              ∙ s .rest i (omega (arith, z .1)));
+              rw w (four-other ws (4 * n) i a m (kindNumber v) _ (omega (arith, z .1)) ∙ s .rest i (omega (arith, z .1)));
         }
 
     pub block-refused : (r : Refusal) → Refused r ≡ entering answer (kindNumber v) a m (blocksOf n ws) n →
@@ -199,12 +194,11 @@ module _ {im : List ℕ} {eof room : ℕ} {A : Type 0} {w₀ : Walk A} {n₀ : �
         let e : run im eof room w₀ (blocksOf n₀ ws₀) ≡ refused (notEntered (suc (z .0)) (kindNumber v) a (knownLength im eof v a l) (blocksOf n ws))
         (blocksOf n ws) =
         (rw (← sized) at (s .sameRun))
-        ∙ ap (λ (y : ℕ). ifEntered y (run im eof room (k (shown v (part im a m))) (blocksOf n ws ++ (block a m ∷ [])))
+        ∙ ap (λ (y : ℕ). ifEntered y (run im eof room (k (shown v (part im a m))) (blocksOf n ws ++ (blockOf (kindNumber v) a m ∷ [])))
         (λ j. refused (notEntered j (kindNumber v) a (knownLength im eof v a l) (blocksOf n ws)) (blocksOf n ws))) (z .1) in
         rw (e, w) (record {
           answer = ap stopped (z .2 ∙ ap (λ (y : ℕ). notEntered (suc (z .0)) (kindNumber v) a y (blocksOf n ws)) (sym known));
-          held = rw
-              length-blocksOf;
+          held = rw length-blocksOf (s .lent .numbered);
           rest = λ k h. s .rest k (rw length-blocksOf at h);
         })
 
@@ -233,7 +227,7 @@ module _ {im : List ℕ} {eof room : ℕ} {A : Type 0} {w₀ : Walk A} {n₀ : �
           let m : length (left (run im eof room w (blocksOf n ws))) ≡ c = rw o (length-blocksOf c ws₁) in
           let m2 : n ≤ length (left (run im eof room w (blocksOf n ws))) = omega (arith, simp (length-append, length-blocksOf) at (ap length (d .all))) in
           record {
-            lent = record { counted = omega (arith, d .fits, m); lent = omega (arith, s .lent .lent, e) };
+            lent = record { counted = omega (arith, d .fits, m); lent = omega (arith, s .lent .lent, e); numbered = rw (o, length-blocksOf) at (h .held) };
             sameLength = e ∙ s .sameLength;
             grown = omega (arith, m, m2, s .grown);
             blocks = grown-on (s .blocks) (rw o at d);
@@ -244,7 +238,7 @@ module _ {im : List ℕ} {eof room : ℕ} {A : Type 0} {w₀ : Walk A} {n₀ : �
 -- a function that only enters a block of m bytes
 pub one-block : (im : List ℕ) (eof room : ℕ) (v : Kind) (a m n : ℕ) (ws ws₁ : List ℕ) (r : Entry) → Lent ws n room →
     r ≡ entering (entryAnswer eof room (blocksOf n ws) a m) (kindNumber v) a m (blocksOf n ws) n →
-    ws₁ ≡ entered (entryAnswer eof room (blocksOf n ws) a m) ws n a m →
+    ws₁ ≡ entered (entryAnswer eof room (blocksOf n ws) a m) ws n (kindNumber v) a m →
     Walked ws ws₁ (entryEnd r) (run im eof room (enterBlock v a m >> ret tt) (blocksOf n ws))
 unfolding _>>=_
 one-block im eof room v a m n ws ws₁ (Entered c) l e q = returned (block-entered m refl refl ws₁ (start im eof room (enterBlock v a m >> ret tt) n ws l) q c e)

@@ -3,8 +3,8 @@ use Prim.Native.Nat.{ℕ}
 use mathlib.Core.List.{List, [], _∷_, _++_}
 use mathlib.Core.Path.{_≡_}
 use Rattle.format.specs.Bytes.{part}
-use Rattle.format.specs.Blocks.{Block, block, entryAnswer}
-use Rattle.format.specs.Walk.{Kind, Length, shown, lengthIn, Walk, ret, refuse, enter, ifEntered}
+use Rattle.format.specs.Blocks.{Block, blockOf, entryAnswer}
+use Rattle.format.specs.Walk.{kindNumber, Kind, Length, shown, lengthIn, Walk, ret, refuse, enter, ifEntered}
 
 -- n bytes at a, as a block of a kind; or the length of a block at a
 pub data Shown : Type 0 where
@@ -17,7 +17,7 @@ shownBy im eof room (ret a) bs = []
 shownBy im eof room (refuse r) bs = []
 shownBy im eof room (enter v a l k) bs =
     let n = lengthIn im v a l in
-    let r = shownBy im eof room (k (shown v (part im a n))) (bs ++ (block a n ∷ [])) in
+    let r = shownBy im eof room (k (shown v (part im a n))) (bs ++ (blockOf (kindNumber v) a n ∷ [])) in
     ifEntered (entryAnswer eof room bs a n) (contents v a n ∷ r) (λ _. size v a l ∷ [])
 
 -- two images show the same of one of these

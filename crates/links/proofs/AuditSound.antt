@@ -53,16 +53,17 @@ unfolding auditRun
 audit-opened im lent os bs e = opened-done (openImage im) (λ s. run im (s .endOfFile) (roomOf lent) (auditWalk s) []) os bs e
 
 module _ (im : List ℕ) (lent : ℕ) (s : Superblock) (os : List Linked) (bs : List Block) (p : openImage im ≡ opened s) (e : auditRun im lent ≡ done os bs) where
-  walked : run im (s .endOfFile) (roomOf lent) (auditWalk s) [] ≡ done os bs
-  walked =
+  -- its walk is done
+  pub audit-walked : run im (s .endOfFile) (roomOf lent) (auditWalk s) [] ≡ done os bs
+  audit-walked =
       let o = audit-opened im lent os bs e in
       let same : o .0 ≡ s = cc (o .1) in
       rw same at (o .2)
 
   -- what the audit has found
   pub audit-sound : Sound im s os
-  audit-sound = walk-sound im (roomOf lent) s os bs (room-most lent) walked
+  audit-sound = walk-sound im (roomOf lent) s os bs (room-most lent) audit-walked
 
   -- the blocks that it has entered
   pub audit-blocks : Fresh [] bs × Inside (s .endOfFile) bs × (length bs ≤ roomOf lent)
-  audit-blocks = blocks-sound im (roomOf lent) s os bs walked
+  audit-blocks = blocks-sound im (roomOf lent) s os bs audit-walked

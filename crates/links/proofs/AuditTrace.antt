@@ -1,14 +1,13 @@
 -- A run of the audit is a trace: object after object, each walked once.
-use Prim.Native.Nat.{ℕ, zero, suc, _+_, _≤_}
+use Prim.Native.Nat.{ℕ, _+_, _≤_}
 use mathlib.Core.List.{List, [], _∷_, _++_, List·Memᴰ}
 use mathlib.Core.Logic.{_⊎_, inl, inr, ⊎-elim}
-use mathlib.Core.Path.{_≡_, refl}
+use mathlib.Core.Path.{_≡_}
 use native.Mathlib.Omega.{arith}
-use lib.ListN.{length, drop, drop-of-length-le, length-replicate}
+use lib.ListN.{length, drop, length-replicate}
 use Rattle.format.specs.Limits.{objectsMost}
-use Rattle.format.specs.Bytes.{withFirst}
 use Rattle.format.specs.Blocks.{Block}
-use Rattle.format.specs.Walk.{ret, _>>=_, done, run}
+use Rattle.format.specs.Walk.{done, run}
 use Rattle.format.specs.Superblock.{Superblock, superblockWalk}
 use Rattle.format.specs.Header.{Object, committed, headerWalk}
 use Rattle.format.specs.Ledger.{Linked, linked}
@@ -22,6 +21,7 @@ use Rattle.links.proofs.Outcomes.{bind-done, done-fits}
 use Rattle.links.proofs.LedgerIn.{member-in, taken-member, counted-in}
 use Rattle.links.proofs.Places.{taken-place}
 use Rattle.links.proofs.Marks.{Fits, markOf, Given, given-in, given-shared, given-other, given-none, given-on}
+use Rattle.links.proofs.ObjectsRun.{objects-run}
 use Rattle.links.proofs.ObjectReferences.{taken-follows, followed, object-kind}
 
 -- The object at this address was walked, and has these references. What was found in the end says what is known of it: what it shares has the mark of
@@ -67,25 +67,6 @@ module _ (im : List ℕ) (room : ℕ) (s : Superblock) where
       } in
       (next d walked (r .2 .counted) (later .0), (r .0 ++ later .1 .0, given-on (r .2) on))
 
-  -- with the fuel that is left
-  objects-walk : (fuel i : ℕ) (f : Found) (bs : List Block) (last : Found) (ms : List Block) → objectsMost ≤ i + fuel → Fits f → length bs ≤ room →
-      run im (s .endOfFile) room (objectsWalk s fuel i f) bs ≡ done last ms → Walks i f last
-  unfolding objectsWalk run
-  objects-walk zero i f bs last ms n h l e = walks-end i f last h (cc) (drop-of-length-le (f .objects) {i = i} (omega (arith, h .most)))
-  objects-walk (suc fuel) i f bs last ms n h l e =
-      go (drop i (f .objects)) refl e (λ g cs h′ l′ e′. objects-walk fuel (i + 1) g cs last ms (omega arith) h′ l′ e′)
-    where
-      go : (left : List Linked) → drop i (f .objects) ≡ left →
-          run im (s .endOfFile) room (withFirst left (ret f) (λ o. objectWalk s i (o .address) f >>= λ g. objectsWalk s fuel (i + 1) g)) bs ≡ done last ms →
-          ((g : Found) (cs : List Block) → Fits g → length cs ≤ room → run im (s .endOfFile) room (objectsWalk s fuel (i + 1) g) cs ≡ done last ms →
-          Walks (i + 1) g last) →
-          Walks i f last
-      go [] d r more = walks-end i f last h (cc) d
-      go (o ∷ rest) d r more =
-          let b = bind-done im (s .endOfFile) room (objectWalk s i (o .address) f) (λ g. objectsWalk s fuel (i + 1) g) bs last ms r in
-          let fits = done-fits im (s .endOfFile) room (objectWalk s i (o .address) f) bs (b .0) (b .1) l (b .2) in
-          walks-next i f (b .0) last bs (b .1) o rest h l d (b .2) (λ h′. more (b .0) (b .1) h′ fits (b .3))
-
   -- what the audit begins with
   pub root-fits : Fits (rootFound s)
   unfolding objectsMost
@@ -99,6 +80,8 @@ module _ (im : List ℕ) (room : ℕ) (s : Superblock) where
       let b = bind-done im (s .endOfFile) room (superblockWalk s) _ [] os ms e in
       let c = bind-done im (s .endOfFile) room (objectsWalk s objectsMost 0 (rootFound s)) _ (b .1) os ms (b .3) in
       let fits = done-fits im (s .endOfFile) room (superblockWalk s) [] (b .0) (b .1) (omega arith) (b .2) in
-      let w = objects-walk objectsMost 0 (rootFound s) (b .1) (c .0) (c .1) (omega arith) root-fits fits (c .2) in
+      let last = c .0 in
+      let w = objects-run im room s last (c .1) (λ i f _. Walks i f last) (λ i f _ h same _ d. walks-end i f last h same d)
+      (λ i f g cs ds o rest. walks-next i f g last cs ds o rest) objectsMost 0 (rootFound s) (b .1) (omega arith) root-fits fits (c .2) in
       let same : c .0 .objects ≡ os = cc (c .3) in
       (c .0, rw same at (w .0))

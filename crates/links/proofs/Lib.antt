@@ -3,6 +3,7 @@ pub mod Counting
 pub mod LedgerIn
 pub mod Places
 pub mod Marks
+pub mod ObjectsRun
 pub mod ObjectReferences
 pub mod AuditTrace
 pub mod TraceReferences
@@ -21,5 +22,16 @@ pub mod NumberedSharing
 pub mod NumberedDataset
 pub mod NumberedGroup
 pub mod NumberedAudit
+pub mod FirstMet
+pub mod KindsEntered
+pub mod KindsHeader
+pub mod KindsGroup
+pub mod KindsDataset
+pub mod OneHeader
+pub mod OwnedLaws
+pub mod ObjectsOwned
+pub mod AuditOwned
+pub mod BlockWords
 pub mod ReplyNumbers
 pub mod AuditAnswers
+pub mod AuditMet

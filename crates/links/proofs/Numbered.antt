@@ -6,18 +6,18 @@ use mathlib.Core.Path.{_≡_, refl}
 use lib.Dec.{leb, ltb}
 use lib.ListN.{length}
 use Rattle.format.specs.Bytes.{if_then_else_, part}
-use Rattle.format.specs.Blocks.{Block, block, overlapsAny, entryAnswer}
+use Rattle.format.specs.Blocks.{Block, blockOf, overlapsAny, entryAnswer}
 use Rattle.format.specs.declared.Refusal.{Refusal}
 use Rattle.format.specs.Result.{Result, value, answer}
 use Rattle.format.specs.Result as results
-use Rattle.format.specs.Walk.{Kind, kindNumber, Length, shown, lengthIn, knownLength, fault as faultAt, notEntered, answerOf, Walk, ret, refuse}
-use Rattle.format.specs.Walk.{enter, check, located, _>>=_, Outcome, done, refused, ifEntered, run, andThen}
+use Rattle.format.specs.Walk.{Kind, kindNumber, Length, shown, lengthIn, knownLength, fault as faultAt, notEntered, answerOf, metOf, Walk, ret}
+use Rattle.format.specs.Walk.{refuse, enter, check, located, _>>=_, Outcome, done, refused, ifEntered, run, andThen}
 use Rattle.format.specs.Names.{Text, text, fault, outside, noNul, badForm, inFreeBlock, faultNumber, readText}
 
--- every refusal in the walk, whatever it is shown, has one of the numbers N
+-- every refusal in the walk, whatever it is shown, has one of the numbers N and gives no block met
 unfoldable pub Numbered : (ℕ → Type 0) → {A : Type 0} → Walk A → Type 0
 Numbered N (ret a) = Unit {0}
-Numbered N (refuse r) = N (answerOf r)
+Numbered N (refuse r) = N (answerOf r) × (metOf r ≡ 0)
 Numbered N (enter v a l k) = (b : List ℕ) → Numbered N (k b)
 
 -- the same of a reader: its answer, if it gives one, is one of these numbers
@@ -44,7 +44,7 @@ module _ (N : ℕ → Type 0) where
 
   pub numbered-refuse : (A : Type 0) (n at : ℕ) → N n → Numbered N {A = A} (refuse (faultAt n at))
   unfolding Numbered
-  numbered-refuse A n at h = h
+  numbered-refuse A n at h = (h, refl)
 
   pub numbered-enter : {A : Type 0} (v : Kind) (a : ℕ) (l : Length) (k : List ℕ → Walk A) → ((b : List ℕ) → Numbered N (k b)) → Numbered N (enter v a l k)
   unfolding Numbered
@@ -54,7 +54,7 @@ module _ (N : ℕ → Type 0) where
   pub numbered-check : {A : Type 0} (t : Bool) (n at : ℕ) (w : Walk A) → N n → Numbered N w → Numbered N (check t (faultAt n at) >>= λ _. w)
   unfolding Numbered _>>=_
   numbered-check true n at w m h = h
-  numbered-check false n at w m h = m
+  numbered-check false n at w m h = (m, refl)
 
   pub numbered-if : {A : Type 0} (t : Bool) (x y : Walk A) → Numbered N x → Numbered N y → Numbered N (if t then x else y)
   numbered-if true x y h k = h
@@ -94,8 +94,8 @@ module _ (N : ℕ → Type 0) where
   -- wherever its part stands
   pub numbered-located : {A : Type 0} (at : ℕ) (r : Result A) → Answered N r → Numbered N (located at r)
   unfolding Numbered Answered
-  numbered-located at (value a) h = h
-  numbered-located at (answer n) h = h
+  numbered-located at (value a) h = tt
+  numbered-located at (answer n) h = (h, refl)
 
   -- one run after another
   pub only-then : {A B : Type 0} (o : Outcome A) (f : A → List Block → Outcome B) → Only N o → ((a : A) (bs : List Block) → Only N (f a bs)) →
@@ -116,12 +116,13 @@ module _ (N : ℕ → Type 0) where
     pub run-only : (im : List ℕ) (eof room : ℕ) {A : Type 0} (w : Walk A) (bs : List Block) → Numbered N w → Only N (run im eof room w bs)
     unfolding Numbered run entryAnswer
     run-only im eof room (ret a) bs h = tt
-    run-only im eof room (refuse r) bs h = h
+    run-only im eof room (refuse r) bs h = h .0
     run-only im eof room (enter v a l k) bs h =
         let n = lengthIn im v a l in
         let b = shown v (part im a n) in
         entered-only (leb (a + n) eof) (overlapsAny bs a n) (ltb (length bs) room)
-        (λ m. notEntered m (kindNumber v) a (knownLength im eof v a l) bs) _ bs (λ m. refl) (run-only im eof room (k b) (bs ++ (block a n ∷ [])) (h b))
+        (λ m. notEntered m (kindNumber v) a (knownLength im eof v a l) bs) _ bs (λ m. refl)
+        (run-only im eof room (k b) (bs ++ (blockOf (kindNumber v) a n ∷ [])) (h b))
 
     pub run-number : (im : List ℕ) (eof room : ℕ) {A : Type 0} (w : Walk A) (bs : List Block) (r : Refusal) (ms : List Block) → Numbered N w →
         run im eof room w bs ≡ refused r ms → N (answerOf r)

@@ -5,7 +5,7 @@ use mathlib.Core.Logic.{_⊎_, inl, inr, ⊎-elim}
 use mathlib.Core.Path.{_≡_, refl}
 use native.Mathlib.Omega.{arith}
 use Rattle.format.specs.Bytes.{part}
-use Rattle.format.specs.Blocks.{Block, block, entryAnswer, roomOf}
+use Rattle.format.specs.Blocks.{Block, blockOf, entryAnswer, roomOf}
 use Rattle.format.specs.declared.Refusal.{Refusal}
 use Rattle.format.specs.Walk.{kindNumber, shown, lengthIn, knownLength, fault, notEntered, Walk, ret, refuse, enter, Outcome, refused, ifEntered, run}
 use Rattle.format.specs.Superblock.{Superblock, Opening, opened, notOpened, openImage, runOpened}
@@ -33,7 +33,7 @@ module _ (im : List ℕ) (eof room : ℕ) {A : Type 0} where
       rw (same, blocks) here
   refused-fault (enter v a l k) bs r ms e =
       let size = lengthIn im v a l in
-      let f = refused-fault (k (shown v (part im a size))) (bs ++ (block a size ∷ [])) r ms in
+      let f = refused-fault (k (shown v (part im a size))) (bs ++ (blockOf (kindNumber v) a size ∷ [])) r ms in
       ⊎-elim
       (λ h.
       let stay : bs ≡ ms = h .2 in
@@ -41,7 +41,7 @@ module _ (im : List ℕ) (eof room : ℕ) {A : Type 0} where
       rw (← stay, ← same) (atEntry refl (h .1)))
       (λ h. later (h .0) (f (h .1)))
       (entered-refused (entryAnswer eof room bs a size) (λ m. notEntered m (kindNumber v) a (knownLength im eof v a l) bs)
-      (run im eof room (k (shown v (part im a size))) (bs ++ (block a size ∷ []))) bs r ms e)
+      (run im eof room (k (shown v (part im a size))) (bs ++ (blockOf (kindNumber v) a size ∷ []))) bs r ms e)
 
   pub fault-refused : {w : Walk A} {bs : List Block} {r : Refusal} {ms : List Block} → Fault im eof room w bs r ms → run im eof room w bs ≡ refused r ms
   unfolding run

@@ -17,14 +17,14 @@ use Rattle.links.specs.Reached.{Reference, Each}
 use Rattle.links.proofs.Counting.{counted-on, counting-appends}
 use Rattle.links.specs.Trace.{countReferences, Trace, ended, next}
 
-drop-addresses : (i : ℕ) (os : List Linked) → drop i (addressesOf os) ≡ addressesOf (drop i os)
+pub drop-addresses : (i : ℕ) (os : List Linked) → drop i (addressesOf os) ≡ addressesOf (drop i os)
 unfolding addressesOf
 drop-addresses zero os = refl
 drop-addresses (suc i) [] = refl
 drop-addresses (suc i) (o ∷ os) = drop-addresses i os
 
 -- what stands at i stands there still with more behind it
-drop-first : (i : ℕ) (xs new : List ℕ) (x : ℕ) (rest : List ℕ) → drop i xs ≡ x ∷ rest → drop i (xs ++ new) ≡ x ∷ drop (suc i) (xs ++ new)
+pub drop-first : (i : ℕ) (xs new : List ℕ) (x : ℕ) (rest : List ℕ) → drop i xs ≡ x ∷ rest → drop i (xs ++ new) ≡ x ∷ drop (suc i) (xs ++ new)
 drop-first zero [] new x rest e = let z : _≡_ {A = ℕ} 0 1 = cc in absurd (omega arith)
 drop-first zero (y ∷ xs) new x rest e = let same : y ≡ x = cc in rw same
 drop-first (suc i) [] new x rest e = let z : _≡_ {A = ℕ} 0 1 = cc in absurd (omega arith)

@@ -4,7 +4,7 @@ use mathlib.Core.List.{List, [], _∷_, _++_}
 use mathlib.Core.Logic.{_⊎_}
 use mathlib.Core.Path.{_≡_}
 use Rattle.format.specs.Bytes.{part}
-use Rattle.format.specs.Blocks.{Block, block, entryAnswer, roomOf}
+use Rattle.format.specs.Blocks.{Block, blockOf, entryAnswer, roomOf}
 use Rattle.format.specs.declared.Refusal.{Refusal}
 use Rattle.format.specs.Walk.{Kind, kindNumber, Length, shown, lengthIn, knownLength, fault, notEntered, Walk, refuse, enter}
 use Rattle.format.specs.Superblock.{Superblock, opened, notOpened, openImage}
@@ -20,7 +20,7 @@ pub data Fault (im : List ℕ) (eof room : ℕ) {A : Type 0} : Walk A → List B
       Fault im eof room (enter v a l k) bs (notEntered n (kindNumber v) a (knownLength im eof v a l) bs) bs
   -- the next block is entered, and the fault comes later
   later : {v : Kind} {a : ℕ} {l : Length} {k : List ℕ → Walk A} {r : Refusal} {bs ms : List Block} → entryAnswer eof room bs a (lengthIn im v a l) ≡ 0 →
-      Fault im eof room (k (shown v (part im a (lengthIn im v a l)))) (bs ++ (block a (lengthIn im v a l) ∷ [])) r ms →
+      Fault im eof room (k (shown v (part im a (lengthIn im v a l)))) (bs ++ (blockOf (kindNumber v) a (lengthIn im v a l) ∷ [])) r ms →
       Fault im eof room (enter v a l k) bs r ms
 
 -- why an audit is refused: the image can't be opened, or its walk comes to a fault

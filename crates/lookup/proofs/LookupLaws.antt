@@ -5,7 +5,7 @@ use mathlib.Core.Path.{_≡_, refl, ap, sym, _∙_}
 use lib.ListN.{replicate}
 use Rattle.format.specs.Blocks.{roomOf}
 use Rattle.format.specs.declared.Refusal.{Refusal}
-use Rattle.format.specs.Walk.{fault, answerOf, Outcome, done, run, _>>_}
+use Rattle.format.specs.Walk.{fault, answerOf, metOf, Outcome, done, run, _>>_}
 use Rattle.format.specs.Superblock.{superblockWalk, opened, notOpened, openImage}
 use Rattle.format.specs.Path.{components, badPath, parsePath}
 use Rattle.format.specs.Lookup as lookups
@@ -23,9 +23,9 @@ use Rattle.last_object.specs.declared.Kind as kinds
 use Rattle.lookup.specs.declared.lookup.Located.{Located}
 use Rattle.follow.proofs.FollowLaws.{afterTarget, follow-target}
 
--- a refusal has zeros for its fields
+-- a refusal has zeros for its fields but for the block met
 abbrev pub refusedWith : Refusal → Located
-refusedWith r = record { number = answerOf r; kind = 0; address = 0 }
+refusedWith r = record { number = answerOf r; met = metOf r; kind = 0; address = 0 }
 
 module _ (im path : List ℕ) (lent : ℕ) (s : Superblock) where
   abbrev target : Outcome Target
@@ -47,7 +47,7 @@ module _ (im path : List ℕ) (lent : ℕ) (s : Superblock) where
   pub stopped-is : (x : Refusal) → EndsAs (targets.the-variants.Stopped x) target → LocatedIs im path lent s (refusedWith x)
   stopped-is x h = ends (followed _ (h .1)) refl
 
-  pub symbolic-is : EndsAs targets.the-variants.Symbolic target → LocatedIs im path lent s (record { number = 0; kind = 4; address = 0 })
+  pub symbolic-is : EndsAs targets.the-variants.Symbolic target → LocatedIs im path lent s (record { number = 0; met = 0; kind = 4; address = 0 })
   symbolic-is h = ends (followed _ (h .1)) refl
 
   module _ (a : ℕ) (h : EndsAs (targets.the-variants.Object a) target) where
@@ -55,7 +55,7 @@ module _ (im path : List ℕ) (lent : ℕ) (s : Superblock) where
     last-stopped x k = ends (followed _ (h .1) ∙ k .1) refl
 
     pub last-known : (n : ℕ) → KindIs im s (roomOf lent) a (kinds.the-variants.Known n) → LocatedIs im path lent s
-        (record { number = 0; kind = n; address = a })
+        (record { number = 0; met = 0; kind = n; address = a })
     last-known n k = ends (followed _ (h .1) ∙ k .1) refl
 
 module _ (im path : List ℕ) (lent : ℕ) (ws : List ℕ) (zeros : ws ≡ replicate lent 0) where

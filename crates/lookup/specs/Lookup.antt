@@ -14,7 +14,7 @@ use Rattle.lookup.specs.declared.lookup.Located.{Located}
 
 -- "At lookup's end the list is all zeros and the block count 0."
 abbrev pub replyOf : List ℕ → Located → LookupReply
-replyOf ws r = record { number = r .number; kind = r .kind; address = r .address; blockCount = 0; list = ws }
+replyOf ws r = record { number = r .number; met = r .met; kind = r .kind; address = r .address; blockCount = 0; list = ws }
 
 -- the path was followed in an opened image as the definition does; the list is still to be cleared
 abbrev pub LocatedIs : List ℕ → List ℕ → ℕ → Superblock → Located → Type 0

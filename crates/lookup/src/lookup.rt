@@ -4,6 +4,7 @@ use follow;
 use format::NO_PLACE;
 use format::Refusal;
 use format::answers;
+use format::met_of;
 use format::number_of;
 use last_object;
 use last_object::Kind;
@@ -13,7 +14,7 @@ use walk::blocks;
 ghost use mathlib.Core.Path.{_≡_};
 ghost use Prim.Native.Nat.{_≤_};
 ghost use lib.ListN.{length, replicate};
-ghost use Rattle.format.specs.Walk.{answerOf};
+ghost use Rattle.format.specs.Walk.{answerOf, metOf};
 ghost use Rattle.format.specs.Answers.{lookup as lookupReply};
 ghost use Rattle.object.specs.Object.{Bounded};
 ghost use Rattle.lookup.specs.Lookup.{replyOf, LocatedIs};
@@ -21,18 +22,20 @@ ghost use Rattle.lookup.specs.Lookup.{replyOf, LocatedIs};
 // The number of document 01 for a symbolic link.
 const SYMBOLIC_LINK: u8 = 4;
 
-// The answer, the kind and the address; zeros where the answer isn't 0.
+// The answer, with 6 the first block met, the kind and the address; zeros where the answer isn't 0.
 pub struct Located {
     pub number: u8,
+    pub met: u64,
     pub kind: u8,
     pub address: u64,
 }
 
 fn refused(refusal: Refusal) -> Located
-    ensures { λ r. ⌜ r ≡ record { number = answerOf refusal; kind = 0; address = 0 } ⌝ }
+    ensures { λ r. ⌜ r ≡ record { number = answerOf refusal; met = metOf refusal; kind = 0; address = 0 } ⌝ }
 {
     Located {
         number: number_of(refusal),
+        met: met_of(refusal),
         kind: 0,
         address: 0,
     }
@@ -48,6 +51,7 @@ fn locate(image: &[u8], path: &[u8], list: &mut [u64], superblock: Superblock) -
         Target::Stopped(x) => refused(x),
         Target::Symbolic => Located {
             number: answers::DONE,
+            met: 0,
             kind: SYMBOLIC_LINK,
             address: 0,
         },
@@ -57,6 +61,7 @@ fn locate(image: &[u8], path: &[u8], list: &mut [u64], superblock: Superblock) -
                 Kind::Stopped(x) => refused(x),
                 Kind::Known(k) => Located {
                     number: answers::DONE,
+                    met: 0,
                     kind: k,
                     address: a,
                 },

@@ -24,33 +24,33 @@ module _ (im : List ℕ) (lent logLent n : ℕ) (a : AuditReply) where
   unfolding mend
   after-is e = rw e
 
-  after-refused : (m : ℕ) → (m ≡ 0 → ⊥) → mendAfter im lent logLent n m a ≡ notMended im lent logLent m
+  after-refused : (m : ℕ) → (m ≡ 0 → ⊥) → mendAfter im lent logLent n m a ≡ notMended im lent logLent m (a .met)
   after-refused zero h = absurd (h refl)
   after-refused (suc m) h = refl
 
-  after-short : (m : ℕ) → m ≡ 0 → logLent < 2 * length (corrections (a .objects)) → mendAfter im lent logLent n m a ≡ notMended im lent logLent 18
+  after-short : (m : ℕ) → m ≡ 0 → logLent < 2 * length (corrections (a .objects)) → mendAfter im lent logLent n m a ≡ notMended im lent logLent 18 0
   after-short m z h = rw (z, lt-leb (2 * length (corrections (a .objects))) logLent h)
 
   after-done : (m : ℕ) → m ≡ 0 → 2 * length (corrections (a .objects)) ≤ logLent →
       mendAfter im lent logLent n m a ≡ mendedBy im logLent a (corrections (a .objects)) (min n (length (corrections (a .objects))))
   after-done m z h = rw (z, le-leb (2 * length (corrections (a .objects))) logLent h)
 
-refused-is : (im : List ℕ) (lent logLent m : ℕ) (list log : List ℕ) (r : Mended) → r ≡ refusedWith m → list ≡ replicate lent 0 → log ≡ replicate logLent 0 →
-    replyOf list log im r ≡ notMended im lent logLent m
-refused-is im lent logLent m list log r e f g = rw (e, f, g)
+refused-is : (im : List ℕ) (lent logLent m met : ℕ) (list log : List ℕ) (r : Mended) → r ≡ refusedWith m met → list ≡ replicate lent 0 →
+    log ≡ replicate logLent 0 → replyOf list log im r ≡ notMended im lent logLent m met
+refused-is im lent logLent m met list log r e f g = rw (e, f, g)
 
 -- The reply, by what the audit gave.
 module _ (im : List ℕ) (lent logLent n : ℕ) (ws : List ℕ) (a : Reply) (is : AuditIs im lent ws a) where
   abbrev audited : AuditReply
-  audited = record { number = a .number; blockCount = a .«block_count»; objects = countedOf (a .ledger); list = ws }
+  audited = record { number = a .number; met = a .met; blockCount = a .«block_count»; objects = countedOf (a .ledger); list = ws }
 
   abbrev wrongs : List Change
   wrongs = corrections (countedOf (a .ledger))
 
-  pub audit-refused : (a .number ≡ 0 → ⊥) → (list log : List ℕ) (r : Mended) → r ≡ refusedWith (a .number) → list ≡ replicate lent 0 →
+  pub audit-refused : (a .number ≡ 0 → ⊥) → (list log : List ℕ) (r : Mended) → r ≡ refusedWith (a .number) (a .met) → list ≡ replicate lent 0 →
       log ≡ replicate logLent 0 → MendIs im lent logLent n list log im r
   audit-refused h list log r e f g = record {
-    reply = refused-is im lent logLent (a .number) list log r e f g
+    reply = refused-is im lent logLent (a .number) (a .met) list log r e f g
         ∙ sym (after-refused im lent logLent n audited (a .number) h) ∙ after-is im lent logLent n audited (is .reply);
     most = λ z. absurd (h (ap (λ (p : AuditReply). p .number) (is .reply) ∙ z));
   }
@@ -60,17 +60,17 @@ module _ (im : List ℕ) (lent logLent n : ℕ) (ws : List ℕ) (a : Reply) (is 
     entries-most : length (corrections (audit im lent .objects)) ≤ objectsMost
     entries-most = omega (arith, ap (λ (p : AuditReply). length (corrections (p .objects))) (is .reply), is .fits)
 
-    pub log-short : a .number ≡ 0 → logLent < 2 * e → (list log : List ℕ) (r : Mended) → r ≡ refusedWith 18 → list ≡ replicate lent 0 →
+    pub log-short : a .number ≡ 0 → logLent < 2 * e → (list log : List ℕ) (r : Mended) → r ≡ refusedWith 18 0 → list ≡ replicate lent 0 →
         log ≡ replicate logLent 0 → MendIs im lent logLent n list log im r
     log-short z h list log r p f g = record {
-      reply = refused-is im lent logLent 18 list log r p f g
+      reply = refused-is im lent logLent 18 0 list log r p f g
           ∙ sym (after-short im lent logLent n audited (a .number) z (omega arith)) ∙ after-is im lent logLent n audited (is .reply);
       most = λ _. entries-most;
     }
 
     pub mended-is : a .number ≡ 0 → (log im′ : List ℕ) (w : ℕ) → 2 * e ≤ logLent → w ≡ min n e → log ≡ padded logLent (logWords wrongs) → NewsFit wrongs →
         im′ ≡ written im (changes w log) →
-        MendIs im lent logLent n ws log im′ (record { number = 0; «block_count» = a .«block_count»; entries = e; writes = w })
+        MendIs im lent logLent n ws log im′ (record { number = 0; met = 0; «block_count» = a .«block_count»; entries = e; writes = w })
     mended-is z log im′ w h q l f g =
         let k : w ≤ length wrongs = omega arith in
         let v : im′ ≡ written im (take w wrongs) = g ∙ rw (l, changes-written w wrongs _ k f) in

@@ -12,6 +12,7 @@ use Rattle.mend.specs.declared.Mended.{Mended}
 abbrev pub replyOf : List ℕ → List ℕ → List ℕ → Mended → MendReply
 replyOf list log image r = record {
   number = r .number;
+  met = r .met;
   blockCount = r .«block_count»;
   entries = r .entries;
   writes = r .writes;
@@ -20,9 +21,9 @@ replyOf list log image r = record {
   image = image;
 }
 
--- what is returned with a refusal
-abbrev pub refusedWith : ℕ → Mended
-refusedWith n = record { number = n; «block_count» = 0; entries = 0; writes = 0 }
+-- what is returned with a refusal, by its number and the block met
+abbrev pub refusedWith : ℕ → ℕ → Mended
+refusedWith n met = record { number = n; met = met; «block_count» = 0; entries = 0; writes = 0 }
 
 -- the reply is the definition's, and no image that the audit accepts has more wrong counts than an audit has objects
 pub record MendIs (im : List ℕ) (lent logLent limit : ℕ) (list log image : List ℕ) (r : Mended) : Type 0 where

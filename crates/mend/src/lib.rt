@@ -6,24 +6,27 @@ ghost use Prim.Native.Nat.{min};
 ghost use lib.ListN.{length, replicate};
 ghost use Rattle.mend.specs.Mended.{refusedWith, MendIs};
 
-// The answer, and the numbers of blocks entered, of entries in the log and of counts written, 0 where the answer isn't.
+// The answer, with 6 the first block met, and the numbers of blocks entered, of entries in the log and of counts written, 0
+// where the answer isn't.
 pub struct Mended {
     pub number: u8,
+    pub met: u64,
     pub block_count: usize,
     pub entries: usize,
     pub writes: usize,
 }
 
-// A refusal: both lists are all zeros, and so are the numbers.
-fn refused(list: &mut [u64], log: &mut [u64], number: u8) -> Mended
+// A refusal: both lists are all zeros, and so are the numbers but for the answer and the block met.
+fn refused(list: &mut [u64], log: &mut [u64], number: u8, met: u64) -> Mended
     ensures { λ r.
-        ⌜ (r ≡ refusedWith number) × (now (list .exit) ≡ replicate (length (now (list .entry))) 0)
+        ⌜ (r ≡ refusedWith number met) × (now (list .exit) ≡ replicate (length (now (list .entry))) 0)
         × (now (log .exit) ≡ replicate (length (now (log .entry))) 0) ⌝ }
 {
     blocks::clear_from(list, 0);
     blocks::clear_from(log, 0);
     Mended {
         number,
+        met,
         block_count: 0,
         entries: 0,
         writes: 0,
@@ -49,18 +52,19 @@ pub fn mend(image: &mut [u8], list: &mut [u64], log: &mut [u64], limit: u64) -> 
     let reply = audit::audit(image, list);
     let number = reply.number;
     if number != answers::DONE {
-        return refused(list, log, number);
+        return refused(list, log, number, reply.met);
     }
     let ledger = reply.ledger;
     let entries = undo_log::wrong(ledger);
     if log.len() / 2 < entries {
-        return refused(list, log, answers::LOG_TOO_SHORT);
+        return refused(list, log, answers::LOG_TOO_SHORT, 0);
     }
     undo_log::write_log(log, ledger);
     let writes = least(limit, entries);
     undo_log::perform(image, log, writes);
     Mended {
         number: answers::DONE,
+        met: 0,
         block_count: reply.block_count,
         entries,
         writes,

@@ -6,7 +6,7 @@ use native.Mathlib.Omega.{arith}
 use lib.Dec.{eqb}
 use lib.ListN.{getD, drop}
 use Rattle.format.specs.Bytes.{inRange, part, u8, u16, u32}
-use Rattle.format.specs.Blocks.{Block, block, entryAnswer}
+use Rattle.format.specs.Blocks.{Block, blockOf, entryAnswer}
 use Rattle.format.specs.declared.Refusal.{Refusal}
 use Rattle.format.specs.Walk.{fault, symbolBlock, Walk, ret, refuse, shown, check, _>>=_, _>>_, run}
 use Rattle.format.specs.Names.{Bound}
@@ -39,7 +39,7 @@ module _ (im : List ℕ) (eof room : ℕ) (ws : List ℕ) (count at : ℕ) (l : 
   abbrev b : List ℕ
   b = part im at size
 
-  module _ (ws₁ : List ℕ) (q : ws₁ ≡ entered (entryAnswer eof room (blocksOf count ws) at size) ws count at size) where
+  module _ (ws₁ : List ℕ) (q : ws₁ ≡ entered (entryAnswer eof room (blocksOf count ws) at size) ws count 7 at size) where
     module _ (m : ℕ) (e : Entered m ≡ entering (entryAnswer eof room (blocksOf count ws) at size) 7 at size (blocksOf count ws) count) where
       pub symbols-grown : Grown eof room (blocksOf count ws) (blocksOf m ws₁)
       symbols-grown = entered-grown eof room symbolBlock at size count ws ws₁ l q m e
@@ -47,7 +47,7 @@ module _ (im : List ℕ) (eof room : ℕ) (ws : List ℕ) (count at : ℕ) (l : 
       pub symbols-lengths : lengthSum (blocksOf m ws₁) ≡ lengthSum (blocksOf count ws) + size
       unfolding lengthSum
       symbols-lengths =
-          rw (entered-blocks eof room symbolBlock at size count ws ws₁ l q m e) (lengths-append (blocksOf count ws) (block at size ∷ []) ∙ omega arith)
+          rw (entered-blocks eof room symbolBlock at size count ws ws₁ l q m e) (lengths-append (blocksOf count ws) (blockOf 7 at size ∷ []) ∙ omega arith)
 
     -- for any group with this K, any keys and any state
     module _ (g : Rattle.format.specs.Entry.Group Both) (kk : g .leafK ≡ k) (bounds : List Bound) (s : GroupState Both) where

@@ -2,17 +2,16 @@
 use mathlib.Core.Path.{_≡_, refl, ap, sym, _∙_}
 use mathlib.Core.Bool.{Bool, true, false, and-false}
 use mathlib.Core.List.{List, [], _∷_, _++_, append-assoc}
-use Prim.Native.Nat.{ℕ, suc, zero, _+_, _-_, _/_, _≤_, _<_}
+use Prim.Native.Nat.{ℕ, suc, zero, _+_, _-_, _*_, _/_, _≤_, _<_}
 use native.Mathlib.Omega.{arith}
-use native.Mathlib.Nat.{add-zero}
 use native.Mathlib.Numerals.{add-one}
 use borrow.Author.Tests.{lt-ltb, le-ltb, le-leb, lt-leb, ltb-true, leb-true}
-use lib.ListN.{length, take, drop, getD, set, replicate, replicate-append-replicate}
-use lib.Seq.{drop-drop, getD-drop, take-suc-set, length-take-le}
+use lib.ListN.{length, take, drop, getD, set, replicate, replicate-append-replicate, drop-of-length-le}
+use lib.Seq.{getD-drop, take-suc-set, length-take-le}
 use lib.Dec.{leb, ltb}
 use Rattle.format.specs.Limits.{blocksMost}
 use Rattle.format.specs.Bytes.{if_then_else_}
-use Rattle.format.specs.Blocks.{Block, block, blockWords, blockList, overlaps, overlapsAny, firstMet, entryAnswer, roomOf}
+use Rattle.format.specs.Blocks.{Block, block, blockOf, noObject, ownerAfter, blockWords, blockList, overlaps, overlapsAny, firstMet, entryAnswer, roomOf}
 use Rattle.format.specs.declared.Refusal.{Refusal}
 use Rattle.format.specs.Walk.{notEntered}
 use Rattle.walk.specs.Lent.{blocksOf, Lent, entering}
@@ -27,13 +26,13 @@ zeros-more p ws i n h e =
     rw (add-one i, take-suc-set ws i 0 h, e, append-assoc p (replicate n 0) (0 ∷ [])) (ap (λ (z : List ℕ). p ++ z) (replicate-append-replicate n 1 0))
 
 -- the room that so many words give, by the lesser of the two
-pub roomOf-most : (words : ℕ) → blocksMost ≤ words / 2 → roomOf words ≡ blocksMost
+pub roomOf-most : (words : ℕ) → blocksMost ≤ words / 4 → roomOf words ≡ blocksMost
 unfolding roomOf
 roomOf-most words h = omega arith
 
-pub roomOf-pairs : (words : ℕ) → words / 2 < blocksMost → roomOf words ≡ words / 2
+pub roomOf-fours : (words : ℕ) → words / 4 < blocksMost → roomOf words ≡ words / 4
 unfolding roomOf
-roomOf-pairs words h = omega arith
+roomOf-fours words h = omega arith
 
 pub room-most : (words : ℕ) → roomOf words ≤ blocksMost
 unfolding roomOf
@@ -45,83 +44,92 @@ all-cleared ws ws′ e = let z : length ws - 0 ≡ length ws = omega arith in rw
 
 -- a whole list is lent with no block entered
 pub lent-none : (ws : List ℕ) → Lent ws 0 (roomOf (length ws))
-unfolding roomOf
-lent-none ws = record { counted = omega arith; lent = omega arith }
-
--- the words of the first c blocks
-pub words-blocksOf : (c : ℕ) (ws : List ℕ) → c + c ≤ length ws → blockWords (blocksOf c ws) ≡ take (c + c) ws
-unfolding blocksOf blockWords
-words-blocksOf zero ws h = refl
-words-blocksOf (suc c) [] h = absurd (omega arith)
-words-blocksOf (suc c) (x ∷ []) h = absurd (omega arith)
-words-blocksOf (suc c) (x ∷ y ∷ ws) h =
-    let e : suc c + suc c ≡ suc (suc (c + c)) = omega arith in
-    rw (e, words-blocksOf c ws (omega arith))
+unfolding roomOf blocksOf blockWords
+lent-none ws = record { counted = omega arith; lent = omega arith; numbered = refl }
 
 -- the list left by a run of n blocks, with the words behind them cleared
-pub list-cleared : (n : ℕ) (ws : List ℕ) → n + n ≤ length ws → take (n + n) ws ++ replicate (length ws - (n + n)) 0 ≡ blockList (length ws) (blocksOf n ws)
-list-cleared n ws h = rw (words-blocksOf n ws h, length-take-le (n + n) ws h)
+pub list-cleared : (n : ℕ) (bs : List Block) (ws : List ℕ) → 4 * n ≤ length ws → take (4 * n) ws ≡ blockWords noObject bs →
+    take (4 * n) ws ++ replicate (length ws - 4 * n) 0 ≡ blockList (length ws) bs
+list-cleared n bs ws h e = rw (← e, length-take-le (4 * n) ws h)
 
 pub length-blocksOf : (c : ℕ) (ws : List ℕ) → length (blocksOf c ws) ≡ c
 unfolding blocksOf
 length-blocksOf zero ws = refl
-length-blocksOf (suc c) ws = ap suc (length-blocksOf c (drop 2 ws))
+length-blocksOf (suc c) ws = ap suc (length-blocksOf c (drop 4 ws))
 
--- two words written behind the first c blocks are one block more
-pub blocks-snoc : (a n c k : ℕ) (ws : List ℕ) → k ≡ c + c → k + 2 ≤ length ws →
-    blocksOf (suc c) (set (set ws k a) (suc k) n) ≡ blocksOf c ws ++ (block a n ∷ [])
+-- blocks are read back from their words
+words-first : (o n : ℕ) (b : Block) (bs : List Block) (ws : List ℕ) → take (suc (suc (suc (suc (4 * n))))) ws ≡ blockWords o (b ∷ bs) →
+    ((rest : List ℕ) → take (4 * n) rest ≡ blockWords (ownerAfter o (b .kind)) bs → blocksOf n rest ≡ bs) →
+    blocksOf (suc n) ws ≡ b ∷ bs
+unfolding blocksOf blockWords
+words-first o n b bs [] e next = let z : _≡_ {A = ℕ} 0 1 = cc e in absurd (omega arith)
+words-first o n b bs (x ∷ []) e next = let z : _≡_ {A = ℕ} 0 1 = cc e in absurd (omega arith)
+words-first o n b bs (x ∷ y ∷ []) e next = let z : _≡_ {A = ℕ} 0 1 = cc e in absurd (omega arith)
+words-first o n b bs (x ∷ y ∷ z ∷ []) e next = let z : _≡_ {A = ℕ} 0 1 = cc e in absurd (omega arith)
+words-first o n b bs (x ∷ y ∷ z ∷ w ∷ ws) e next =
+    let first : x ≡ b .at = cc e in
+    let second : y ≡ b .size = cc e in
+    let third : z ≡ b .kind = cc e in
+    let behind : take (4 * n) ws ≡ blockWords (ownerAfter o (b .kind)) bs = cc e in
+    rw (first, second, third, next ws behind)
+
+pub words-blocks : (o : ℕ) (bs : List Block) (ws : List ℕ) → take (4 * length bs) ws ≡ blockWords o bs → blocksOf (length bs) ws ≡ bs
 unfolding blocksOf
-blocks-snoc a n zero zero (x ∷ y ∷ ws) e h = refl
-blocks-snoc a n zero zero (x ∷ []) e h = absurd (omega arith)
-blocks-snoc a n zero zero [] e h = absurd (omega arith)
-blocks-snoc a n zero (suc k) ws e h = absurd (omega arith)
-blocks-snoc a n (suc c) zero ws e h = absurd (omega arith)
-blocks-snoc a n (suc c) (suc zero) ws e h = absurd (omega arith)
-blocks-snoc a n (suc c) (suc (suc k)) [] e h = absurd (omega arith)
-blocks-snoc a n (suc c) (suc (suc k)) (x ∷ []) e h = absurd (omega arith)
-blocks-snoc a n (suc c) (suc (suc k)) (x ∷ y ∷ ws) e h = ap (λ (bs : List Block). block x y ∷ bs) (blocks-snoc a n c k ws (omega arith) (omega arith))
+words-blocks o [] ws e = refl
+words-blocks o (b ∷ bs) ws e =
+    let f : 4 * suc (length bs) ≡ suc (suc (suc (suc (4 * length bs)))) = omega arith in
+    words-first o (length bs) b bs ws (rw f at e) (words-blocks (ownerAfter o (b .kind)) bs)
 
-pub overlaps-hit : (b m a n : ℕ) → b < a + n → a < b + m → overlaps (block b m) a n ≡ true
+pub overlaps-hit : (v b m a n : ℕ) → b < a + n → a < b + m → overlaps (blockOf v b m) a n ≡ true
 unfolding overlaps
-overlaps-hit b m a n h k = simp (lt-ltb b (a + n) h, lt-ltb a (b + m) k)
+overlaps-hit v b m a n h k = simp (lt-ltb b (a + n) h, lt-ltb a (b + m) k)
 
-pub overlaps-not-below : (b m a n : ℕ) → a + n ≤ b → overlaps (block b m) a n ≡ false
+pub overlaps-not-below : (v b m a n : ℕ) → a + n ≤ b → overlaps (blockOf v b m) a n ≡ false
 unfolding overlaps
-overlaps-not-below b m a n h = simp (le-ltb b (a + n) h)
+overlaps-not-below v b m a n h = simp (le-ltb b (a + n) h)
 
-pub overlaps-not-above : (b m a n : ℕ) → b + m ≤ a → overlaps (block b m) a n ≡ false
+pub overlaps-not-above : (v b m a n : ℕ) → b + m ≤ a → overlaps (blockOf v b m) a n ≡ false
 unfolding overlaps
-overlaps-not-above b m a n h = simp (le-ltb a (b + m) h, and-false)
+overlaps-not-above v b m a n h = simp (le-ltb a (b + m) h, and-false)
 
--- the blocks from the ith on are the ith and those behind it
-pub blocks-next : (c i : ℕ) (ws : List ℕ) → i < c →
-    blocksOf (c - i) (drop (i + i) ws) ≡ block (getD ws (i + i) 0) (getD ws (i + i + 1) 0) ∷ blocksOf (c - (i + 1)) (drop (i + 1 + (i + 1)) ws)
+-- the block of number i, by its words
+abbrev pub blockAt : List ℕ → ℕ → Block
+blockAt ws i = blockOf (getD ws (4 * i + 2) 0) (getD ws (4 * i) 0) (getD ws (4 * i + 1) 0)
+
+block-behind : (ws : List ℕ) (i : ℕ) → blockAt (drop 4 ws) i ≡ blockAt ws (suc i)
+block-behind ws i =
+    let e : 4 * suc i ≡ 4 + 4 * i = omega arith in
+    let f : 4 * suc i + 1 ≡ 4 + (4 * i + 1) = omega arith in
+    let g : 4 * suc i + 2 ≡ 4 + (4 * i + 2) = omega arith in
+    rw (getD-drop, getD-drop, getD-drop, f, g, e)
+
+-- the blocks from number i on are that block and those behind it
+blocks-split : (c i : ℕ) (ws : List ℕ) → i < c → drop i (blocksOf c ws) ≡ blockAt ws i ∷ drop (suc i) (blocksOf c ws)
 unfolding blocksOf
-blocks-next c i ws h =
-    let e : c - i ≡ suc (c - (i + 1)) = omega arith in
-    let f : i + 1 + (i + 1) ≡ i + i + 2 = omega arith in
-    rw (e, f, ← (drop-drop 2 (i + i) ws), ← (getD-drop (i + i) ws 1 0), ← (add-zero (i + i)), ← (getD-drop (i + i) ws 0 0), add-zero)
+blocks-split zero i ws h = absurd (omega arith)
+blocks-split (suc c) zero ws h = refl
+blocks-split (suc c) (suc i) ws h =
+    blocks-split c i (drop 4 ws) (omega arith) ∙ ap (λ (b : Block). b ∷ drop (suc i) (blocksOf c (drop 4 ws))) (block-behind ws i)
 
--- The search, before the ith block: `whole` is what it will have found. One turn of it, by the words of the ith block.
-module _ (c i : ℕ) (ws : List ℕ) (a n : ℕ) (whole : Met) (h : i < c) (e : whole ≡ met (blocksOf (c - i) (drop (i + i) ws)) a n) where
-  turn : whole ≡ met (block (getD ws (i + i) 0) (getD ws (i + i + 1) 0) ∷ blocksOf (c - (i + 1)) (drop (i + 1 + (i + 1)) ws)) a n
+pub blocks-next : (c i : ℕ) (ws : List ℕ) → i < c → drop i (blocksOf c ws) ≡ blockAt ws i ∷ drop (i + 1) (blocksOf c ws)
+blocks-next c i ws h = rw (add-one i) (blocks-split c i ws h)
+
+-- The search, before block number i: `whole` is what it will have found. One turn of it, by the words of that block.
+module _ (c i : ℕ) (ws : List ℕ) (a n : ℕ) (whole : Met) (h : i < c) (e : whole ≡ met (drop i (blocksOf c ws)) a n) where
+  turn : whole ≡ met (blockAt ws i ∷ drop (i + 1) (blocksOf c ws)) a n
   turn = e ∙ ap (λ (bs : List Block). met bs a n) (blocks-next c i ws h)
 
-  pub search-hit : getD ws (i + i) 0 < a + n → a < getD ws (i + i) 0 + getD ws (i + i + 1) 0 → mets.Block (getD ws (i + i) 0) ≡ whole
-  unfolding overlapsAny firstMet
-  search-hit l k = sym (turn ∙ rw (overlaps-hit (getD ws (i + i) 0) (getD ws (i + i + 1) 0) a n l k))
+  pub search-hit : true ≡ overlaps (block (getD ws (4 * i) 0) (getD ws (4 * i + 1) 0)) a n → mets.Block (getD ws (4 * i) 0) ≡ whole
+  unfolding overlaps overlapsAny firstMet
+  search-hit t = sym (turn ∙ rw (← t))
 
-  pub search-below : a + n ≤ getD ws (i + i) 0 → whole ≡ met (blocksOf (c - (i + 1)) (drop (i + 1 + (i + 1)) ws)) a n
-  unfolding overlapsAny firstMet
-  search-below l = turn ∙ rw (overlaps-not-below (getD ws (i + i) 0) (getD ws (i + i + 1) 0) a n l)
+  pub search-past : false ≡ overlaps (block (getD ws (4 * i) 0) (getD ws (4 * i + 1) 0)) a n → whole ≡ met (drop (i + 1) (blocksOf c ws)) a n
+  unfolding overlaps overlapsAny firstMet
+  search-past t = turn ∙ rw (← t)
 
-  pub search-above : getD ws (i + i) 0 + getD ws (i + i + 1) 0 ≤ a → whole ≡ met (blocksOf (c - (i + 1)) (drop (i + 1 + (i + 1)) ws)) a n
-  unfolding overlapsAny firstMet
-  search-above l = turn ∙ rw (overlaps-not-above (getD ws (i + i) 0) (getD ws (i + i + 1) 0) a n l)
-
-pub search-end : (c i : ℕ) (ws : List ℕ) (a n : ℕ) (whole : Met) → c ≤ i → whole ≡ met (blocksOf (c - i) (drop (i + i) ws)) a n → mets.Nothing ≡ whole
-unfolding overlapsAny blocksOf
-search-end c i ws a n whole h e = let z : c - i ≡ 0 = omega arith in sym (e ∙ rw z)
+pub search-end : (c i : ℕ) (ws : List ℕ) (a n : ℕ) (whole : Met) → c ≤ i → whole ≡ met (drop i (blocksOf c ws)) a n → mets.Nothing ≡ whole
+unfolding overlapsAny
+search-end c i ws a n whole h e = sym (e ∙ ap (λ (bs : List Block). met bs a n) (drop-of-length-le (blocksOf c ws) {i = i} (rw length-blocksOf h)))
 
 -- what was found says whether one of the blocks is met, and which is the first
 pub met-block : (bs : List Block) (a n b : ℕ) → mets.Block b ≡ met bs a n → (true ≡ overlapsAny bs a n) × (firstMet bs a n ≡ b)

@@ -1,28 +1,29 @@
 -- The block list that a caller lends, and what a function returns and leaves of a run.
-use Prim.Native.Nat.{ℕ, _+_, suc, zero, _≤_}
+use Prim.Native.Nat.{ℕ, _+_, _*_, suc, zero, _≤_}
 use mathlib.Core.Path.{_≡_}
 use mathlib.Core.List.{List, [], _∷_}
-use lib.ListN.{length, getD, drop, set}
-use Rattle.format.specs.Blocks.{Block, block}
+use lib.ListN.{length, getD, take, drop, set}
+use Rattle.format.specs.Blocks.{Block, blockOf, noObject, ownerAfter, lastOwner, blockWords}
 use Rattle.format.specs.declared.Refusal.{Refusal}
 use Rattle.format.specs.Walk.{Outcome, done, refused, ifEntered, notEntered}
 use Rattle.walk.specs.declared.blocks.Entry.{Entry}
 use Rattle.walk.specs.declared.blocks.Entry.the-variants.{Entered, Refused}
 
--- the first c blocks of a list of words, two words a block
+-- the first c blocks of a list of words, four words a block, the last of which is the number of an object
 unfoldable pub blocksOf : ℕ → List ℕ → List Block
 blocksOf zero ws = []
-blocksOf (suc c) ws = block (getD ws 0 0) (getD ws 1 0) ∷ blocksOf c (drop 2 ws)
+blocksOf (suc c) ws = blockOf (getD ws 2 0) (getD ws 0 0) (getD ws 1 0) ∷ blocksOf c (drop 4 ws)
 
 -- the lengths of blocks, summed
 unfoldable pub lengthSum : List Block → ℕ
 lengthSum [] = 0
 lengthSum (b ∷ bs) = b .size + lengthSum bs
 
--- a list of words with room for so many blocks, of which count are entered
+-- a list of words with room for so many blocks, of which count are entered, each with the number of its object
 pub record Lent (ws : List ℕ) (count room : ℕ) : Type 0 where
   pub counted : count ≤ room
-  pub lent : room + room ≤ length ws
+  pub lent : 4 * room ≤ length ws
+  pub numbered : take (4 * count) ws ≡ blockWords noObject (blocksOf count ws)
 
 -- how a run ends, without its list: its value and the number of its blocks, or the refusal
 pub data Ended (A : Type 0) : Type 0 where
@@ -42,17 +43,25 @@ left (refused r bs) = bs
 -- a function that was lent ws left ws′ and returned r, as the run's outcome o asks
 pub record Walked {A : Type 0} (ws ws′ : List ℕ) (r : Ended A) (o : Outcome A) : Type 0 where
   pub answer : r ≡ endOf o
-  pub held : blocksOf (length (left o)) ws′ ≡ left o
-  pub rest : (k : ℕ) → length (left o) + length (left o) ≤ k → getD ws′ k 0 ≡ getD ws k 0
+  pub held : take (4 * length (left o)) ws′ ≡ blockWords noObject (left o)
+  pub rest : (k : ℕ) → 4 * length (left o) ≤ k → getD ws′ k 0 ≡ getD ws k 0
 
 -- what entering a block returns, by its answer; the block of n bytes at a, of a kind, comes behind the blocks bs
 abbrev pub entering : ℕ → ℕ → ℕ → ℕ → List Block → ℕ → Entry
 entering zero kind a n bs count = Entered (count + 1)
 entering (suc answer) kind a n bs count = Refused (notEntered (suc answer) kind a n bs)
 
+-- the list with four words written at k
+abbrev pub withFour : List ℕ → ℕ → ℕ → ℕ → ℕ → ℕ → List ℕ
+withFour ws k a n v o = set (set (set (set ws k a) (k + 1) n) (k + 2) v) (k + 3) o
+
+-- the list with a block of a kind behind the first c, of the object that follows from theirs
+abbrev pub appended : List ℕ → ℕ → ℕ → ℕ → ℕ → List ℕ
+appended ws c kind a n = withFour ws (4 * c) a n kind (ownerAfter (lastOwner noObject (blocksOf c ws)) kind)
+
 -- what entering a block leaves of the list, by its answer
-abbrev pub entered : ℕ → List ℕ → ℕ → ℕ → ℕ → List ℕ
-entered answer ws count a n = ifEntered answer (set (set ws (count + count) a) (count + count + 1) n) (λ _. ws)
+abbrev pub entered : ℕ → List ℕ → ℕ → ℕ → ℕ → ℕ → List ℕ
+entered answer ws count kind a n = ifEntered answer (appended ws count kind a n) (λ _. ws)
 
 -- entering a block as the end of a run: the number of blocks then entered, or the refusal
 abbrev pub entryEnd : Entry → Ended (Unit {0})

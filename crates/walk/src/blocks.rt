@@ -1,15 +1,19 @@
-// The blocks entered, in a list of words that the caller lends: two words a block, its address and its length.
+// The blocks entered, in a list of words that the caller lends. A block has four words: its address, its length, the number
+// of its kind and the number of the object that it was walked for.
 use crate::met::Met;
 use crate::met::first_met;
+use crate::owner::last_owner;
+use crate::owner::owner_after;
 use format::Refusal;
 use format::answers;
 ghost use mathlib.Core.Path.{_≡_};
 ghost use mathlib.Core.List.{_++_};
-ghost use Prim.Native.Nat.{_+_, _-_, _<_, _≤_};
+ghost use Prim.Native.Nat.{_+_, _-_, _*_, _<_, _≤_};
 ghost use lib.ListN.{length, take, replicate};
 ghost use Rattle.format.specs.Blocks.{entryAnswer, roomOf};
 ghost use Rattle.format.specs.declared.Refusal.the-variants.{NotEntered};
-ghost use Rattle.walk.specs.Lent.{Lent, blocksOf, entering, entered};
+ghost use Rattle.walk.specs.declared.blocks.Entry.the-variants.{Refused};
+ghost use Rattle.walk.specs.Lent.{Lent, blocksOf, appended, entering, entered};
 
 // Sets the words from a place on to zero.
 pub fn clear_from(words: &mut [u64], from: usize)
@@ -28,11 +32,11 @@ pub fn room(words: usize) -> usize
     ensures { λ r. ⌜ r ≡ roomOf words ⌝ }
 {
     let limits = format::the_limits();
-    let pairs = words / 2;
-    if limits.blocks_most <= pairs {
+    let fours = words / 4;
+    if limits.blocks_most <= fours {
         return limits.blocks_most;
     }
-    pairs
+    fours
 }
 
 pub enum Entry {
@@ -53,6 +57,27 @@ pub fn not_entered(number: u8, kind: u8, at: u64, size: u64, met: u64) -> Refusa
     }
 }
 
+// Writes a block behind the others, with the number of its object.
+fn append(blocks: &mut [u64], count: usize, room: usize, kind: u8, at: u64, size: u64)
+    requires { ⌜ Lent (now blocks) count room ⌝ }
+    requires { ⌜ count < room ⌝ }
+    ensures { λ _. ⌜ now (blocks .exit) ≡ appended (now (blocks .entry)) count kind at size ⌝ }
+{
+    let object = owner_after(last_owner(blocks, count), kind);
+    let first = 4 * count;
+    blocks[first] = at;
+    blocks[first + 1] = size;
+    blocks[first + 2] = kind as u64;
+    blocks[first + 3] = object;
+}
+
+// The refusal of a block that isn't inside.
+fn outside(kind: u8, at: u64, size: u64) -> Entry
+    ensures { λ r. ⌜ r ≡ Refused (NotEntered 5 kind at size 0) ⌝ }
+{
+    Entry::Refused(not_entered(answers::OUTSIDE, kind, at, size, 0))
+}
+
 // Enters the block of `size` bytes at `at`: 5 if it isn't inside, 6 if it overlaps, 13 if there is no room, or the new count.
 pub fn enter(
     end_of_file: u64,
@@ -67,13 +92,13 @@ pub fn enter(
     ensures { λ r. ⌜ r ≡ entering (entryAnswer «end_of_file» room (blocksOf count (now (blocks .entry))) at size) kind at size
         (blocksOf count (now (blocks .entry))) count ⌝ }
     ensures { λ r. ⌜ now (blocks .exit) ≡ entered (entryAnswer «end_of_file» room (blocksOf count (now (blocks .entry))) at size) (now (blocks .entry))
-        count at size ⌝ }
+        count kind at size ⌝ }
 {
     if end_of_file < at {
-        return Entry::Refused(not_entered(answers::OUTSIDE, kind, at, size, 0));
+        return outside(kind, at, size);
     }
     if end_of_file - at < size {
-        return Entry::Refused(not_entered(answers::OUTSIDE, kind, at, size, 0));
+        return outside(kind, at, size);
     }
     match first_met(blocks, count, at, size) {
         Met::Block(b) => Entry::Refused(not_entered(answers::OVERLAP, kind, at, size, b)),
@@ -81,8 +106,7 @@ pub fn enter(
             if room <= count {
                 return Entry::Refused(not_entered(answers::NO_ROOM, kind, at, size, 0));
             }
-            blocks[count + count] = at;
-            blocks[count + count + 1] = size;
+            append(blocks, count, room, kind, at, size);
             Entry::Entered(count + 1)
         }
     }

@@ -1,8 +1,10 @@
 //! The proved library against the separate reader on one image: the number and every byte lent.
 
 use crate::library;
-use crate::reader::front::{audit_bytes, describe_bytes, lookup_bytes};
-use crate::reader::front::{mend_bytes, undo_bytes};
+use crate::plain::{self, Meeting, Meetings};
+use crate::reader::front::{audit_bytes, describe_bytes, lookup_bytes, mend_bytes, undo_bytes};
+use crate::reader::front::{BLOCK_BYTES, REPLY_WORDS};
+use crate::reader::{AuditReply, Object, Refusal, MOST_BLOCKS};
 use std::fmt::Display;
 
 /// What lay in the slices before a call.
@@ -33,11 +35,55 @@ impl Lent {
         self.image.extend_from_slice(image);
     }
 
-    /// Nothing but zeros in list, reply and log, as every refusal leaves them.
-    pub fn is_clear(&self) -> bool {
-        let clear = |slice: &[u8]| slice.iter().all(|byte| *byte == 0);
-        clear(&self.blocks) && clear(&self.reply) && clear(&self.log)
+    /// Nothing but zeros in list, reply and log, as a refusal leaves them; with 6 the reply's first word isn't looked at.
+    pub fn is_refused(&self, number: u32) -> bool {
+        // By parts that are read whole, since most slices are long and clear.
+        let clear = |slice: &[u8]| {
+            let mut parts = slice.chunks(256);
+            parts.all(|part| part.iter().fold(0, |any, byte| any | byte) == 0)
+        };
+        let met = if number == MEET { 8 } else { 0 };
+        clear(&self.blocks) && clear(&self.reply[met..]) && clear(&self.log)
     }
+
+    /// A word of the reply.
+    pub fn word(&self, number: usize) -> u64 {
+        words(&self.reply[8 * number..8 * number + 8])[0]
+    }
+
+    /// The objects in an audit's reply. That of a refusal has none.
+    pub fn objects(&self) -> Vec<Object> {
+        let count = |word: u64| word.try_into().expect("a count of 32 bits");
+        let objects = &self.reply[16..][..24 * self.word(1) as usize];
+        words(objects)
+            .chunks_exact(3)
+            .map(|words| Object {
+                address: words[0],
+                stored: count(words[1]),
+                true_count: count(words[2]),
+            })
+            .collect()
+    }
+}
+
+/// The whole words of a slice.
+pub fn words(bytes: &[u8]) -> Vec<u64> {
+    bytes
+        .chunks_exact(8)
+        .map(|word| u64::from_le_bytes(word.try_into().expect("8 bytes")))
+        .collect()
+}
+
+/// "block shares a byte with one already entered"
+const MEET: u32 = Refusal::BlocksMeet as u32;
+
+/// The calls that may give 6.
+#[derive(Clone, Copy)]
+pub enum Call {
+    Audit,
+    Lookup,
+    Description,
+    Mend,
 }
 
 /// The library and the reader, each with its own slices.
@@ -45,10 +91,12 @@ impl Lent {
 pub struct Pair {
     library: Lent,
     reader: Lent,
+    /// Every 6, by call.
+    meetings: [Meetings; 4],
 }
 
 /// A lookup or a description: image, path, blocks and reply.
-type Call = fn(&[u8], &[u8], &mut [u8], &mut [u8]) -> u32;
+type OfPath = fn(&[u8], &[u8], &mut [u8], &mut [u8]) -> u32;
 
 impl Pair {
     /// Both audits of an image, with so many bytes lent for blocks and for the reply; gives the number.
@@ -60,7 +108,21 @@ impl Pair {
         let number = library::audit(&copy, &mut self.library.blocks, &mut self.library.reply);
         assert!(copy == image, "{name}: the image changed");
         self.compare(&name, number, mine);
+        self.meet(&name, Call::Audit, number, || plain::audit(image));
         number
+    }
+
+    /// Both audits of an image with room for all blocks.
+    pub fn audit(&mut self, name: &str, image: &[u8]) -> AuditReply {
+        let number = self.agree(name, image, BLOCK_BYTES * MOST_BLOCKS, 8 * REPLY_WORDS);
+        let first = self.library.word(0);
+        AuditReply {
+            number,
+            met: if number == 0 { 0 } else { first },
+            block_count: if number == 0 { first } else { 0 },
+            objects: self.library.objects(),
+            list: words(&self.library.blocks),
+        }
     }
 
     /// Both lookups of a path in an image.
@@ -73,8 +135,11 @@ impl Pair {
         reply: usize,
     ) -> u32 {
         let title = format_args!("{name}, lookup of \"{}\"", path.escape_ascii());
-        let calls: [Call; 2] = [library::lookup, lookup_bytes];
-        self.both(&title, calls, image, path, (blocks, reply))
+        let calls: [OfPath; 2] = [library::lookup, lookup_bytes];
+        let number = self.both(&title, calls, image, path, (blocks, reply));
+        let walk = || plain::lookup(image, path, false);
+        self.meet(&title, Call::Lookup, number, walk);
+        number
     }
 
     /// Both descriptions of a path in an image.
@@ -87,14 +152,17 @@ impl Pair {
         reply: usize,
     ) -> u32 {
         let title = format_args!("{name}, description of \"{}\"", path.escape_ascii());
-        let calls: [Call; 2] = [library::describe, describe_bytes];
-        self.both(&title, calls, image, path, (blocks, reply))
+        let calls: [OfPath; 2] = [library::describe, describe_bytes];
+        let number = self.both(&title, calls, image, path, (blocks, reply));
+        let walk = || plain::lookup(image, path, true);
+        self.meet(&title, Call::Description, number, walk);
+        number
     }
 
     fn both(
         &mut self,
         title: &dyn Display,
-        [library, reader]: [Call; 2],
+        [library, reader]: [OfPath; 2],
         image: &[u8],
         path: &[u8],
         (blocks, reply): (usize, usize),
@@ -116,13 +184,13 @@ impl Pair {
     pub fn mends_agree(
         &mut self,
         name: &str,
-        image: &[u8],
+        unmended: &[u8],
         (blocks, log, reply): (usize, usize, usize),
         limit: u64,
     ) -> u32 {
         for lent in [&mut self.library, &mut self.reader] {
             lent.prepare(blocks, reply);
-            lent.prepare_image(image, log);
+            lent.prepare_image(unmended, log);
         }
         let Lent {
             blocks,
@@ -141,6 +209,7 @@ impl Pair {
         let bytes = log.len();
         let title = format_args!("{name}, mend, limit {limit}, {bytes} bytes for the log");
         self.compare(&title, number, mine);
+        self.meet(&title, Call::Mend, number, || plain::audit(unmended));
         number
     }
 
@@ -165,12 +234,32 @@ impl Pair {
         let title = format_args!("{name}, undo, {entries} entries, limit {limit}");
         assert!(copy == log, "{title}: the log changed");
         self.compare(&title, number, mine);
+        assert_ne!(number, MEET, "{title}");
         number
     }
 
     /// What the library's last call left.
     pub fn left(&self) -> &Lent {
         &self.library
+    }
+
+    /// The 6s that a call has given so far.
+    pub fn meetings(&self, call: Call) -> &Meetings {
+        &self.meetings[call as usize]
+    }
+
+    /// After 6 the block met is the one that the plain walk meets first.
+    fn meet<T>(
+        &mut self,
+        title: &dyn Display,
+        call: Call,
+        number: u32,
+        walk: impl FnOnce() -> Result<T, Meeting>,
+    ) {
+        if number == MEET {
+            let met = self.library.word(0);
+            self.meetings[call as usize].check(title, (number, met), walk);
+        }
     }
 
     /// The same number and the same bytes.
@@ -207,9 +296,9 @@ impl Pair {
     }
 }
 
-/// Room for 0 to 12 pairs and for 1,024, with 0 to 15 bytes more.
+/// Room for 0 to 12 blocks and for 1,024, with 0 to 31 bytes more.
 pub fn lent_bytes(turn: usize) -> impl Iterator<Item = usize> {
     (0..=12)
-        .chain([1024])
-        .map(move |pairs| 16 * pairs + (turn + pairs) % 16)
+        .chain([MOST_BLOCKS])
+        .map(move |room| BLOCK_BYTES * room + (turn + room) % BLOCK_BYTES)
 }

@@ -1,4 +1,6 @@
-//! The proved library. In C a `&[u8]` is a pointer and then a length.
+//! The proved library. In C a `&[u8]` is a pointer and then a length. `blocks`, `log` and `reply` hold words of 8
+//! little-endian bytes. With answer 6 the first word of the reply of an audit, lookup, description or mend is the address of
+//! the first block entered that the refused one meets.
 
 mod exported {
     extern "C" {
@@ -58,8 +60,8 @@ mod exported {
     }
 }
 
-/// The audit. `blocks` and `reply` hold words of 8 little-endian bytes; on answer 0 the reply's words are the block
-/// count, the number of objects, then address, stored and true count of each object.
+/// The audit. On answer 0 the reply's words are the block count, the number of objects, then address, stored and true count
+/// of each object, and the list has address, length, kind and owner of each block.
 pub fn audit(image: &[u8], blocks: &mut [u8], reply: &mut [u8]) -> u32 {
     // Each pointer is that of a live slice of the length beside it.
     unsafe {

@@ -12,7 +12,8 @@ use compare::generate::write::{write, File};
 use compare::generate::UNDEFINED;
 use compare::reader::{audit, describe, lookup, mend};
 
-const FULL: usize = 2048;
+/// Room for every block that a walk may enter.
+const FULL: usize = 4096;
 
 /// The committed datatype's number in every plan.
 const COMMITTED: usize = 3;

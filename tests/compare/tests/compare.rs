@@ -1,9 +1,9 @@
 //! The proved library against the separate reader: the number and every byte lent.
 
-use compare::agree::{lent_bytes, Pair};
+use compare::agree::{lent_bytes, Call, Pair};
 use compare::generate::corpus::{cases, each};
 use compare::generate::{limits, sharing, small, special};
-use compare::reader::front::REPLY_WORDS;
+use compare::reader::front::{BLOCK_BYTES, REPLY_WORDS};
 use std::collections::hash_map::DefaultHasher;
 use std::collections::{BTreeMap, HashSet};
 use std::hash::{Hash, Hasher};
@@ -23,7 +23,7 @@ fn audits_agree() {
         let reply = 8 * REPLY_WORDS + images % 17;
         for blocks in lent_bytes(images) {
             let number = pair.agree(&name, case.image, blocks, reply);
-            reached.entry(blocks / 16).or_default()[number as usize] += 1;
+            reached.entry(blocks / BLOCK_BYTES).or_default()[number as usize] += 1;
         }
         different.insert(sum(case.image));
         images += 1;
@@ -32,6 +32,8 @@ fn audits_agree() {
     // Some damage leaves a file as it was.
     assert!(images as u64 >= wanted && different.len() as u64 >= wanted / 10 * 9);
     rooms_and_answers_are_complete(images as u64, &reached);
+    let meetings = pair.meetings(Call::Audit);
+    meetings.are_at_least("audits", [8000, 500, 1500, 100]);
 }
 
 fn sum(image: &[u8]) -> u64 {
@@ -69,28 +71,25 @@ fn rooms_and_answers_are_complete(images: u64, reached: &Reached) {
 fn audits_agree_at_the_limits() {
     let mut pair = Pair::default();
     for (name, image) in limits::all() {
-        for pairs in [0, 1, 500, 1022, 1023, 1024, 1025, 3000] {
-            let number = pair.agree(name, &image, 16 * pairs + pairs % 16, 8 * REPLY_WORDS);
-            assert_eq!(number, if pairs < 1024 { 13 } else { 0 }, "{name}");
+        for room in [0, 1, 500, 1022, 1023, 1024, 1025, 3000] {
+            let blocks = BLOCK_BYTES * room + room % BLOCK_BYTES;
+            let number = pair.agree(name, &image, blocks, 8 * REPLY_WORDS);
+            assert_eq!(number, if room < 1024 { 13 } else { 0 }, "{name}");
         }
         let mut short = image;
         short.truncate(1_048_575);
-        pair.agree(name, &short, 16 * 1024, 8 * REPLY_WORDS);
+        pair.agree(name, &short, BLOCK_BYTES * 1024, 8 * REPLY_WORDS);
     }
     for special in special::all() {
-        for pairs in [1023, 1024, 1025, 1100] {
-            let number = pair.agree(
-                &special.name,
-                &special.sheet.bytes,
-                16 * pairs,
-                8 * REPLY_WORDS,
-            );
-            assert!(pairs < 1024 || number == special.number, "{}", special.name);
+        for room in [1023, 1024, 1025, 1100] {
+            let (name, image) = (&special.name, &special.sheet.bytes);
+            let number = pair.agree(name, image, BLOCK_BYTES * room, 8 * REPLY_WORDS);
+            assert!(room < 1024 || number == special.number, "{name}");
         }
     }
 }
 
-/// Faults in attributes and shared parts, alone and in pairs.
+/// Faults in attributes and shared parts, alone and two at a time.
 #[test]
 fn sharings_agree() {
     let mut pair = Pair::default();
@@ -100,7 +99,7 @@ fn sharings_agree() {
         for blocks in lent_bytes(turn) {
             let number = pair.agree(&file.name, image, blocks, 8 * REPLY_WORDS);
             reached[number as usize] += 1;
-            let full = blocks >= 16 * 1024;
+            let full = blocks >= BLOCK_BYTES * 1024;
             assert!(!full || number == file.number, "{}: {number}", file.name);
         }
     }
@@ -114,13 +113,18 @@ fn sharings_agree() {
 fn short_replies_give_13_first() {
     let mut pair = Pair::default();
     let sound = small::h().bytes;
+    let meeting = small::h().with("heap segment", 0, 130).bytes;
     let too_short = vec![0; 95];
     for reply in [0, 1, 7, 8, 24, 769 * 8, 770 * 8 - 1, 770 * 8, 770 * 8 + 9] {
-        for blocks in [0, 5, 16 * 8, 16 * 8 + 3] {
+        for blocks in [0, 5, BLOCK_BYTES * 8, BLOCK_BYTES * 8 + 3] {
+            let enough = reply >= 770 * 8;
             let number = pair.agree("H", &sound, blocks, reply);
-            assert_eq!(number == 0, reply >= 770 * 8 && blocks >= 16 * 8);
+            assert_eq!(number == 0, enough && blocks >= BLOCK_BYTES * 8);
+            let number = pair.agree("H, segment at 130", &meeting, blocks, reply);
+            assert_eq!(number == 6, enough && blocks >= BLOCK_BYTES * 8);
+            assert!(pair.left().is_refused(number));
             let number = pair.agree("95 bytes", &too_short, blocks, reply);
-            assert_eq!(number, if reply >= 770 * 8 { 1 } else { 13 });
+            assert_eq!(number, if enough { 1 } else { 13 });
         }
     }
     pair.agree("no image", &[], 160, 770 * 8);

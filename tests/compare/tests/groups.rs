@@ -11,7 +11,7 @@ use compare::generate::special::{link, root};
 use compare::generate::superblock::Superblock;
 use compare::generate::write::write;
 use compare::generate::UNDEFINED;
-use compare::reader::front::REPLY_WORDS;
+use compare::reader::front::{BLOCK_BYTES, REPLY_WORDS};
 
 /// Room for every block that an audit may enter.
 const FULL: usize = 1024;
@@ -19,8 +19,7 @@ const FULL: usize = 1024;
 struct Case {
     name: String,
     sheet: Sheet,
-    /// So many pairs are lent.
-    pairs: usize,
+    room: usize,
     number: u32,
 }
 
@@ -28,11 +27,11 @@ fn case(name: impl Into<String>, sheet: Sheet, number: u32) -> Case {
     case_at(name, sheet, FULL, number)
 }
 
-fn case_at(name: impl Into<String>, sheet: Sheet, pairs: usize, number: u32) -> Case {
+fn case_at(name: impl Into<String>, sheet: Sheet, room: usize, number: u32) -> Case {
     Case {
         name: name.into(),
         sheet,
-        pairs,
+        room,
         number,
     }
 }
@@ -687,12 +686,12 @@ fn objects() -> Vec<Case> {
 fn rooms() -> Vec<Case> {
     let h = small::h();
     let mut all = Vec::new();
-    for pairs in 0..8 {
-        all.push(case_at(format!("H, {pairs} pairs"), h.clone(), pairs, 13));
+    for room in 0..8 {
+        all.push(case_at(format!("H, room {room}"), h.clone(), room, 13));
     }
-    all.push(case_at("H, 8 pairs", h.clone(), 8, 0));
+    all.push(case_at("H, room 8", h.clone(), 8, 0));
     // A full list: the next block is outside (5), meets another (6) or finds no room (13), and is read only then.
-    for (field, pairs) in [
+    for (field, room) in [
         ("table heap", 2),
         ("heap segment", 3),
         ("table tree", 4),
@@ -700,11 +699,11 @@ fn rooms() -> Vec<Case> {
         ("entry address", 6),
     ] {
         for (place, number) in [(9000, 5), (ROOT + 4, 6)] {
-            let name = format!("H, {pairs} pairs, {field} {place}");
-            all.push(case_at(name, h.with(field, 0, place), pairs, number));
+            let name = format!("H, room {room}, {field} {place}");
+            all.push(case_at(name, h.with(field, 0, place), room, number));
         }
     }
-    for (field, pairs) in [
+    for (field, room) in [
         ("heap signature", 2),
         ("free size", 3),
         ("tree signature", 4),
@@ -712,10 +711,10 @@ fn rooms() -> Vec<Case> {
     ] {
         let wrong = h.with(field, 0, 0);
         let number = if field == "free size" { 9 } else { 7 };
-        let short = format!("H, {pairs} pairs, {field} 0");
-        all.push(case_at(short, wrong.clone(), pairs, 13));
-        let enough = format!("H, {} pairs, {field} 0", pairs + 1);
-        all.push(case_at(enough, wrong, pairs + 1, number));
+        let short = format!("H, room {room}, {field} 0");
+        all.push(case_at(short, wrong.clone(), room, 13));
+        let enough = format!("H, room {}, {field} 0", room + 1);
+        all.push(case_at(enough, wrong, room + 1, number));
     }
     all
 }
@@ -756,7 +755,7 @@ fn named_groups_have_their_answers() {
         for lent in lent_bytes(turn) {
             pair.agree(name, image, lent, 8 * REPLY_WORDS);
         }
-        let number = pair.agree(name, image, 16 * case.pairs, 8 * REPLY_WORDS);
+        let number = pair.agree(name, image, BLOCK_BYTES * case.room, 8 * REPLY_WORDS);
         if number != case.number {
             wrong.push(format!("{name}: {number}, not {}", case.number));
         }

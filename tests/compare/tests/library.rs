@@ -2,13 +2,14 @@
 //! `tests/library/manifest.txt`: what an audit is to answer, and what the HDF5 library itself reports about each
 //! object. `tests/library/README.md` describes the lines.
 
+use compare::owners::{check_described, check_owners};
 use compare::reader::{audit, describe, lookup, mend, AuditReply, Description, Object};
 use std::collections::{BTreeSet, HashMap};
 use std::fs;
 use std::path::{Path, PathBuf};
 
 /// Room for every block that an audit may enter.
-const WORDS: usize = 2048;
+const WORDS: usize = 4096;
 
 /// The lines of one file, each split into its word and its fields.
 struct Recorded {
@@ -166,7 +167,7 @@ fn answer_is_recorded(file: &Recorded, reply: &AuditReply) {
         "{name}"
     );
     if reply.number == 0 {
-        let entered = reply.list[..2 * reply.block_count as usize].iter();
+        let entered = reply.list[..4 * reply.block_count as usize].iter();
         let blocks = sum(entered.flat_map(|word| word.to_le_bytes()));
         assert_eq!(blocks, file.one("blocks")[0], "{name}");
     }
@@ -294,6 +295,68 @@ fn every_count_is_restored(mut mended: impl FnMut(&str, &[u8]) -> Vec<u8>) {
     assert!(restored > 50, "{restored} files");
 }
 
+#[test]
+fn blocks_are_those_of_their_objects() {
+    let described = |_: &str, image: &[u8], path: &[u8]| describe(image, path, WORDS).list;
+    blocks_have_their_owners(|_, image| audit(image, WORDS), described);
+}
+
+/// Every file that an audit passes: the blocks of each object are those that a walk of it alone enters, and of the kinds that the
+/// library's report asks for; a description of each dataset leaves the same blocks.
+fn blocks_have_their_owners(
+    mut audited: impl FnMut(&str, &[u8]) -> AuditReply,
+    mut described: impl FnMut(&str, &[u8], &[u8]) -> Vec<u64>,
+) {
+    let (mut files, mut descriptions) = (0, 0);
+    for file in manifest() {
+        let image = file.image();
+        let reply = audited(&file.name, &image);
+        if reply.number != 0 {
+            continue;
+        }
+        check_owners(&file.name, &image, &reply);
+        kinds_are_reported(&file, &reply);
+        for dataset in datasets(&file) {
+            for name in &dataset.names {
+                let list = described(&file.name, &image, &path(name));
+                check_described(&file.name, &list, &reply, dataset.address);
+                descriptions += 1;
+            }
+        }
+        files += 1;
+    }
+    assert!(files > 50 && descriptions > 500);
+}
+
+/// Each object has as many header blocks as the library counts. A group has one heap, one segment and a tree besides; a
+/// dataset its contiguous data where the library has it; a committed datatype nothing.
+fn kinds_are_reported(file: &Recorded, reply: &AuditReply) {
+    let fours = reply.list.chunks_exact(4);
+    let blocks: Vec<&[u64]> = fours.take(reply.block_count as usize).collect();
+    let datasets = datasets(file);
+    for (number, object) in file.all("object").enumerate() {
+        let title = format!("{}, object {number}", file.name);
+        let object = numbers_of(object);
+        let owned = blocks.iter().filter(|block| block[3] == number as u64);
+        let of = |kind| owned.clone().filter(move |block| block[2] == kind);
+        let times = [1, 2, 3, 4, 5, 6, 7, 8].map(|kind| of(kind).count() as u64);
+        let [superblocks, headers, continuations, heaps, segments, nodes, symbols, data] = times;
+        assert_eq!((superblocks, headers), (0, 1), "{title}");
+        assert_eq!(headers + continuations, object[5], "{title}");
+        let is_group = u64::from(object[1] == 1);
+        assert_eq!((heaps, segments), (is_group, is_group), "{title}");
+        assert_eq!(u64::from(nodes > 0), is_group, "{title}");
+        assert!(symbols == 0 || is_group == 1, "{title}");
+        let dataset = datasets.iter().find(|dataset| dataset.address == object[0]);
+        let stored = dataset.and_then(Dataset::contiguous);
+        assert_eq!(data, u64::from(stored.is_some()), "{title}");
+        assert!(
+            of(8).map(|block| (block[0], block[1])).eq(stored),
+            "{title}"
+        );
+    }
+}
+
 /// A lookup's number, kind and address.
 type Answer = (u32, u64, u64);
 
@@ -357,6 +420,16 @@ struct Dataset<'a> {
     /// Class, offset, storage size.
     layout: Vec<u64>,
     data: Option<&'a str>,
+}
+
+impl Dataset<'_> {
+    /// Address and size of contiguous data that is stored.
+    fn contiguous(&self) -> Option<(u64, u64)> {
+        let [class, offset, size] = self.layout[..] else {
+            panic!("{}: no layout", self.address);
+        };
+        (class == 1 && offset != u64::MAX && size > 0).then_some((offset, size))
+    }
 }
 
 /// The datasets of a file whose dataspace has elements or could have.
@@ -493,56 +566,39 @@ fn description_is_recorded(title: &str, file: &Recorded, address: u64, found: &D
 #[cfg(feature = "proved")]
 mod proved {
     use super::*;
-    use compare::agree::{lent_bytes, Lent, Pair};
-    use compare::reader::front::{DESCRIBE_WORDS, LOOKUP_WORDS, MEND_WORDS, REPLY_WORDS};
-
-    fn words(bytes: &[u8]) -> Vec<u64> {
-        bytes
-            .chunks_exact(8)
-            .map(|word| u64::from_le_bytes(word.try_into().expect("8 bytes")))
-            .collect()
-    }
+    use compare::agree::{lent_bytes, words, Pair};
+    use compare::reader::front::{
+        BLOCK_BYTES, DESCRIBE_WORDS, LOOKUP_WORDS, MEND_WORDS, REPLY_WORDS,
+    };
 
     fn count(word: u64) -> u32 {
         word.try_into().expect("a count of 32 bits")
     }
 
-    /// A reply of the C front end as the checks take it.
-    fn decoded(number: u32, left: &Lent) -> AuditReply {
-        let reply = words(&left.reply);
-        let objects = reply[2..]
-            .chunks_exact(3)
-            .take(reply[1] as usize)
-            .map(|words| Object {
-                address: words[0],
-                stored: count(words[1]),
-                true_count: count(words[2]),
-            });
-        AuditReply {
-            number,
-            block_count: reply[0],
-            objects: objects.collect(),
-            list: words(&left.blocks),
-        }
-    }
-
-    /// The proved audit at full room, after a comparison with the separate reader.
-    fn proved(pair: &mut Pair, name: &str, image: &[u8]) -> AuditReply {
-        let number = pair.agree(name, image, 8 * WORDS, 8 * REPLY_WORDS);
-        decoded(number, pair.left())
-    }
-
     #[test]
     fn proved_audits_answer_as_recorded() {
         let mut pair = Pair::default();
-        answers_are_recorded(|name, image| proved(&mut pair, name, image));
+        answers_are_recorded(|name, image| pair.audit(name, image));
     }
 
     #[test]
     fn proved_objects_and_links_are_the_library_s() {
         let mut pair = Pair::default();
-        let paths = objects_are_reported(|name, image| proved(&mut pair, name, image));
+        let paths = objects_are_reported(|name, image| pair.audit(name, image));
         assert!(paths > 1000, "{paths} paths");
+    }
+
+    #[test]
+    fn proved_blocks_are_those_of_their_objects() {
+        let mut pair = Pair::default();
+        let mut others = Pair::default();
+        let described = |name: &str, image: &[u8], path: &[u8]| {
+            let lent = (8 * WORDS, 8 * DESCRIBE_WORDS);
+            let number = others.descriptions_agree(name, image, path, lent.0, lent.1);
+            assert_eq!(number, 0, "{name}");
+            words(&others.left().blocks)
+        };
+        blocks_have_their_owners(|name, image| pair.audit(name, image), described);
     }
 
     #[test]
@@ -563,10 +619,10 @@ mod proved {
             let image = file.image();
             let recorded = numbers_of(file.one("answer"));
             let (answer, blocks) = (recorded[0], recorded[2] as usize);
-            let around = [blocks.saturating_sub(1), blocks].map(|pairs| 16 * pairs);
+            let around = [blocks.saturating_sub(1), blocks].map(|room| BLOCK_BYTES * room);
             for lent in lent_bytes(turn).chain(around) {
                 let number = pair.agree(&file.name, &image, lent, 8 * REPLY_WORDS + turn);
-                let passed = answer == 0 && lent / 16 >= blocks;
+                let passed = answer == 0 && lent / BLOCK_BYTES >= blocks;
                 assert_eq!(number == 0, passed, "{}, {lent} bytes", file.name);
                 assert!(answer != 0 || passed || number == 13, "{}", file.name);
             }

@@ -1,18 +1,18 @@
 //! Lookups and descriptions of the proved library against the separate reader: the number and every byte lent.
 
-use compare::agree::{lent_bytes, Pair};
+use compare::agree::{lent_bytes, Call, Pair};
 use compare::generate::corpus::{cases, each};
 use compare::generate::paths::{self, malformed, well_formed};
 use compare::generate::random::Random;
 use compare::generate::write::write;
 use compare::generate::{asked, files, limits, small, special};
-use compare::reader::front::{DESCRIBE_WORDS, LOOKUP_WORDS};
+use compare::reader::front::{BLOCK_BYTES, DESCRIBE_WORDS, LOOKUP_WORDS};
 use std::collections::hash_map::DefaultHasher;
 use std::collections::{BTreeMap, HashSet};
 use std::hash::{Hash, Hasher};
 
 /// Room for every block that a walk may enter.
-const FULL: usize = 16 * 1024;
+const FULL: usize = BLOCK_BYTES * 1024;
 
 /// How often each answer was given.
 type Times = [u64; 21];
@@ -39,14 +39,15 @@ impl Comparison {
         let more = self.turn % 17;
         let reply = 8 * LOOKUP_WORDS + more;
         let found = self.pair.lookups_agree(name, image, path, blocks, reply);
-        let [kind, address] = [1, 2].map(|word| self.word(word));
-        assert!(found == 0 || self.pair.left().is_clear(), "{name}");
+        let [kind, address] = [1, 2].map(|word| self.pair.left().word(word));
+        assert!(found == 0 || self.pair.left().is_refused(found), "{name}");
         let reply = 8 * DESCRIBE_WORDS + more;
         let described = self
             .pair
             .descriptions_agree(name, image, path, blocks, reply);
-        assert!(described == 0 || self.pair.left().is_clear(), "{name}");
-        let times = self.reached.entry(blocks / 16).or_default();
+        let left = self.pair.left();
+        assert!(described == 0 || left.is_refused(described), "{name}");
+        let times = self.reached.entry(blocks / BLOCK_BYTES).or_default();
         times[0][found as usize] += 1;
         times[1][described as usize] += 1;
         ((found, kind as u32, address), described)
@@ -57,11 +58,6 @@ impl Comparison {
         for blocks in lent_bytes(self.turn) {
             self.ask(name, image, path, blocks);
         }
-    }
-
-    fn word(&self, number: usize) -> u64 {
-        let bytes = &self.pair.left().reply[8 * number..8 * number + 8];
-        u64::from_le_bytes(bytes.try_into().expect("8 bytes"))
     }
 
     fn times(&self, call: usize, answer: usize) -> u64 {
@@ -167,6 +163,11 @@ fn damaged_images_agree() {
     assert!(images as u64 >= wanted && different.len() as u64 >= wanted / 10 * 9);
     comparison.every_room_is_lent();
     comparison.every_answer_is_reached();
+    let least = [7500, 150, 1500, 60];
+    let pair = &comparison.pair;
+    pair.meetings(Call::Lookup).are_at_least("lookups", least);
+    let meetings = pair.meetings(Call::Description);
+    meetings.are_at_least("descriptions", least);
 }
 
 fn sum(image: &[u8]) -> u64 {
@@ -199,14 +200,10 @@ fn special_files_agree() {
 fn lookups_by_name_have_their_answers() {
     let mut comparison = Comparison::default();
     for asked in asked::all() {
-        let blocks = 16 * asked.pairs + asked.pairs % 16;
-        let answers = comparison.ask(&asked.name, &asked.image, &asked.path, blocks);
-        let title = format!(
-            "{}, {}, {} pairs",
-            asked.name,
-            asked.path.escape_ascii(),
-            asked.pairs
-        );
+        let blocks = BLOCK_BYTES * asked.lent + asked.lent % BLOCK_BYTES;
+        let (name, path) = (&asked.name, &asked.path);
+        let answers = comparison.ask(name, &asked.image, path, blocks);
+        let title = format!("{name}, {}, {blocks} bytes", path.escape_ascii());
         assert_eq!(answers, (asked.lookup, asked.description), "{title}");
     }
     comparison.print();
@@ -269,9 +266,11 @@ fn every_byte_in_a_component() {
 fn short_replies_give_13_first() {
     let mut pair = Pair::default();
     let sound = small::h().bytes;
+    let meeting = small::h().with("heap segment", 0, 130).bytes;
     let short = vec![0; 95];
-    let asked: [(&[u8], &[u8], u32); 5] = [
+    let asked: [(&[u8], &[u8], u32); 6] = [
         (&sound, b"/a", 0),
+        (&meeting, b"/a", 6),
         (&sound, b"/c", 15),
         (&sound, b"/a/", 14),
         (&short, b"/a", 1),
@@ -279,14 +278,14 @@ fn short_replies_give_13_first() {
     ];
     let (least, most) = (8 * LOOKUP_WORDS, 8 * DESCRIBE_WORDS);
     for (image, path, number) in asked {
-        for blocks in [16 * 6, 16 * 6 + 3, 16 * 1024] {
+        for blocks in [BLOCK_BYTES * 6, BLOCK_BYTES * 6 + 3, FULL] {
             for reply in (0..40).chain(most - 17..most + 17).chain([770 * 8]) {
                 let found = pair.lookups_agree("short reply", image, path, blocks, reply);
                 assert_eq!(found, if reply < least { 13 } else { number });
-                assert!(found == 0 || pair.left().is_clear());
+                assert!(found == 0 || pair.left().is_refused(found));
                 let described = pair.descriptions_agree("short reply", image, path, blocks, reply);
                 assert_eq!(described, if reply < most { 13 } else { number });
-                assert!(described == 0 || pair.left().is_clear());
+                assert!(described == 0 || pair.left().is_refused(described));
             }
         }
     }
@@ -308,9 +307,10 @@ fn lookups_agree_at_the_limits() {
         b"/dataset 255",
     ];
     for (name, image) in limits::all() {
-        for pairs in [0, 1, 2, 3, 500, 1022, 1023, 1024, 1025, 3000] {
+        for room in [0, 1, 2, 3, 500, 1022, 1023, 1024, 1025, 3000] {
+            let blocks = BLOCK_BYTES * room + room % BLOCK_BYTES;
             for path in paths {
-                comparison.ask(name, &image, path, 16 * pairs + pairs % 16);
+                comparison.ask(name, &image, path, blocks);
             }
         }
     }

@@ -1,7 +1,7 @@
 //! Mending and undo of the proved library against the separate reader: the number and every byte lent, those of the
 //! image too. What each has to do is also told from the library's audit.
 
-use compare::agree::{lent_bytes, Pair};
+use compare::agree::{lent_bytes, words, Call, Pair};
 use compare::generate::corpus::{cases, each};
 use compare::generate::paths;
 use compare::generate::random::Random;
@@ -9,13 +9,14 @@ use compare::generate::sheet::{set, Sheet};
 use compare::generate::small::{self, DATASET, ROOT};
 use compare::generate::write::write;
 use compare::generate::{files, limits};
-use compare::reader::front::{DESCRIBE_WORDS, LOOKUP_WORDS, MEND_WORDS, REPLY_WORDS, UNDO_WORDS};
+use compare::reader::front::{BLOCK_BYTES, DESCRIBE_WORDS, LOOKUP_WORDS};
+use compare::reader::front::{MEND_WORDS, REPLY_WORDS, UNDO_WORDS};
 use std::collections::hash_map::DefaultHasher;
 use std::collections::{BTreeMap, HashSet};
 use std::hash::{Hash, Hasher};
 
 /// Room for every block that a walk may enter.
-const FULL: usize = 16 * 1024;
+const FULL: usize = BLOCK_BYTES * 1024;
 
 /// A log for every object that an audit may find.
 const LOG: usize = 8 * 512;
@@ -43,10 +44,12 @@ impl Wrong {
 /// An audit's answer and the list that it leaves.
 struct Audit {
     number: u32,
+    /// With 6 the address of the block met.
+    met: u64,
     block_count: u64,
     blocks: Vec<u8>,
     /// Address and true count of each object.
-    objects: Vec<(u64, u64)>,
+    objects: Vec<(u64, u32)>,
     wrong: Vec<Wrong>,
 }
 
@@ -67,21 +70,26 @@ impl Comparison {
     fn audit(&mut self, name: &str, image: &[u8], blocks: usize) -> Audit {
         let number = self.pair.agree(name, image, blocks, 8 * REPLY_WORDS);
         let left = self.pair.left();
-        let reply = words(&left.reply);
-        let objects = reply[2..].chunks_exact(3).take(reply[1] as usize);
-        let wrong = objects.clone().filter(|object| object[1] != object[2]);
+        let first = left.word(0);
+        let objects = left.objects();
         Audit {
             number,
-            block_count: reply[0],
+            met: if number == 6 { first } else { 0 },
+            block_count: if number == 0 { first } else { 0 },
             blocks: left.blocks.clone(),
-            wrong: wrong
+            wrong: objects
+                .iter()
                 .map(|object| Wrong {
-                    field: object[0] + 4,
-                    old: object[1] as u32,
-                    new: object[2] as u32,
+                    field: object.address + 4,
+                    old: object.stored,
+                    new: object.true_count,
                 })
+                .filter(|wrong| wrong.old != wrong.new)
                 .collect(),
-            objects: objects.map(|object| (object[0], object[2])).collect(),
+            objects: objects
+                .iter()
+                .map(|object| (object.address, object.true_count))
+                .collect(),
         }
     }
 
@@ -92,14 +100,15 @@ impl Comparison {
         let blocks = audit.blocks.len();
         let lent = (blocks, log, 8 * MEND_WORDS + self.turn % 17);
         let number = self.pair.mends_agree(name, image, lent, limit);
-        self.mends.entry(blocks / 16).or_default()[number as usize] += 1;
+        self.mends.entry(blocks / BLOCK_BYTES).or_default()[number as usize] += 1;
         let entries = audit.wrong.len();
         let too_short = audit.number == 0 && log / 8 < 2 * entries;
         let expected = if too_short { 18 } else { audit.number };
         assert_eq!(number, expected, "{name}, limit {limit}, log {log}");
         let left = self.pair.left();
         if number != 0 {
-            assert!(left.is_clear() && left.image == image, "{name}");
+            assert!(left.is_refused(number) && left.image == image, "{name}");
+            assert!(left.reply == bytes(&[audit.met], lent.2), "{name}, met");
             return number;
         }
         let writes = limit.min(entries as u64);
@@ -123,7 +132,7 @@ impl Comparison {
             let writes = call.0.min(call.1);
             assert!(left.reply == bytes(&[writes], reply), "{name}, reply");
         } else {
-            assert!(left.is_clear() && left.image == image, "{name}");
+            assert!(left.is_refused(number) && left.image == image, "{name}");
         }
         number
     }
@@ -259,7 +268,7 @@ impl Comparison {
             self.undo_mended(name, &mut now, &log, &audit.wrong, (taken, limit));
             self.audit_as_before(name, audit, &now);
             let path = random.below(paths.len() as u64) as usize;
-            let blocks = 16 * random.between(4, 20) as usize;
+            let blocks = BLOCK_BYTES * random.between(4, 20) as usize;
             self.paths_as_before(name, [image, &now], [&paths[path]], blocks);
         }
         let limit = random.pick(&[entries, entries + 1, 1 << 32, u64::MAX]);
@@ -372,13 +381,6 @@ impl Comparison {
     }
 }
 
-fn words(bytes: &[u8]) -> Vec<u64> {
-    bytes
-        .chunks_exact(8)
-        .map(|word| u64::from_le_bytes(word.try_into().expect("8 bytes")))
-        .collect()
-}
-
 /// So many bytes, these words first and then zeros.
 fn bytes(words: &[u64], length: usize) -> Vec<u8> {
     let mut bytes: Vec<u8> = words.iter().flat_map(|word| word.to_le_bytes()).collect();
@@ -439,7 +441,7 @@ fn miscount(image: &mut [u8], sheet: &Sheet, random: &mut Random) {
 fn miscount_all(image: &mut [u8], audit: &Audit) {
     for (number, (address, true_count)) in (1..).zip(&audit.objects) {
         let at = *address as usize + 4;
-        let count = (*true_count as u32).wrapping_sub(number);
+        let count = true_count.wrapping_sub(number);
         image[at..at + 4].copy_from_slice(&count.to_le_bytes());
     }
 }
@@ -456,7 +458,7 @@ fn h_with_stored_1() {
     let mut comparison = Comparison::default();
     let image = small::h_with(&[(b"a", DATASET), (b"b", DATASET)], 1, 1).bytes;
     let mended = small::h().bytes;
-    let audit = comparison.audit("H", &image, 16 * 8);
+    let audit = comparison.audit("H", &image, BLOCK_BYTES * 8);
     assert_eq!(comparison.mend("H", &image, &audit, 16, 1), 0);
     let left = comparison.pair.left().clone();
     assert_eq!(words(&left.log), [1132, 4_294_967_298]);
@@ -469,7 +471,7 @@ fn h_with_stored_1() {
     assert_eq!(comparison.mend("H", &image, &audit, 15, 1), 18);
     assert_eq!(comparison.mend("H", &image, &audit, 16, 0), 0);
     assert!(comparison.pair.left().image == image);
-    let audit = comparison.audit("H", &image, 16 * 7);
+    let audit = comparison.audit("H", &image, BLOCK_BYTES * 7);
     assert_eq!(comparison.mend("H", &image, &audit, 0, 1), 13);
 }
 
@@ -478,7 +480,7 @@ fn h_with_stored_1() {
 fn c_with_stored_1() {
     let mut comparison = Comparison::default();
     let image = small::c().bytes;
-    let audit = comparison.audit("C", &image, 16 * 8);
+    let audit = comparison.audit("C", &image, BLOCK_BYTES * 8);
     assert_eq!(comparison.mend("C", &image, &audit, 16, 1), 0);
     let left = comparison.pair.left().clone();
     assert_eq!(words(&left.log), [1260, 4_294_967_299]);
@@ -601,6 +603,8 @@ fn damaged_images_agree() {
     comparison.every_room_is_lent();
     let mends: Vec<usize> = (0..14).chain([18]).collect();
     comparison.answers_are(&mends, &[0, 1, 18, 19]);
+    let meetings = comparison.pair.meetings(Call::Mend);
+    meetings.are_at_least("mends", [10_000, 100, 2000, 200]);
 }
 
 /// Logs with each entry damaged, over images with none, some and all of the counts mended.
@@ -695,6 +699,7 @@ fn short_replies_give_13_first() {
     let wrong = small::h_with(&[(b"a", DATASET), (b"b", DATASET)], 7, 1).bytes;
     let short = vec![0; 95];
     let unsound = vec![0; 96];
+    let meeting = small::h().with("heap segment", 0, 130).bytes;
     let entry = Wrong {
         field: DATASET + 4,
         old: 1,
@@ -709,8 +714,13 @@ fn short_replies_give_13_first() {
             (&short, 32, 1),
             (&short, 0, 1),
             (&unsound, 9, 2),
+            (&meeting, 9, 6),
         ] {
-            for (blocks, full) in [(16 * 7, false), (16 * 8 + 3, true), (FULL, true)] {
+            for (blocks, full) in [
+                (BLOCK_BYTES * 7, false),
+                (BLOCK_BYTES * 8 + 3, true),
+                (FULL, true),
+            ] {
                 for limit in [0, 1, u64::MAX] {
                     let lent = (blocks, bytes, reply);
                     let answer = pair.mends_agree("short reply", image, lent, limit);
@@ -721,7 +731,7 @@ fn short_replies_give_13_first() {
                     };
                     assert_eq!(answer, expected, "{reply} bytes");
                     let left = pair.left();
-                    assert!(answer == 0 || left.is_clear() && left.image == **image);
+                    assert!(answer == 0 || left.is_refused(answer) && left.image == **image);
                 }
             }
         }
@@ -739,7 +749,7 @@ fn short_replies_give_13_first() {
                 let answer = pair.undos_agree("short reply", image, &log, reply, (taken, limit));
                 assert_eq!(answer, if reply < 8 { 13 } else { number });
                 let left = pair.left();
-                assert!(answer == 0 || left.is_clear() && left.image == **image);
+                assert!(answer == 0 || left.is_refused(answer) && left.image == **image);
                 comparison.undos[answer as usize] += 1;
             }
         }
@@ -826,8 +836,9 @@ fn mends_agree_at_the_limits() {
             let mended = comparison.pair.left().image.clone();
             comparison.audit_as_before(name, &audit, &mended);
         }
-        for pairs in [1023, 1024, 1025, 3000] {
-            let at_room = comparison.audit(name, &image, 16 * pairs + pairs % 16);
+        for room in [1023, 1024, 1025, 3000] {
+            let blocks = BLOCK_BYTES * room + room % BLOCK_BYTES;
+            let at_room = comparison.audit(name, &image, blocks);
             comparison.mend(name, &image, &at_room, LOG, 3);
         }
         let paths = [b"/".to_vec(), b"/00001".to_vec(), b"/absent".to_vec()];

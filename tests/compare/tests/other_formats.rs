@@ -108,7 +108,7 @@ fn text(length: usize) -> Vec<u8> {
 
 /// Each call's answer. Every slice lent for writing holds zeros after it, and the image is as it was.
 fn answers(image: &[u8]) -> Vec<(&'static str, u32)> {
-    let (mut blocks, mut log, mut reply) = (vec![7; 16_384], vec![7; 4_096], vec![7; 6_160]);
+    let (mut blocks, mut log, mut reply) = (vec![7; 32_768], vec![7; 4_096], vec![7; 6_160]);
     let mut found = Vec::new();
     let mut note = |call, answer, slices: [&mut [u8]; 2]| {
         for slice in slices {

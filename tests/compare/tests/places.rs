@@ -1,9 +1,10 @@
-//! Where a walk of the separate reader stops: the place of a fault, or the block that can't be entered. No reply says it.
+//! Where a walk of the separate reader stops: the place of a fault, or the block that can't be entered. A reply says only which
+//! block is met with 6.
 
 use compare::generate::small::{self, C_COMMITTED};
 use compare::reader::{audit_stop, lookup_stop, Part, Stop};
 
-const FULL: usize = 2048;
+const FULL: usize = 4096;
 
 /// The answer and the place.
 fn fault(stop: Option<Stop>) -> Option<(u32, u64)> {
@@ -94,7 +95,7 @@ fn blocks_in_h() {
     assert_eq!(block(&[(1203, 3)], FULL), (6, Part::Data, 968, 4, 800));
     let data = (6, Part::Data, 799, 4, 712);
     assert_eq!(block(&[(1202, 31), (1203, 3)], FULL), data);
-    assert_eq!(block(&[], 14), (13, Part::Data, 1224, 4, 0));
+    assert_eq!(block(&[], 31), (13, Part::Data, 1224, 4, 0));
 }
 
 #[test]

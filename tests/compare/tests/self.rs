@@ -7,14 +7,16 @@ use compare::generate::plan::{Content, Plan, Target};
 use compare::generate::random::Random;
 use compare::generate::write::{write, File};
 use compare::generate::{files, limits};
-use compare::reader::{audit, describe, lookup, mend, undo, AuditReply};
-use std::ops::Range;
+use compare::plain::{self, Meetings};
+use compare::reader::{audit, audit_stop, describe, lookup, mend, undo, AuditReply, Stop};
 
-const FULL: usize = 2048;
+/// Room for every block that a walk may enter.
+const FULL: usize = 4096;
 
 #[test]
 fn every_answer_is_reached_and_sound() {
     let mut reached = [0u64; 21];
+    let mut meetings = Meetings::default();
     let mut images = 0;
     each(cases(40_000), |case| {
         let (name, image) = (case.file, case.image);
@@ -28,15 +30,21 @@ fn every_answer_is_reached_and_sound() {
                 full,
                 AuditReply {
                     number: full.number,
+                    met: full.met,
                     list: vec![0; FULL],
                     ..AuditReply::default()
                 }
             );
         }
-        for pairs in 0..=12 {
-            let small = audit(image, 2 * pairs + pairs % 2);
+        let reply = (full.number, full.met);
+        meetings.check(&name, reply, || plain::audit(image));
+        if full.number == 6 {
+            check_refused(name, image);
+        }
+        for room in 0..=12 {
+            let small = audit(image, 4 * room + room % 4);
             reached[small.number as usize] += 1;
-            check_room(name, pairs as u64, &full, &small);
+            check_room(name, room as u64, &full, &small);
         }
     });
     println!("{images} images; answers reached:");
@@ -45,20 +53,63 @@ fn every_answer_is_reached_and_sound() {
     }
     assert!(reached[..14].iter().all(|times| *times > 0));
     assert!(reached[14..].iter().all(|times| *times == 0));
+    meetings.are_at_least("audits", [1500, 500, 350, 60]);
+}
+
+/// The refused block is the one that meets others in the plain walk.
+fn check_refused(name: &str, image: &[u8]) {
+    let block = plain::audit(image).err().map(|meeting| meeting.block);
+    let Some(Stop::NotEntered {
+        part,
+        address,
+        length,
+        ..
+    }) = audit_stop(image, FULL)
+    else {
+        panic!("{name}: no block is refused");
+    };
+    let refused = block.expect("a block that meets others");
+    assert_eq!([address, length, part as u64], refused[..3], "{name}");
 }
 
 /// Less room gives 13 where the full walk needs more blocks, else the same.
-fn check_room(name: &str, pairs: u64, full: &AuditReply, small: &AuditReply) {
-    if full.number == 0 && full.block_count <= pairs {
+fn check_room(name: &str, room: u64, full: &AuditReply, small: &AuditReply) {
+    if full.number == 0 && full.block_count <= room {
         assert_eq!(small.objects, full.objects, "{name}");
         assert_eq!(small.number, 0, "{name}");
-        assert_eq!(
-            small.list[..2 * pairs as usize],
-            full.list[..2 * pairs as usize]
-        );
+        assert_eq!(small.list, full.list[..small.list.len()], "{name}");
     } else {
-        let same = full.number != 0 && small.number == full.number;
-        assert!(small.number == 13 || same, "{name}");
+        let full = (full.number, full.met);
+        let same = full.0 != 0 && (small.number, small.met) == full;
+        assert!(same || (small.number, small.met) == (13, 0), "{name}");
+    }
+}
+
+/// The list and the objects are those of the plain walk, in which no two blocks share a byte. All blocks are inside, and true
+/// counts sum to the hard links, the sharings and one.
+fn check_passed(name: &str, image: &[u8], reply: &AuditReply) {
+    let Ok(plain) = plain::audit(image) else {
+        panic!("{name}: two blocks meet");
+    };
+    let entered = plain.entered.concat();
+    assert_eq!(reply.block_count as usize, plain.entered.len(), "{name}");
+    assert_eq!(reply.list[..entered.len()], entered, "{name}");
+    assert!(reply.list[entered.len()..].iter().all(|word| *word == 0));
+    let end_at = if image[8] == 1 { 44 } else { 40 };
+    let end = word(image, end_at, 8);
+    for block in plain.entered {
+        assert!(block[1] > 0 && block[0] + block[1] <= end, "{name}");
+    }
+    let objects = reply.objects.iter();
+    assert!(objects
+        .clone()
+        .map(|object| object.address)
+        .eq(plain.objects));
+    let sum: u64 = objects.map(|object| u64::from(object.true_count)).sum();
+    assert_eq!(sum, 1 + plain.references, "{name}");
+    for object in &reply.objects {
+        let stored = word(image, object.address as usize + 4, 4);
+        assert_eq!(u64::from(object.stored), stored, "{name}");
     }
 }
 
@@ -68,78 +119,6 @@ fn word(image: &[u8], at: usize, width: usize) -> u64 {
         .iter()
         .rev()
         .fold(0, |word, byte| word << 8 | u64::from(*byte))
-}
-
-/// How many sharings an object's header has. An audit has passed it, so that nothing leaves the image.
-fn sharings(image: &[u8], header: usize) -> u64 {
-    let mut blocks = vec![(header + 16, word(image, header + 8, 4) as usize)];
-    let mut turn = 0;
-    let mut sharings = 0;
-    while turn < blocks.len() {
-        let (mut at, length) = blocks[turn];
-        let end = at + length;
-        while at < end {
-            let body = at + 8;
-            let shares = match word(image, at, 2) {
-                // Flag bit 1 of the message.
-                0x0003 => image[at + 4] & 2 != 0,
-                // Flag bit 0 of the attribute; version 1 has no flags.
-                0x000c => image[body] > 1 && image[body + 1] & 1 != 0,
-                0x0010 => {
-                    let place = word(image, body, 8) as usize;
-                    blocks.push((place, word(image, body + 8, 8) as usize));
-                    false
-                }
-                _ => false,
-            };
-            sharings += u64::from(shares);
-            at = body + word(image, at + 2, 2) as usize;
-        }
-        turn += 1;
-    }
-    sharings
-}
-
-/// Blocks are disjoint and inside, and true counts sum to the hard links, the sharings and one.
-fn check_passed(name: &str, image: &[u8], reply: &AuditReply) {
-    let mut blocks: Vec<Range<u64>> = reply.list[..2 * reply.block_count as usize]
-        .chunks(2)
-        .map(|pair| pair[0]..pair[0] + pair[1])
-        .collect();
-    let shift = usize::from(image[8]) * 4;
-    let end = word(image, 40 + shift, 8);
-    let leaf_length = 8 + 80 * word(image, 16, 2);
-    let mut links = 0;
-    for block in &blocks {
-        let at = block.start as usize;
-        assert!(block.start < block.end && block.end <= end, "{name}");
-        if block.end - block.start == leaf_length && image[at..at + 4] == *b"SNOD" {
-            let count = word(image, at + 6, 2) as usize;
-            links += (0..count)
-                .filter(|entry| word(image, at + 8 + 40 * entry + 16, 4) < 2)
-                .count();
-        }
-    }
-    blocks.sort_by_key(|block| block.start);
-    assert!(
-        blocks.windows(2).all(|pair| pair[0].end <= pair[1].start),
-        "{name}"
-    );
-    let sum: u64 = reply
-        .objects
-        .iter()
-        .map(|object| u64::from(object.true_count))
-        .sum();
-    let shared: u64 = reply
-        .objects
-        .iter()
-        .map(|object| sharings(image, object.address as usize))
-        .sum();
-    assert_eq!(sum, 1 + links as u64 + shared, "{name}");
-    for object in &reply.objects {
-        let stored = word(image, object.address as usize + 4, 4);
-        assert_eq!(u64::from(object.stored), stored, "{name}");
-    }
 }
 
 /// Files as they were planned: objects in order of discovery with their counts, and every path found.
@@ -276,24 +255,41 @@ fn check_mending(image: &[u8]) {
 fn damaged_images_never_panic() {
     let mut random = Random::new(5);
     let mut reached = [0u64; 21];
+    let mut meetings = [Meetings::default(), Meetings::default()];
     each(cases(40_000) / 4, |case| {
         let image = case.image;
         for path in case.paths(&mut random) {
-            let lent = random.pick(&[0, 4, 9, 10, 16, FULL, FULL, FULL]);
+            let lent = random.pick(&[0, 8, 19, 20, 32, FULL, FULL, FULL]);
             let found = lookup(image, &path, lent);
             let described = describe(image, &path, lent);
             reached[described.number as usize] += 1;
             assert_eq!(found.list, vec![0; lent]);
             if found.number != 0 {
                 assert_eq!(described.number, found.number);
+                assert_eq!(described.met, found.met);
             } else if found.kind != 2 {
                 assert_eq!(described.number, 20);
+            }
+            if described.number == 0 {
+                let Ok(mut entered) = plain::lookup(image, &path, true) else {
+                    panic!("{}: two blocks meet", case.file);
+                };
+                entered.resize(lent.div_ceil(4), [0; 4]);
+                assert_eq!(described.list, entered.concat()[..lent]);
+            }
+            let replies = [(found.number, found.met), (described.number, described.met)];
+            for (describes, reply) in replies.into_iter().enumerate() {
+                let walk = || plain::lookup(image, &path, describes == 1);
+                meetings[describes].check(&case.file, reply, walk);
             }
         }
         let mut changed = image.to_vec();
         let reply = mend(&mut changed, FULL, 512, u64::MAX);
         if reply.number != 0 {
             assert_eq!(changed, image);
+            let audited = audit(image, FULL);
+            let expected = (audited.number, audited.met);
+            assert_eq!((reply.number, reply.met), expected);
         }
         let undone = undo(&mut changed, &reply.log, reply.entries, u64::MAX);
         assert_eq!(changed, image);
@@ -303,6 +299,8 @@ fn damaged_images_never_panic() {
     for number in [0, 1, 2, 3, 4, 5, 6, 7, 8, 9, 10, 11, 13, 14, 15, 16, 17, 20] {
         assert!(reached[number] > 0, "{number} was never reached");
     }
+    meetings[0].are_at_least("lookups", [1200, 40, 200, 4]);
+    meetings[1].are_at_least("descriptions", [1200, 40, 200, 4]);
 }
 
 #[test]

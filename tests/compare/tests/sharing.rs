@@ -7,17 +7,19 @@ use compare::generate::small::{self, C_COMMITTED, C_DATASET, ROOT};
 use compare::generate::write::write;
 use compare::reader::{audit, audit_stop, describe, mend, undo, AuditReply, Object};
 
-const FULL: usize = 2048;
+/// Room for every block that a walk may enter.
+const FULL: usize = 4096;
 
-const C_BLOCKS: [(u64, u64); 8] = [
-    (0, 96),
-    (96, 80),
-    (720, 32),
-    (752, 88),
-    (176, 544),
-    (840, 328),
-    (1256, 40),
-    (1168, 88),
+/// "t" is found before "d", by the root's attribute.
+const C_BLOCKS: [[u64; 4]; 8] = [
+    [0, 96, 1, u64::MAX],
+    [96, 80, 2, 0],
+    [720, 32, 4, 0],
+    [752, 88, 5, 0],
+    [176, 544, 6, 0],
+    [840, 328, 7, 0],
+    [1256, 40, 2, 1],
+    [1168, 88, 2, 2],
 ];
 
 fn objects(of: &[(u64, u32, u32)]) -> Vec<Object> {
@@ -29,8 +31,8 @@ fn objects(of: &[(u64, u32, u32)]) -> Vec<Object> {
     of.iter().map(object).collect()
 }
 
-fn list(pairs: &[(u64, u64)], words: usize) -> Vec<u64> {
-    let mut list: Vec<u64> = pairs.iter().flat_map(|pair| [pair.0, pair.1]).collect();
+fn list(blocks: &[[u64; 4]], words: usize) -> Vec<u64> {
+    let mut list = blocks.concat();
     list.resize(words, 0);
     list
 }
@@ -48,16 +50,17 @@ fn c() {
     let image = small::c().bytes;
     assert_eq!(image.len(), 1296);
     let true_counts = [(ROOT, 1, 1), (C_COMMITTED, 1, 3), (C_DATASET, 1, 1)];
-    for words in [16, 17, FULL] {
+    for words in [32, 33, FULL] {
         let expected = AuditReply {
             number: 0,
+            met: 0,
             block_count: 8,
             objects: objects(&true_counts),
             list: list(&C_BLOCKS, words),
         };
         assert_eq!(audit(&image, words), expected);
     }
-    assert_eq!(audit(&image, 15), refused(13, 15));
+    assert_eq!(audit(&image, 31), refused(13, 31));
 }
 
 #[test]
@@ -149,7 +152,8 @@ fn descriptions_give_the_shared_address() {
         let reply = describe(&image, b"/d", FULL);
         let fields = reply.description;
         assert_eq!((reply.number, reply.block_count), (0, 2));
-        assert_eq!(reply.list, list(&[(0, 96), (1168, 88)], FULL));
+        let described = [[0, 96, 1, u64::MAX], [1168, 88, 2, 0]];
+        assert_eq!(reply.list, list(&described, FULL));
         assert_eq!((fields.class, fields.element_size), (0, 0));
         assert_eq!(fields.shared_address, address);
     }

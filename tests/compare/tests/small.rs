@@ -2,12 +2,14 @@
 
 use compare::generate::asked;
 use compare::generate::paths::{malformed, well_formed};
-use compare::generate::small::{self, DATASET, ROOT};
+use compare::generate::small::{self, A_BLOCKS, DATASET, E_BLOCKS, H_BLOCKS, ROOT};
 use compare::generate::special;
-use compare::reader::front::{describe_bytes, lookup_bytes, DESCRIBE_WORDS, LOOKUP_WORDS};
+use compare::reader::front::{describe_bytes, lookup_bytes};
+use compare::reader::front::{BLOCK_BYTES, DESCRIBE_WORDS, LOOKUP_WORDS};
 use compare::reader::{audit, describe, lookup, mend, undo, AuditReply, Object};
 
-const FULL: usize = 2048;
+/// Room for every block that a walk may enter.
+const FULL: usize = 4096;
 
 fn object(address: u64, stored: u32, true_count: u32) -> Object {
     Object {
@@ -17,23 +19,11 @@ fn object(address: u64, stored: u32, true_count: u32) -> Object {
     }
 }
 
-fn list(pairs: &[(u64, u64)], words: usize) -> Vec<u64> {
-    let mut list: Vec<u64> = pairs.iter().flat_map(|pair| [pair.0, pair.1]).collect();
+fn list(blocks: &[[u64; 4]], words: usize) -> Vec<u64> {
+    let mut list = blocks.concat();
     list.resize(words, 0);
     list
 }
-
-const E_BLOCKS: [(u64, u64); 5] = [(0, 96), (96, 40), (680, 32), (712, 88), (136, 544)];
-const H_BLOCKS: [(u64, u64); 8] = [
-    (0, 96),
-    (96, 40),
-    (680, 32),
-    (712, 88),
-    (136, 544),
-    (800, 328),
-    (1128, 96),
-    (1224, 4),
-];
 
 fn refused(number: u32, words: usize) -> AuditReply {
     AuditReply {
@@ -62,16 +52,17 @@ fn output(reply: &AuditReply) -> String {
 fn e() {
     let image = small::e().bytes;
     assert_eq!(image.len(), 800);
-    for words in [10, 11, 12, FULL, FULL + 7] {
+    for words in [20, 21, 22, 23, 24, FULL, FULL + 7] {
         let expected = AuditReply {
             number: 0,
+            met: 0,
             block_count: 5,
             objects: vec![object(ROOT, 1, 1)],
             list: list(&E_BLOCKS, words),
         };
         assert_eq!(audit(&image, words), expected);
     }
-    for words in [0, 1, 2, 8, 9] {
+    for words in [0, 1, 3, 4, 16, 18, 19] {
         assert_eq!(audit(&image, words), refused(13, words));
     }
 }
@@ -89,13 +80,14 @@ fn h() {
     assert_eq!(image.len(), 1228);
     let expected = AuditReply {
         number: 0,
+        met: 0,
         block_count: 8,
         objects: vec![object(ROOT, 1, 1), object(DATASET, 2, 2)],
         list: list(&H_BLOCKS, FULL),
     };
     assert_eq!(audit(&image, FULL), expected);
-    assert_eq!(audit(&image, 16).number, 0);
-    assert_eq!(audit(&image, 15), refused(13, 15));
+    assert_eq!(audit(&image, 32).list, H_BLOCKS.concat());
+    assert_eq!(audit(&image, 31), refused(13, 31));
 }
 
 #[test]
@@ -179,25 +171,27 @@ fn lookups_in_h() {
         assert_eq!(found(path), (14, 0, 0));
     }
     assert_eq!(found(&[b'/'; 1025]), (14, 0, 0));
-    assert_eq!(lookup(&image, b"/", 4).number, 0);
-    assert_eq!(lookup(&image, b"/", 3).number, 13);
-    assert_eq!(lookup(&image, b"/a", 12).number, 0);
-    assert_eq!(lookup(&image, b"/a", 11).number, 13);
+    assert_eq!(lookup(&image, b"/", 8).number, 0);
+    assert_eq!(lookup(&image, b"/", 7).number, 13);
+    assert_eq!(lookup(&image, b"/a", 24).number, 0);
+    assert_eq!(lookup(&image, b"/a", 23).number, 13);
 }
 
 #[test]
 fn description_in_h() {
     let image = small::h().bytes;
-    let reply = describe(&image, b"/a", 20);
+    // Six blocks of the group decide the room, and then there are three.
+    assert_eq!(describe(&image, b"/a", 23).number, 13);
+    let reply = describe(&image, b"/a", 27);
     assert_eq!((reply.number, reply.block_count), (0, 3));
-    assert_eq!(reply.list, list(&[(0, 96), (1128, 96), (1224, 4)], 20));
+    assert_eq!(reply.list, list(&A_BLOCKS, 27));
     let fields = reply.description;
     assert_eq!((fields.rank, fields.sizes[0], fields.maxima[0]), (1, 4, 4));
     assert_eq!((fields.class, fields.version), (0, 1));
     assert_eq!((fields.class_bits, fields.element_size), (8, 1));
     assert_eq!((fields.layout_class, fields.shared_address), (1, 0));
     assert_eq!((fields.data_address, fields.data_size), (1224, 4));
-    assert_eq!(describe(&image, b"/", 20).number, 20);
+    assert_eq!(describe(&image, b"/", 27).number, 20);
 }
 
 /// What lay in the slices before a call.
@@ -223,7 +217,7 @@ fn lookups_in_bytes() {
     ];
     for (path, expected, words) in cases {
         for length in [0, 23, 24, 25, 31, 32, 100] {
-            let mut blocks = vec![BEFORE; 16 * 6 + 5];
+            let mut blocks = vec![BEFORE; 32 * 6 + 5];
             let mut reply = vec![BEFORE; length];
             let number = lookup_bytes(&image, path, &mut blocks, &mut reply);
             let (expected, words) = if length / 8 < LOOKUP_WORDS {
@@ -233,7 +227,7 @@ fn lookups_in_bytes() {
             };
             assert_eq!(number, expected);
             assert_eq!(reply, bytes(words, length));
-            assert_eq!(blocks, bytes(&[], 16 * 6 + 5));
+            assert_eq!(blocks, bytes(&[], 32 * 6 + 5));
         }
     }
 }
@@ -245,17 +239,17 @@ fn descriptions_in_bytes() {
     (words[0], words[1], words[2], words[34]) = (3, 1, 4, 4);
     words[66..].copy_from_slice(&[0, 1, 8, 1, 0, 1, 1224, 4]);
     for length in [0, 24, 591, 592, 593, 599, 600, 6160] {
-        let mut blocks = vec![BEFORE; 16 * 6 + 5];
+        let mut blocks = vec![BEFORE; 32 * 6 + 5];
         let mut reply = vec![BEFORE; length];
         let number = describe_bytes(&image, b"/a", &mut blocks, &mut reply);
         let (expected, list, words) = if length / 8 < DESCRIBE_WORDS {
             (13, [].as_slice(), [].as_slice())
         } else {
-            (0, [0, 96, 1128, 96, 1224, 4].as_slice(), words.as_slice())
+            (0, A_BLOCKS.as_flattened(), words.as_slice())
         };
         assert_eq!(number, expected);
         assert_eq!(reply, bytes(words, length));
-        assert_eq!(blocks, bytes(list, 16 * 6 + 5));
+        assert_eq!(blocks, bytes(list, 32 * 6 + 5));
     }
 }
 
@@ -263,16 +257,21 @@ fn descriptions_in_bytes() {
 fn lookups_by_name_have_their_answers() {
     for asked in asked::all() {
         let title = format!("{}, {}", asked.name, asked.path.escape_ascii());
-        let mut blocks = vec![BEFORE; 16 * asked.pairs + asked.pairs % 16];
+        let lent = BLOCK_BYTES * asked.lent + asked.lent % BLOCK_BYTES;
+        let mut blocks = vec![BEFORE; lent];
         let mut reply = vec![BEFORE; 8 * LOOKUP_WORDS];
         let number = lookup_bytes(&asked.image, &asked.path, &mut blocks, &mut reply);
-        assert_eq!(number, asked.lookup.0, "{title}, {} pairs", asked.pairs);
-        let words = [0, u64::from(asked.lookup.1), asked.lookup.2];
+        assert_eq!(number, asked.lookup.0, "{title}, {lent} bytes");
+        let met = if number == 6 { asked.met } else { 0 };
+        let words = [met, u64::from(asked.lookup.1), asked.lookup.2];
         assert_eq!(reply, bytes(&words, 24), "{title}");
         assert!(blocks.iter().all(|byte| *byte == 0), "{title}");
         let mut reply = vec![BEFORE; 8 * DESCRIBE_WORDS];
         let number = describe_bytes(&asked.image, &asked.path, &mut blocks, &mut reply);
-        assert_eq!(number, asked.description, "{title}, {} pairs", asked.pairs);
+        assert_eq!(number, asked.description, "{title}, {lent} bytes");
+        if number == 6 {
+            assert_eq!(reply, bytes(&[asked.met], 592), "{title}");
+        }
     }
 }
 
@@ -283,7 +282,7 @@ fn malformed_paths_give_14() {
     for (number, image) in images.iter().enumerate() {
         for path in malformed() {
             let title = path.escape_ascii().to_string();
-            for lent in [0, 12, FULL] {
+            for lent in [0, 24, FULL] {
                 assert_eq!(lookup(image, &path, lent).number, 14, "{title}");
                 assert_eq!(describe(image, &path, lent).number, 14, "{title}");
             }
@@ -314,7 +313,7 @@ fn a_loop() {
 #[test]
 fn special_files() {
     for special in special::all() {
-        for words in [FULL, FULL + 1, 3000] {
+        for words in [FULL, FULL + 1, 5000] {
             let reply = audit(&special.sheet.bytes, words);
             assert_eq!(reply.number, special.number, "{}", special.name);
         }

@@ -6,7 +6,7 @@
 
 use compare::generate::small::{self, DATASET, ROOT};
 use compare::library;
-use compare::reader::front::{DESCRIBE_WORDS, LOOKUP_WORDS, REPLY_WORDS};
+use compare::reader::front::{BLOCK_BYTES, DESCRIBE_WORDS, LOOKUP_WORDS, REPLY_WORDS};
 use std::collections::BTreeSet;
 use std::ffi::OsStr;
 use std::fs;
@@ -72,8 +72,8 @@ fn long_e(length: usize) -> Vec<u8> {
     image
 }
 
-/// The files of "Small files to try", those at the limits of the command's input and some with sharings, by the name of
-/// their texts.
+/// The files of "Small files to try", those at the limits of the command's input, some whose blocks meet and some with
+/// sharings, by the name of their texts.
 fn files() -> Vec<(&'static str, Vec<u8>)> {
     let e_ending = |end| small::e().with("superblock end of file", 0, end).bytes;
     vec![
@@ -90,6 +90,15 @@ fn files() -> Vec<(&'static str, Vec<u8>)> {
         ("e_65536_bytes", long_e(65_536)),
         ("e_65537_bytes", long_e(65_537)),
         ("no_bytes", Vec::new()),
+        ("h_root_at_0", small::h().with("root address", 0, 0).bytes),
+        (
+            "h_segment_at_130",
+            small::h().with("heap segment", 0, 130).bytes,
+        ),
+        (
+            "h_data_at_799",
+            small::h().with("layout address", 0, 799).bytes,
+        ),
         ("c", small::c().bytes),
         ("c_unshared", small::c().with("attribute flags", 0, 0).bytes),
         ("c_own_flag", small::c_with_own_flag().bytes),
@@ -350,16 +359,17 @@ fn several_first_calls_build_once() {
 /// What lay in the slices before a call.
 const BEFORE: u8 = 0xa5;
 
-/// What an audit by the C front end leaves, with so many pairs and some spare bytes lent.
-fn left_by_c(image: &[u8], pairs: usize) -> String {
-    left_by(pairs, REPLY_WORDS, |blocks, reply| {
+/// What an audit by the C front end leaves, with room for so many blocks.
+fn left_by_c(image: &[u8], room: usize) -> String {
+    left_by(room, REPLY_WORDS, |blocks, reply| {
         library::audit(image, blocks, reply)
     })
 }
 
-/// What a call leaves, with so many pairs, so many words for the reply and some spare bytes lent.
-fn left_by(pairs: usize, reply_words: usize, call: impl Fn(&mut [u8], &mut [u8]) -> u32) -> String {
-    let mut blocks = vec![BEFORE; 16 * pairs + 3];
+/// What a call leaves, with room for so many blocks and so many words for the reply. Behind the last block three words and
+/// three bytes are spare, behind the reply five bytes.
+fn left_by(room: usize, reply_words: usize, call: impl Fn(&mut [u8], &mut [u8]) -> u32) -> String {
+    let mut blocks = vec![BEFORE; BLOCK_BYTES * room + 27];
     let mut reply = vec![BEFORE; 8 * reply_words + 5];
     let number = call(&mut blocks, &mut reply);
     format!("answer {number}\n") + &words("list", &blocks) + &words("reply", &reply)
@@ -390,8 +400,8 @@ fn the_c_front_end_leaves_the_stored_words() {
 #[test]
 fn the_c_front_end_at_other_rooms() {
     let e = small::e().bytes;
-    assert_stored(&left_by_c(&e, 5), "e_5_pairs_c");
-    assert_stored(&left_by_c(&e, 4), "e_4_pairs_c");
+    assert_stored(&left_by_c(&e, 5), "e_5_blocks_c");
+    assert_stored(&left_by_c(&e, 4), "e_4_blocks_c");
     for (name, image) in files() {
         assert_stored(&left_by_c(&image, 2000), &format!("{name}_c"));
     }
@@ -417,19 +427,19 @@ const DESCRIPTIONS: [(&str, &[u8]); 6] = [
     ("h_lookup_bad_path_c", b"/a/"),
 ];
 
-/// Room for 6 pairs is what the root group needs.
+/// Room for 6 blocks is what the root group needs.
 #[test]
 fn lookups_in_h_leave_the_stored_words() {
     let image = small::h().bytes;
-    for pairs in [6, 7, 1024, 2000] {
+    for room in [6, 7, 1024, 2000] {
         for (name, path) in LOOKUPS {
-            let text = left_by(pairs, LOOKUP_WORDS, |blocks, reply| {
+            let text = left_by(room, LOOKUP_WORDS, |blocks, reply| {
                 library::lookup(&image, path, blocks, reply)
             });
             assert_stored(&text, name);
         }
         for (name, path) in DESCRIPTIONS {
-            let text = left_by(pairs, DESCRIBE_WORDS, |blocks, reply| {
+            let text = left_by(room, DESCRIBE_WORDS, |blocks, reply| {
                 library::describe(&image, path, blocks, reply)
             });
             assert_stored(&text, name);
@@ -466,7 +476,7 @@ fn every_text_is_used() {
     let mut used: Vec<String> = files()
         .iter()
         .flat_map(|(name, _)| [format!("{name}.txt"), format!("{name}_c.txt")])
-        .chain(["e_5_pairs_c.txt", "e_4_pairs_c.txt", "c_describe_d_c.txt"].map(str::to_string))
+        .chain(["e_5_blocks_c.txt", "e_4_blocks_c.txt", "c_describe_d_c.txt"].map(str::to_string))
         .chain(
             [LOOKUPS, DESCRIPTIONS]
                 .concat()

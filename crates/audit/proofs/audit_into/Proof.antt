@@ -4,7 +4,7 @@ use borrow.Author.Needs.{needs}
 use Rattle.audit.proofs.audit_into.Statement.{statement}
 use Rattle.audit.proofs.audit_into.Tie as tie
 use denote.Ref.{now}
-use Prim.Native.Nat.{ℕ, _+_, _≤_}
+use Prim.Native.Nat.{ℕ, _*_, _≤_}
 use mathlib.Core.List.{List}
 use mathlib.Core.Path.{_≡_, ap, _∙_}
 use lib.ListN.{length, replicate}
@@ -15,7 +15,7 @@ use Rattle.ledger.specs.Report.{Readable}
 use Rattle.object.specs.declared.object.ObjectRead.the-variants.{Done}
 use Rattle.object.specs.Object.{Bounded}
 use Rattle.audit.specs.Audit.{ImageWalked}
-use Rattle.audit.proofs.ReplyLaws.{not-opened-is, stopped-is, readable, count-fits, count-small, done-is, lists-table, stored-room}
+use Rattle.audit.proofs.ReplyLaws.{not-opened-is, stopped-is, readable, count-fits, done-is, lists-table, stored-room}
 
 -- Where the image was opened: its bytes, and its superblock.
 abbrev entry : tie.After-s → tie.Start
@@ -67,11 +67,8 @@ read c =
     readable (image (at-s c)) (list (at-s c)) (superblock (at-s c)) (count c) (objects c) (words c) (addresses c) (counts c) (same c) (walk-done c)
     (opened-is (at-s c) .1)
 
-fits : (c : tie.After-count) → count c + count c ≤ length (words c)
+fits : (c : tie.After-count) → 4 * count c ≤ length (words c)
 fits c = count-fits (image (at-s c)) (list (at-s c)) (superblock (at-s c)) (count c) (objects c) (words c) (addresses c) (counts c) (same c) (walk-done c)
-
-small : (c : tie.After-count) → count c + count c ≤ 2048
-small c = count-small (image (at-s c)) (list (at-s c)) (superblock (at-s c)) (count c) (objects c) (words c) (addresses c) (counts c) (same c) (walk-done c)
 
 open-requires : tie.Need-open-requires
 open-requires c κs = search needs
@@ -104,8 +101,10 @@ read-stored-requires c κs =
     let d = c .before .before .before in
     (read d, stored-room _ _ _ _ (entry (at-s d) .pre) (walk-done d .ready .table .fits))
 
-add-clear-from : tie.Need-add-clear-from
-add-clear-from c = omega (arith, small (c .before .before .before .before .before .before .before))
+mul-clear-from : tie.Need-mul-clear-from
+mul-clear-from c =
+    let done = c .before .before .before .before .before .before .before in
+    record { fits = omega (arith, fits done, same done, entry (at-s done) .good .1 .0 .0) }
 
 clear-from-requires : tie.Need-clear-from-requires
 clear-from-requires c κs = fits (c .before .before .before .before .before .before .before)
@@ -173,7 +172,7 @@ audit-into-spec =
     refused-requires-2
     enum-known-count
     read-stored-requires
-    add-clear-from
+    mul-clear-from
     clear-from-requires
     same-length
     returns

@@ -1,9 +1,9 @@
 -- All rows of the table agree, by a test that antt computes. Its unfolding line names each definition that this goes through.
 use mathlib.Core.Path.{refl}
 use lib.Dec.{T}
-use Rattle.format.specs.Limits.{imageLeast, imageMost, inputMost, levelMost, rankMost, objectsMost, blocksMost, nameMost, pathMost}
+use Rattle.format.specs.Limits.{imageLeast, imageMost, inputMost, levelMost, rankMost, objectsMost, blocksMost, commandBlocks, nameMost, pathMost}
 use Rattle.format.specs.Bytes.{allHold, littleEndian, toBytes, toWords, overwrite, undefinedAddress, sameBytes, contains}
-use Rattle.format.specs.Blocks.{overlaps, overlapsAny, entryAnswer, roomOf, blockWords}
+use Rattle.format.specs.Blocks.{overlaps, overlapsAny, firstMet, entryAnswer, roomOf, ownerAfter, blockWords}
 use Rattle.format.specs.Result as results
 use Rattle.format.specs.Walk.{blankCount, shown, _>>=_, run}
 use Rattle.format.specs.Superblock.{signature, versionShift, versionsRead, sizesRead, addressesRead}
@@ -32,7 +32,7 @@ use Rattle.format.specs.Log.{logWords, changes, written, restored}
 use Rattle.format.specs.Mend.{corrections}
 use Rattle.format.specs.Undo.{fits, allFit, undoNumber, undone}
 use Rattle.format.specs.Answers.{audit, lookup, describe, mend, undo}
-use Rattle.format.specs.Front.{objectWords}
+use Rattle.format.specs.Front.{wordBytes, objectWords, cAudit, cLookup, cDescribe, cMend}
 use Rattle.format.specs.Command.{digit, hex, objectLines, lines, command}
 use Rattle.cases.specs.Table.{table}
 use Rattle.cases.proofs.Agree.{agree, agree-equal}
@@ -40,8 +40,9 @@ use Rattle.cases.proofs.rows.Statement.{statement}
 use Rattle.cases.proofs.rows.Tie as tie
 
 all-agree : T (agree table)
-unfolding imageLeast imageMost inputMost levelMost rankMost objectsMost blocksMost nameMost pathMost allHold littleEndian toBytes toWords
-    overwrite undefinedAddress sameBytes contains overlaps overlapsAny entryAnswer roomOf blockWords blankCount shown results._>>=_ _>>=_ run
+unfolding imageLeast imageMost inputMost levelMost rankMost objectsMost blocksMost commandBlocks nameMost pathMost allHold littleEndian toBytes toWords
+    overwrite undefinedAddress sameBytes contains overlaps overlapsAny firstMet entryAnswer roomOf ownerAfter blockWords
+    blankCount shown results._>>=_ _>>=_ run
     signature versionShift versionsRead sizesRead addressesRead superblockRead superblockSound superblockFields openImage superblockWalk treatment readMessage
     messages ofType
     theMessage continuations headerContents headerMessages hasCounts objectOf headerWith headerWalk HEAP freeBlocks freeList heapWalk beforeNul stringAt
@@ -50,8 +51,8 @@ unfolding imageLeast imageMost inputMost levelMost rankMost objectsMost blocksMo
     readSharedPart readAttribute placeOf share shareEach discoverSharing notCommitted sharingDataset inLedger addLink
     countLink discover contentWalk objectWalk objectsWalk auditWalk auditRun countedIn pathParts isComponent allComponents
     parsePath compareName findWalk targetWalk componentWalk follow locateWalk lookupRun datasetOf describeWalk describeRun
-    logWords changes written restored corrections fits allFit undoNumber undone audit lookup describe mend undo objectWords digit
-    hex objectLines lines command table
+    logWords changes written restored corrections fits allFit undoNumber undone audit lookup describe mend undo wordBytes objectWords
+    cAudit cLookup cDescribe cMend digit hex objectLines lines command table
 all-agree = tt
 
 returns : tie.Need-returns

@@ -2,7 +2,7 @@
 use mathlib.Core.Path.{refl}
 use native.Mathlib.Omega.{arith}
 use denote.Ref.{now}
-use Rattle.format.specs.Limits.{blocksMost}
+use Rattle.format.specs.Limits.{commandBlocks}
 use Rattle.output.specs.Text.{outputMost}
 use Rattle.command.proofs.ReportLaws.{printed-long, printed-audit}
 use borrow.Author.Needs.{needs}
@@ -45,7 +45,7 @@ same-length-2 : tie.Need-same-length-2
 same-length-2 c = search needs
 
 returns-2 : tie.Need-returns-2
-unfolding blocksMost
+unfolding commandBlocks
 returns-2 c =
     let p = c .before .before in
     let f = p .before .before .before .before in

@@ -2,7 +2,7 @@
 use denote.Ref.{now}
 use mathlib.Core.List.{List}
 use mathlib.Core.Path.{_≡_}
-use Prim.Native.Nat.{ℕ, _-_, _+_, _<_}
+use Prim.Native.Nat.{ℕ, _-_, _+_, _*_, _<_}
 use lib.ListN.{getD}
 use Rattle.format.specs.Message.{Message}
 use Rattle.continuations.specs.Continuations.{Waiting}
@@ -29,11 +29,8 @@ turn : (c : tie.Else1 Inv-loop μ-loop) (waiting : List Message) →
     (start .args .cursor) waiting →
     Waiting (now (start .args .image)) (now (start .args .list))
     (start .args .count)
-    (cursor (at-loop .loop .block + 1) (getD (now (start .args .list))
-    (at-loop .loop .block + 1 + (at-loop .loop .block + 1)) 0)
-    (getD (now (start .args .list)) (at-loop .loop .block + 1 + (at-loop .loop .block + 1)) 0
-    + getD (now (start .args .list))
-    (at-loop .loop .block + 1 + (at-loop .loop .block + 1) + 1) 0))
+    (cursor (at-loop .loop .block + 1) (getD (now (start .args .list)) (4 * (at-loop .loop .block + 1)) 0)
+    (getD (now (start .args .list)) (4 * (at-loop .loop .block + 1)) 0 + getD (now (start .args .list)) (4 * (at-loop .loop .block + 1) + 1) 0))
     waiting
 turn c waiting w = next-block _ _ _ _ _ _ waiting (c .before .loop-test .taken) (c .if1 .left) (c .before .before .loop .inv .1 waiting w)
 
@@ -58,13 +55,13 @@ add-block c =
     let start = c .before .before .before .before .before .before in
     omega (arith, c .before .before .loop .inv .0, start .pre .0)
 
-add-from : tie.Need-add-from Inv-loop μ-loop
-add-from c =
+mul-from : tie.Need-mul-from Inv-loop μ-loop
+mul-from c =
     let start = c .before .before .before .before .before .before in
     omega (arith, c .before .loop-test .taken, start .pre .0)
 
-mul-from : tie.Need-mul-from Inv-loop μ-loop
-mul-from c =
+mul-from-2 : tie.Need-mul-from-2 Inv-loop μ-loop
+mul-from-2 c =
     let start = c .before .before .before .before .before .before in
     omega (arith, c .before .loop-test .taken, start .pre .0)
 
@@ -73,18 +70,18 @@ shared-slice-read-from c =
     let start = c .before .before .before .before .before .before .before in
     omega (arith, c .before .before .loop-test .taken, start .pre .0)
 
+mul-end : tie.Need-mul-end Inv-loop μ-loop
+mul-end c =
+    let start = c .before .before .before .before .before .before .before in
+    omega (arith, c .before .before .loop-test .taken, start .pre .0)
+
 add-end : tie.Need-add-end Inv-loop μ-loop
 add-end c =
     let start = c .before .before .before .before .before .before .before in
     omega (arith, c .before .before .loop-test .taken, start .pre .0)
 
-add-end-2 : tie.Need-add-end-2 Inv-loop μ-loop
-add-end-2 c =
-    let start = c .before .before .before .before .before .before .before in
-    omega (arith, c .before .before .loop-test .taken, start .pre .0)
-
-mul-end : tie.Need-mul-end Inv-loop μ-loop
-mul-end c =
+mul-end-2 : tie.Need-mul-end-2 Inv-loop μ-loop
+mul-end-2 c =
     let start = c .before .before .before .before .before .before .before in
     omega (arith, c .before .before .loop-test .taken, start .pre .0)
 
@@ -93,8 +90,8 @@ shared-slice-read-end c =
     let start = c .before .before .before .before .before .before .before .before in
     omega (arith, c .before .before .before .loop-test .taken, start .pre .0)
 
-add-end-3 : tie.Need-add-end-3 Inv-loop μ-loop
-add-end-3 c =
+add-end-2 : tie.Need-add-end-2 Inv-loop μ-loop
+add-end-2 c =
     let start = c .before .before .before .before .before .before .before .before in
     omega (arith, turn (c .before .before) (start .pre .1 .0) (start .pre .1 .1) .holds .inside)
 
@@ -128,14 +125,14 @@ seek-spec =
     add-loop
     returns
     add-block
-    add-from
     mul-from
+    mul-from-2
     shared-slice-read-from
-    add-end
-    add-end-2
     mul-end
+    add-end
+    mul-end-2
     shared-slice-read-end
-    add-end-3
+    add-end-2
     next-continuation-requires-2
     loop-less
     loop-again

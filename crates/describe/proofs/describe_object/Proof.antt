@@ -5,10 +5,11 @@ use Rattle.describe.proofs.describe_object.Statement.{statement}
 use Rattle.describe.proofs.describe_object.Tie as tie
 use denote.Ref.{now}
 use lib.ListN.{length}
+use Prim.Native.Nat.{_*_, _≤_}
 use Rattle.superblock.specs.Superblock.{superblockOf}
 use Rattle.object.proofs.ObjectLaws.{opened, room-lent}
 use Rattle.dataset_at.specs.Reader.{datasetAtWalk}
-use Rattle.describe.proofs.ReplyLaws.{object-stopped, count-fits, count-small, object-described}
+use Rattle.describe.proofs.ReplyLaws.{object-stopped, count-fits, object-described}
 
 room-requires : tie.Need-room-requires
 room-requires c κs = search needs
@@ -29,32 +30,30 @@ refused-requires c κs = search needs
 enum-known-dataset : tie.Need-enum-known-dataset
 enum-known-dataset c = search needs
 
-add-clear-from : tie.Need-add-clear-from
-add-clear-from c =
-    let at-dataset-at = c .before .before .before .before .before .before in
+-- the words of the blocks are words of the list
+fits : (c : tie.After-dataset) →
+    let at-dataset-at = c .before .before .before .before in
+    4 * c .dataset .given .0 .1 .1 .0 ≤ length (at-dataset-at .dataset-at .last .1 .0)
+fits c =
+    let at-dataset-at = c .before .before .before .before in
     let at-room = at-dataset-at .before .before in
     let start = at-room .before .before .before in
     let a = start .args in
     let room = at-room .room in
     let read = at-dataset-at .dataset-at in
-    let d = c .before .before .dataset .given in
-    omega (
-      arith,
-      count-small (now (a .image)) (a .superblock .«end_of_file») (room .result) (datasetAtWalk (superblockOf (a .superblock)) (a .at))
-          (now (a .list)) (read .last .1 .0) (room .ensures) (read .kept .1 .0) (d .0 .0) (d .0 .1 .0) (d .0 .1 .1 .0) (rw (d .1) at (read .ensures)),
-    )
-
-clear-from-requires : tie.Need-clear-from-requires
-clear-from-requires c κs =
-    let at-dataset-at = c .before .before .before .before .before .before in
-    let at-room = at-dataset-at .before .before in
-    let start = at-room .before .before .before in
-    let a = start .args in
-    let room = at-room .room in
-    let read = at-dataset-at .dataset-at in
-    let d = c .before .before .dataset .given in
+    let d = c .dataset .given in
     count-fits (now (a .image)) (a .superblock .«end_of_file») (room .result) (datasetAtWalk (superblockOf (a .superblock)) (a .at)) (now (a .list))
     (read .last .1 .0) (room .ensures) (read .kept .1 .0) (d .0 .0) (d .0 .1 .0) (d .0 .1 .1 .0) (rw (d .1) at (read .ensures))
+
+mul-clear-from : tie.Need-mul-clear-from
+mul-clear-from c =
+    let read = c .before .before in
+    let at-dataset-at = read .before .before .before .before in
+    let start = at-dataset-at .before .before .before .before .before in
+    record { fits = omega (arith, fits read, at-dataset-at .dataset-at .kept .1 .0, start .good .1 .0 .0) }
+
+clear-from-requires : tie.Need-clear-from-requires
+clear-from-requires c κs = fits (c .before .before)
 
 described-requires : tie.Need-described-requires
 described-requires c κs =
@@ -104,7 +103,7 @@ describe-object-spec =
     enum-known-x
     refused-requires
     enum-known-dataset
-    add-clear-from
+    mul-clear-from
     clear-from-requires
     described-requires
     same-length

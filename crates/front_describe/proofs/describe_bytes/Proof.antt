@@ -1,44 +1,30 @@
--- The laws of Described.antt, at the three ends of the code.
+-- The laws of Described.antt, at the five ends of the code.
 use Prim.Native.Nat.{_+_, _*_, _/_, _≤_}
-use mathlib.Core.Path.{sym, ap, _∙_}
 use lib.ListN.{length}
-use lib.Seq.{length-take-le}
 use denote.Ref.{now}
-use Rattle.format.specs.Limits.{rankMost}
-use Rattle.format.specs.Blocks.{roomOf}
-use Rattle.format.specs.Front.{paddedBytes}
-use Rattle.front.proofs.Lent.{room-lent, room-most, lent-words, part-fits, part-long, part-left}
-use Rattle.front_describe.proofs.Described.{short-reply, blocks-fit, used-fit, done-reply, refused-reply}
+use Rattle.format.specs.Limits.{rankMost, blocksMost}
+use Rattle.format.specs.Answers.{describe}
+use Rattle.walk.proofs.BlockList.{room-most}
+use Rattle.front.specs.Few.{fewBlocks}
+use Rattle.front.proofs.Lent.{room-lent}
+use Rattle.front_describe.proofs.Described.{short-reply, all-reply, few-reply, same-slices}
 use native.Mathlib.Omega.{arith}
 use borrow.Author.Needs.{needs}
 use Rattle.front_describe.proofs.describe_bytes.Statement.{statement}
 use Rattle.front_describe.proofs.describe_bytes.Tie as tie
 
--- the reply is long enough
-reply-long : (c : tie.Else1) → 10 + 2 * rankMost ≤ length (now (c .before .before .before .before .before .before .before .args .reply)) / 8
-reply-long c = omega (arith, c .if1 .left, c .before .before .the-limits .ensures .rankMostEqual)
+-- Where the room is known: the start, the reply is long enough, and the words of the room are there.
+abbrev start : tie.After-room → tie.Start
+start c = c .before .before .before .before .before .before .before .before
 
--- the list has the words that are lent
-room-fits : (c : tie.After-room) → 2 * c .room .result ≤ 2048
-room-fits c = omega (arith, c .room .ensures, room-most (length (now (c .before .before .before .before .before .before .before .before .args .blocks)) / 8))
+reply-long : (c : tie.After-room) → 10 + 2 * rankMost ≤ length (now (start c .args .reply)) / 8
+reply-long c = omega (arith, c .before .if1 .left, c .before .before .before .the-limits .ensures .rankMostEqual)
 
--- the blocks entered fit the bytes lent
-count-fits : (c : tie.After-describe) → c .describe .result .«block_count» ≤ roomOf
-    (length (now (c .before .before .before .before .before .before .before .before .before .before .args .blocks)) / 8)
-count-fits c =
-    let a = c .before .before .before .before .before .before .before .before .before .before .args in
-    blocks-fit (now (a .image)) (now (a .path)) (length (now (a .blocks))) (length (now (a .reply))) _ _ _
-    (lent-words _ _ _ (c .before .before .room .ensures) (room-most _))
-    (c .describe .ensures)
+room-fits : (c : tie.After-room) → 4 * c .room .result ≤ length (now (start c .args .blocks)) / 8
+room-fits c = omega (arith, c .room .ensures, room-lent (length (now (start c .args .blocks)) / 8))
 
--- and the words lent
-words-fit : (c : tie.After-describe) → 2 * c .describe .result .«block_count» ≤ length (c .describe .last .1 .1 .0)
-words-fit c =
-    let a = c .before .before .before .before .before .before .before .before .before .before .args in
-    used-fit (now (a .image)) (now (a .path)) (length (now (a .blocks))) (length (now (a .reply))) _ _ _
-    (lent-words _ _ _ (c .before .before .room .ensures) (room-most _))
-    (c .describe .ensures)
-    (c .describe .kept .1 .1 .0)
+room-small : (c : tie.After-room) → c .room .result ≤ blocksMost
+room-small c = omega (arith, c .room .ensures, room-most (length (now (start c .args .blocks)) / 8))
 
 the-limits-requires : tie.Need-the-limits-requires
 the-limits-requires c κs = search needs
@@ -62,34 +48,19 @@ same-length-2 c = search needs
 
 returns : tie.Need-returns
 returns c =
-    let a = c .before .before .before .before .before .before .before .before .before .before .before .before .before .before .args in
-    let t = c .before .before .before .before .clear-both .ensures in
-    let d = c .before .before .before .before .before .before .before in
+    let at-clear-both = c .before .before .before .before in
+    let at-if1 = at-clear-both .before .before .before in
+    let at-the-limits = at-if1 .before .before in
+    let a = at-the-limits .before .before .before .before .before .args in
+    let t = at-clear-both .clear-both .ensures in
     short-reply (now (a .image)) (now (a .path)) (length (now (a .blocks))) (length (now (a .reply))) _ _
-    (omega (arith, d .if1 .taken, d .before .before .the-limits .ensures .rankMostEqual))
-    (t .0)
-    (t .1)
+    (omega (arith, at-if1 .if1 .taken, at-the-limits .the-limits .ensures .rankMostEqual)) (t .0) (t .1)
 
 room-requires : tie.Need-room-requires
 room-requires c κs = search needs
 
-mul-n : tie.Need-mul-n
-mul-n c = record { fits = omega (arith, room-fits c) }
-
-array-borrow-prefix-list : tie.Need-array-borrow-prefix-list
-array-borrow-prefix-list c = room-fits c
-
-slice-aggregate-describe : tie.Need-slice-aggregate-describe
-slice-aggregate-describe c = sym (length-take-le (2 * c .before .room .result) _ (room-fits (c .before)))
-
-describe-requires : tie.Need-describe-requires
-describe-requires c κs = search needs
-
-clear-both-requires-2 : tie.Need-clear-both-requires-2
-clear-both-requires-2 c κs = search needs
-
-cast-result : tie.Need-cast-result
-cast-result c = search needs
+describe-few-requires : tie.Need-describe-few-requires
+describe-few-requires c κs = let at-room = c .before .before .before in (c .before .before .if2 .taken, (room-fits at-room, reply-long at-room))
 
 same-length-3 : tie.Need-same-length-3
 same-length-3 c = search needs
@@ -99,49 +70,14 @@ same-length-4 c = search needs
 
 returns-2 : tie.Need-returns-2
 returns-2 c =
-    let d = c .before .before .before .before .before .before .before .before .before .before .before in
-    let a = d .before .before .before .before .before .before .before .before .before .before .args in
-    let t = c .before .before .before .before .before .clear-both2 .ensures in
-    refused-reply (now (a .image)) (now (a .path)) (length (now (a .blocks))) (length (now (a .reply))) _ _ _
-    (lent-words _ _ _ (d .before .before .room .ensures) (room-most _))
-    (d .describe .ensures)
-    _ _
-    (reply-long (d .before .before .before))
-    (c .before .before .before .before .before .before .before .before .if2 .taken)
-    (t .0)
-    (t .1)
+    let at-few = c .before .before .before .before in
+    let at-room = at-few .before .before .before .before in
+    let a = start at-room .args in
+    all-reply (now (a .image)) (now (a .path)) (length (now (a .blocks))) (length (now (a .reply))) (reply-long at-room) (at-room .room .result) _
+    (at-few .describe-few .ensures) (at-room .room .ensures)
 
-mul-used : tie.Need-mul-used
-mul-used c =
-    let d = c .before .before .before .before in
-    let a = d .before .before .before .before .before .before .before .before .before .before .args in
-    record { fits = omega (arith, count-fits d, room-most (length (now (a .blocks)) / 8)) }
-
-array-share-prefix-list : tie.Need-array-share-prefix-list
-array-share-prefix-list c =
-    let d = c .before .before .before .before in
-    part-fits (d .describe .last .1 .1 .0) _ (2 * d .before .before .room .result) _ (d .describe .kept .1 .1 .0) (words-fit d)
-
-slice-aggregate-spill : tie.Need-slice-aggregate-spill
-slice-aggregate-spill c =
-    let d = c .before .before .before .before .before in
-    part-long (d .describe .last .1 .1 .0) _ (2 * d .before .before .room .result) _ (d .describe .kept .1 .1 .0) (words-fit d)
-
-spill-requires : tie.Need-spill-requires
-spill-requires c κs =
-    let d = c .before .before .before .before .before .before in
-    let a = d .before .before .before .before .before .before .before .before .before .before .args in
-    omega (
-      arith,
-      part-long (d .describe .last .1 .1 .0) _ (2 * d .before .before .room .result) _ (d .describe .kept .1 .1 .0) (words-fit d),
-      count-fits d,
-      room-lent (length (now (a .blocks)) / 8),
-    )
-
-write-description-requires : tie.Need-write-description-requires
-unfolding rankMost
-write-description-requires c κs =
-    omega (arith, reply-long (c .before .before .before .before .before .before .before .before .before .before .before .before .before))
+describe-all-requires : tie.Need-describe-all-requires
+describe-all-requires c κs = let at-room = c .before .before .before .before in (room-small at-room, (room-fits at-room, reply-long at-room))
 
 same-length-5 : tie.Need-same-length-5
 same-length-5 c = search needs
@@ -151,17 +87,56 @@ same-length-6 c = search needs
 
 returns-3 : tie.Need-returns-3
 returns-3 c =
-    let d = c .before .before .before .before .before .before .before .before .before .before .before .before .before in
-    let a = d .before .before .before .before .before .before .before .before .before .before .args in
-    done-reply (now (a .image)) (now (a .path)) (length (now (a .blocks))) (length (now (a .reply))) _ _ _
-    (lent-words _ _ _ (d .before .before .room .ensures) (room-most _))
-    (d .describe .ensures)
-    _ _
-    (reply-long (d .before .before .before))
-    (c .before .before .before .before .before .before .before .before .before .before .if2 .left)
-    (c .before .before .before .before .before .before .spill .ensures ∙ ap (paddedBytes (length (now (a .blocks))))
-    (part-left (d .describe .last .1 .1 .0) _ (2 * d .before .before .room .result) _ (d .describe .kept .1 .1 .0) (words-fit d)))
-    (c .before .before .write-description .ensures)
+    let at-all = c .before .before .before .before in
+    let at-room = at-all .before .before .before .before .before in
+    let a = start at-room .args in
+    all-reply (now (a .image)) (now (a .path)) (length (now (a .blocks))) (length (now (a .reply))) (reply-long at-room) (at-room .room .result) _
+    (at-all .describe-all .ensures) (at-room .room .ensures)
+
+describe-few-requires-2 : tie.Need-describe-few-requires-2
+describe-few-requires-2 c κs =
+    let at-if2 = c .before .before .before in
+    let at-room = at-if2 .before in
+    (omega arith, (omega (arith, at-if2 .if2 .left, room-fits at-room), reply-long at-room))
+
+same-length-7 : tie.Need-same-length-7
+same-length-7 c = search needs
+
+same-length-8 : tie.Need-same-length-8
+same-length-8 c = search needs
+
+returns-4 : tie.Need-returns-4
+returns-4 c =
+    let at-few = c .before .before .before .before .before in
+    let at-if2 = at-few .before .before .before .before in
+    let at-room = at-if2 .before in
+    let a = start at-room .args in
+    few-reply (now (a .image)) (now (a .path)) (length (now (a .blocks))) (length (now (a .reply))) (reply-long at-room) fewBlocks _
+    (at-few .describe-few2 .ensures) (omega (arith, at-if2 .if2 .left, at-room .room .ensures)) (c .if4 .taken)
+
+describe-all-requires-2 : tie.Need-describe-all-requires-2
+describe-all-requires-2 c κs =
+    let at-few = c .before .before .before .before .before .before .before in
+    let at-room = at-few .before .before .before .before .before in
+    let same = at-few .describe-few2 .kept in
+    (room-small at-room, (omega (arith, room-fits at-room, same .1 .1 .0), omega (arith, reply-long at-room, same .1 .1 .1 .0)))
+
+same-length-9 : tie.Need-same-length-9
+same-length-9 c = search needs
+
+same-length-10 : tie.Need-same-length-10
+same-length-10 c = search needs
+
+returns-5 : tie.Need-returns-5
+returns-5 c =
+    let at-all = c .before .before .before .before in
+    let at-few = at-all .before .before .before .before .before .before .before .before in
+    let at-room = at-few .before .before .before .before .before in
+    let same = at-few .describe-few2 .kept in
+    let a = start at-room .args in
+    let again = same-slices _ _ _ _ _ (describe (now (a .image)) (now (a .path)) (4 * at-room .room .result)) (same .1 .1 .0) (same .1 .1 .1 .0) (at-all .describe-all2 .ensures) in
+    all-reply (now (a .image)) (now (a .path)) (length (now (a .blocks))) (length (now (a .reply))) (reply-long at-room) (at-room .room .result) _ again
+    (at-room .room .ensures)
 
 pub describe-bytes-spec : {M : Type 1} → statement M
 describe-bytes-spec =
@@ -175,20 +150,19 @@ describe-bytes-spec =
     same-length-2
     returns
     room-requires
-    mul-n
-    array-borrow-prefix-list
-    slice-aggregate-describe
-    describe-requires
-    clear-both-requires-2
-    cast-result
+    describe-few-requires
     same-length-3
     same-length-4
     returns-2
-    mul-used
-    array-share-prefix-list
-    slice-aggregate-spill
-    spill-requires
-    write-description-requires
+    describe-all-requires
     same-length-5
     same-length-6
-    returns-3)
+    returns-3
+    describe-few-requires-2
+    same-length-7
+    same-length-8
+    returns-4
+    describe-all-requires-2
+    same-length-9
+    same-length-10
+    returns-5)

@@ -64,7 +64,20 @@ put-words-requires-4 : tie.Need-put-words-requires-4
 put-words-requires-4 c κs = search needs
 
 clear-from-requires : tie.Need-clear-from-requires
-clear-from-requires c κs = search needs
+clear-from-requires c κs =
+    let at-put-words4 = c .before .before .before in
+    let at-put-words3 = at-put-words4 .before .before .before .before .before in
+    let at-put-words2 = at-put-words3 .before .before .before .before .before in
+    let at-put-words = at-put-words2 .before .before .before .before .before in
+    let start = at-put-words .before .before .before .before .before .before .before .before .before .before .before in
+    omega (
+      arith,
+      start .pre,
+      at-put-words .put-words .kept .0,
+      at-put-words2 .put-words2 .kept .0,
+      at-put-words3 .put-words3 .kept .0,
+      at-put-words4 .put-words4 .kept .0,
+    )
 
 same-length : tie.Need-same-length
 same-length c = search needs

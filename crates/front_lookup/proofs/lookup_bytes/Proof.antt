@@ -1,22 +1,30 @@
--- The laws of Located.antt, at the three ends of the code.
+-- The laws of Located.antt, at the five ends of the code.
 use Prim.Native.Nat.{_*_, _/_, _≤_}
-use mathlib.Core.Path.{sym}
 use lib.ListN.{length}
-use lib.Seq.{length-take-le}
 use denote.Ref.{now}
-use Rattle.front.proofs.Reply.{all-zero}
-use Rattle.front.proofs.Lent.{room-most, lent-words}
-use Rattle.front_lookup.proofs.Located.{short-reply, done-reply, refused-reply}
+use Rattle.format.specs.Limits.{blocksMost}
+use Rattle.format.specs.Answers.{lookup}
+use Rattle.walk.proofs.BlockList.{room-most}
+use Rattle.front.specs.Few.{fewBlocks}
+use Rattle.front.proofs.Lent.{room-lent}
+use Rattle.front_lookup.proofs.Located.{short-reply, all-reply, few-reply, same-slices}
 use native.Mathlib.Omega.{arith}
 use borrow.Author.Needs.{needs}
 use Rattle.front_lookup.proofs.lookup_bytes.Statement.{statement}
 use Rattle.front_lookup.proofs.lookup_bytes.Tie as tie
 
--- the list has the words that are lent
-room-fits : (c : tie.After-room) → 2 * c .room .result ≤ 2048
-room-fits c =
-    let start = c .before .before .before .before .before .before in
-    omega (arith, c .room .ensures, room-most (length (now (start .args .blocks)) / 8))
+-- Where the room is known: the start, the reply is long enough, and the words of the room are there.
+abbrev start : tie.After-room → tie.Start
+start c = c .before .before .before .before .before .before
+
+reply-long : (c : tie.After-room) → 3 ≤ length (now (start c .args .reply)) / 8
+reply-long c = omega (arith, c .before .if1 .left)
+
+room-fits : (c : tie.After-room) → 4 * c .room .result ≤ length (now (start c .args .blocks)) / 8
+room-fits c = omega (arith, c .room .ensures, room-lent (length (now (start c .args .blocks)) / 8))
+
+room-small : (c : tie.After-room) → c .room .result ≤ blocksMost
+room-small c = omega (arith, c .room .ensures, room-most (length (now (start c .args .blocks)) / 8))
 
 clear-both-requires : tie.Need-clear-both-requires
 clear-both-requires c κs = search needs
@@ -31,31 +39,16 @@ returns : tie.Need-returns
 returns c =
     let at-clear-both = c .before .before .before .before in
     let at-if1 = at-clear-both .before .before .before in
-    let start = at-if1 .before .before .before .before .before in
-    let a = start .args in
+    let a = at-if1 .before .before .before .before .before .args in
     let t = at-clear-both .clear-both .ensures in
-    short-reply (now (a .image)) (now (a .path)) (length (now (a .blocks))) (length (now (a .reply))) _ _ (omega (arith, at-if1 .if1 .taken)) (t .0) (t .1)
+    short-reply (now (a .image)) (now (a .path)) (length (now (a .blocks))) (length (now (a .reply))) _ _
+    (omega (arith, at-if1 .if1 .taken)) (t .0) (t .1)
 
 room-requires : tie.Need-room-requires
 room-requires c κs = search needs
 
-mul-n : tie.Need-mul-n
-mul-n c = record { fits = omega (arith, room-fits c) }
-
-array-borrow-prefix-list : tie.Need-array-borrow-prefix-list
-array-borrow-prefix-list c = room-fits c
-
-slice-aggregate-lookup : tie.Need-slice-aggregate-lookup
-slice-aggregate-lookup c = sym (length-take-le (2 * c .before .room .result) _ (room-fits (c .before)))
-
-lookup-requires : tie.Need-lookup-requires
-lookup-requires c κs = search needs
-
-clear-both-requires-2 : tie.Need-clear-both-requires-2
-clear-both-requires-2 c κs = search needs
-
-cast-result : tie.Need-cast-result
-cast-result c = search needs
+lookup-few-requires : tie.Need-lookup-few-requires
+lookup-few-requires c κs = let at-room = c .before .before .before in (c .before .before .if2 .taken, (room-fits at-room, reply-long at-room))
 
 same-length-3 : tie.Need-same-length-3
 same-length-3 c = search needs
@@ -65,34 +58,14 @@ same-length-4 c = search needs
 
 returns-2 : tie.Need-returns-2
 returns-2 c =
-    let at-clear-both2 = c .before .before .before .before .before in
-    let at-if2 = at-clear-both2 .before .before .before in
-    let at-lookup = at-if2 .before .before .before in
-    let at-room = at-lookup .before .before in
-    let at-if1 = at-room .before in
-    let start = at-if1 .before .before .before .before .before in
-    let a = start .args in
-    let t = at-clear-both2 .clear-both2 .ensures in
-    refused-reply (now (a .image)) (now (a .path)) (length (now (a .blocks))) (length (now (a .reply))) _ _ _
-    (lent-words _ _ _ (at-room .room .ensures) (room-most _))
-    (at-lookup .lookup .ensures)
-    (omega (arith, at-if1 .if1 .left))
-    _ _
-    (at-if2 .if2 .taken)
-    (t .0)
-    (t .1)
+    let at-few = c .before .before .before .before in
+    let at-room = at-few .before .before .before .before in
+    let a = start at-room .args in
+    all-reply (now (a .image)) (now (a .path)) (length (now (a .blocks))) (length (now (a .reply))) (reply-long at-room) (at-room .room .result) _
+    (at-few .lookup-few .ensures) (at-room .room .ensures)
 
-cast-kind : tie.Need-cast-kind
-cast-kind c = search needs
-
-clear-from-requires : tie.Need-clear-from-requires
-clear-from-requires c κs = search needs
-
-slice-aggregate-spill : tie.Need-slice-aggregate-spill
-slice-aggregate-spill c = search needs
-
-spill-requires : tie.Need-spill-requires
-spill-requires c κs = search needs
+lookup-all-requires : tie.Need-lookup-all-requires
+lookup-all-requires c κs = let at-room = c .before .before .before .before in (room-small at-room, (room-fits at-room, reply-long at-room))
 
 same-length-5 : tie.Need-same-length-5
 same-length-5 c = search needs
@@ -102,21 +75,56 @@ same-length-6 c = search needs
 
 returns-3 : tie.Need-returns-3
 returns-3 c =
-    let at-clear-from = c .before .before .before .before .before .before .before in
-    let at-if2 = at-clear-from .before .before .before in
-    let at-lookup = at-if2 .before .before .before in
-    let at-room = at-lookup .before .before in
-    let at-if1 = at-room .before in
-    let start = at-if1 .before .before .before .before .before in
-    let a = start .args in
-    done-reply (now (a .image)) (now (a .path)) (length (now (a .blocks))) (length (now (a .reply))) _ _ _
-    (lent-words _ _ _ (at-room .room .ensures) (room-most _))
-    (at-lookup .lookup .ensures)
-    (omega (arith, at-if1 .if1 .left))
-    _ _
-    (at-if2 .if2 .left)
-    (all-zero (now (a .blocks)) _ (at-clear-from .clear-from .ensures))
-    (c .before .before .spill .ensures)
+    let at-all = c .before .before .before .before in
+    let at-room = at-all .before .before .before .before .before in
+    let a = start at-room .args in
+    all-reply (now (a .image)) (now (a .path)) (length (now (a .blocks))) (length (now (a .reply))) (reply-long at-room) (at-room .room .result) _
+    (at-all .lookup-all .ensures) (at-room .room .ensures)
+
+lookup-few-requires-2 : tie.Need-lookup-few-requires-2
+lookup-few-requires-2 c κs =
+    let at-if2 = c .before .before .before in
+    let at-room = at-if2 .before in
+    (omega arith, (omega (arith, at-if2 .if2 .left, room-fits at-room), reply-long at-room))
+
+same-length-7 : tie.Need-same-length-7
+same-length-7 c = search needs
+
+same-length-8 : tie.Need-same-length-8
+same-length-8 c = search needs
+
+returns-4 : tie.Need-returns-4
+returns-4 c =
+    let at-few = c .before .before .before .before .before in
+    let at-if2 = at-few .before .before .before .before in
+    let at-room = at-if2 .before in
+    let a = start at-room .args in
+    few-reply (now (a .image)) (now (a .path)) (length (now (a .blocks))) (length (now (a .reply))) (reply-long at-room) fewBlocks _
+    (at-few .lookup-few2 .ensures) (omega (arith, at-if2 .if2 .left, at-room .room .ensures)) (c .if4 .taken)
+
+lookup-all-requires-2 : tie.Need-lookup-all-requires-2
+lookup-all-requires-2 c κs =
+    let at-few = c .before .before .before .before .before .before .before in
+    let at-room = at-few .before .before .before .before .before in
+    let same = at-few .lookup-few2 .kept in
+    (room-small at-room, (omega (arith, room-fits at-room, same .1 .1 .0), omega (arith, reply-long at-room, same .1 .1 .1 .0)))
+
+same-length-9 : tie.Need-same-length-9
+same-length-9 c = search needs
+
+same-length-10 : tie.Need-same-length-10
+same-length-10 c = search needs
+
+returns-5 : tie.Need-returns-5
+returns-5 c =
+    let at-all = c .before .before .before .before in
+    let at-few = at-all .before .before .before .before .before .before .before .before in
+    let at-room = at-few .before .before .before .before .before in
+    let same = at-few .lookup-few2 .kept in
+    let a = start at-room .args in
+    let again = same-slices _ _ _ _ _ (lookup (now (a .image)) (now (a .path)) (4 * at-room .room .result)) (same .1 .1 .0) (same .1 .1 .1 .0) (at-all .lookup-all2 .ensures) in
+    all-reply (now (a .image)) (now (a .path)) (length (now (a .blocks))) (length (now (a .reply))) (reply-long at-room) (at-room .room .result) _ again
+    (at-room .room .ensures)
 
 pub lookup-bytes-spec : {M : Type 1} → statement M
 lookup-bytes-spec =
@@ -127,19 +135,19 @@ lookup-bytes-spec =
     same-length-2
     returns
     room-requires
-    mul-n
-    array-borrow-prefix-list
-    slice-aggregate-lookup
-    lookup-requires
-    clear-both-requires-2
-    cast-result
+    lookup-few-requires
     same-length-3
     same-length-4
     returns-2
-    cast-kind
-    clear-from-requires
-    slice-aggregate-spill
-    spill-requires
+    lookup-all-requires
     same-length-5
     same-length-6
-    returns-3)
+    returns-3
+    lookup-few-requires-2
+    same-length-7
+    same-length-8
+    returns-4
+    lookup-all-requires-2
+    same-length-9
+    same-length-10
+    returns-5)

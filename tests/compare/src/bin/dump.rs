@@ -7,6 +7,9 @@ use compare::generate::random::Random;
 use compare::reader::{audit, describe, lookup, mend, undo};
 use std::io::{BufWriter, Write};
 
+/// Words of a list that has room for most images.
+const LENT: usize = 600;
+
 fn main() -> std::io::Result<()> {
     let argument = std::env::args().nth(1);
     let count = argument.and_then(|text| text.parse().ok()).unwrap_or(1000);
@@ -32,9 +35,10 @@ fn words(words: &[u64]) -> String {
 
 fn print(out: &mut impl Write, case: &Case, random: &mut Random) -> std::io::Result<()> {
     writeln!(out, "image {}", hexadecimal(case.image))?;
-    for lent in [0, 1, random.below(30) as usize, 300] {
+    for lent in [0, 3, random.below(60) as usize, LENT] {
         let reply = audit(case.image, lent);
-        write!(out, "audit {lent} = {} {}", reply.number, reply.block_count)?;
+        write!(out, "audit {lent} = {} {}", reply.number, reply.met)?;
+        write!(out, " {}", reply.block_count)?;
         for object in &reply.objects {
             let counts = (object.stored, object.true_count);
             write!(out, " {} {} {}", object.address, counts.0, counts.1)?;
@@ -42,8 +46,8 @@ fn print(out: &mut impl Write, case: &Case, random: &mut Random) -> std::io::Res
         writeln!(out, "{}", words(&reply.list))?;
     }
     for path in case.paths(random) {
-        print_lookup(out, case.image, &path, random.below(40) as usize)?;
-        print_lookup(out, case.image, &path, 300)?;
+        print_lookup(out, case.image, &path, random.below(80) as usize)?;
+        print_lookup(out, case.image, &path, LENT)?;
     }
     print_mend(out, case.image, random)
 }
@@ -58,8 +62,8 @@ fn print_lookup(
     let shown = hexadecimal(path);
     write!(
         out,
-        "lookup {shown} {lent} = {} {}",
-        reply.number, reply.kind
+        "lookup {shown} {lent} = {} {} {}",
+        reply.number, reply.met, reply.kind
     )?;
     let rest = words(&reply.list);
     writeln!(out, " {} {}{rest}", reply.address, reply.block_count)?;
@@ -67,8 +71,8 @@ fn print_lookup(
     let fields = &reply.description;
     write!(
         out,
-        "describe {shown} {lent} = {} {}",
-        reply.number, reply.block_count
+        "describe {shown} {lent} = {} {} {}",
+        reply.number, reply.met, reply.block_count
     )?;
     write!(
         out,
@@ -91,11 +95,11 @@ fn print_mend(out: &mut impl Write, image: &[u8], random: &mut Random) -> std::i
     let log_words = random.below(24) as usize;
     let limit = random.below(6);
     let mut changed = image.to_vec();
-    let reply = mend(&mut changed, 300, log_words, limit);
+    let reply = mend(&mut changed, LENT, log_words, limit);
     write!(
         out,
-        "mend 300 {log_words} {limit} = {} {}",
-        reply.number, reply.block_count
+        "mend {LENT} {log_words} {limit} = {} {} {}",
+        reply.number, reply.met, reply.block_count
     )?;
     write!(
         out,

@@ -4,7 +4,8 @@
 
 use compare::generate::{limits, small};
 use compare::library;
-use compare::reader::front::{audit_bytes, REPLY_WORDS};
+use compare::reader::front::{audit_bytes, BLOCK_BYTES, REPLY_WORDS};
+use compare::reader::MOST_BLOCKS;
 use std::hint::black_box;
 use std::time::{Duration, Instant};
 
@@ -50,7 +51,7 @@ fn main() {
     let mut images = vec![("E", small::e().bytes), ("H", small::h().bytes)];
     images.extend(limits::all());
     let mut slices = Slices {
-        blocks: vec![0; 16 * 1024],
+        blocks: vec![0; BLOCK_BYTES * MOST_BLOCKS],
         reply: vec![0; 8 * REPLY_WORDS],
     };
     println!("| image | bytes | library, ns | plain reader, ns | ratio |");

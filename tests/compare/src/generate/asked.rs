@@ -13,11 +13,19 @@ pub struct Asked {
     pub name: String,
     pub image: Vec<u8>,
     pub path: Vec<u8>,
-    /// So many pairs are lent.
-    pub pairs: usize,
+    /// Words for so many blocks are lent.
+    pub lent: usize,
     pub lookup: Answer,
     /// The number of the description.
     pub description: u32,
+    /// With 6 the address of the block met.
+    pub met: u64,
+}
+
+impl Asked {
+    fn meeting(self, met: u64) -> Asked {
+        Asked { met, ..self }
+    }
 }
 
 /// Room for every block that a walk may enter.
@@ -27,7 +35,7 @@ fn asked(
     name: &str,
     image: &[u8],
     path: &[u8],
-    pairs: usize,
+    lent: usize,
     lookup: Answer,
     description: u32,
 ) -> Asked {
@@ -35,15 +43,16 @@ fn asked(
         name: name.to_string(),
         image: image.to_vec(),
         path: path.to_vec(),
-        pairs,
+        lent,
         lookup,
         description,
+        met: 0,
     }
 }
 
 /// The same refusal of both.
-fn refused(name: &str, image: &[u8], path: &[u8], pairs: usize, number: u32) -> Asked {
-    asked(name, image, path, pairs, (number, 0, 0), number)
+fn refused(name: &str, image: &[u8], path: &[u8], lent: usize, number: u32) -> Asked {
+    asked(name, image, path, lent, (number, 0, 0), number)
 }
 
 pub fn all() -> Vec<Asked> {
@@ -224,7 +233,14 @@ fn data_in_h() -> Vec<Asked> {
         let image = small::h().with(field, 0, value).bytes;
         let name = format!("H, {field} is {value}");
         let found = (0, 2, DATASET);
-        all.push(asked(&name, &image, b"/b", FULL, found, number));
+        // Below the header only the superblock is in the list.
+        let met = if number == 6 && value > ROOT {
+            DATASET
+        } else {
+            0
+        };
+        let described = asked(&name, &image, b"/b", FULL, found, number);
+        all.push(described.meeting(met));
         all.push(refused(&name, &image, b"/a/b", FULL, 17));
         all.push(refused(&name, &image, b"/c", FULL, 15));
     }
@@ -273,12 +289,12 @@ fn other_addresses_in_h() -> Vec<Asked> {
 fn rooms_in_h() -> Vec<Asked> {
     let image = &small::h().bytes;
     let mut all = Vec::new();
-    for pairs in (0..=12).chain([1023, 1024, 1025, 3000]) {
+    for lent in (0..=12).chain([1023, 1024, 1025, 3000]) {
         let mut ask = |path: &[u8], needed: usize, lookup: Answer, description: u32| {
-            all.push(if pairs < needed {
-                refused("H", image, path, pairs, 13)
+            all.push(if lent < needed {
+                refused("H", image, path, lent, 13)
             } else {
-                asked("H", image, path, pairs, lookup, description)
+                asked("H", image, path, lent, lookup, description)
             });
         };
         ask(b"/", 2, (0, 1, ROOT), 20);
@@ -317,15 +333,15 @@ fn rooms_of_the_last_header() -> Vec<Asked> {
             let file = continued(count, layout);
             let image = &file.sheet.bytes;
             let header = 2 + count;
-            for pairs in header - 1..=header + 2 {
-                let room = pairs.min(FULL);
+            for lent in header - 1..=header + 2 {
+                let room = lent.min(FULL);
                 let name = format!("{count} continuations");
                 let found = (0, 2, file.places[1]);
                 all.push(if room < header.max(6) {
-                    refused(&name, image, b"/d", pairs, 13)
+                    refused(&name, image, b"/d", lent, 13)
                 } else {
                     let number = if room < header + data { 13 } else { 0 };
-                    asked(&name, image, b"/d", pairs, found, number)
+                    asked(&name, image, b"/d", lent, found, number)
                 });
             }
         }

@@ -4,6 +4,7 @@ use super::dataset::{Dataset, Datatype, Layout};
 use super::plan::{Content, Group, Object, Plan, Target};
 use super::special::{link, root};
 use super::write::write;
+use crate::reader::{audit, BLOCK_WORDS};
 
 const IMAGE: usize = 1_048_576;
 const BLOCKS: u64 = 1024;
@@ -23,7 +24,7 @@ pub fn everything() -> Vec<u8> {
     }
     let mut plan = Plan::new(objects);
     (plan.leaf_k, plan.internal_k) = (16, 16);
-    exactly_filled(plan)
+    exactly_filled(plan, BLOCKS, IMAGE)
 }
 
 /// Names of its own children, the next group, and many names more.
@@ -55,7 +56,7 @@ pub fn datasets() -> Vec<u8> {
     }
     let mut plan = Plan::new(objects);
     plan.leaf_k = 8;
-    exactly_filled(plan)
+    exactly_filled(plan, BLOCKS, IMAGE)
 }
 
 /// One group whose tree has eight levels of two children below its root.
@@ -69,7 +70,7 @@ pub fn deep() -> Vec<u8> {
     }
     let mut plan = Plan::new(vec![root, Object::new(Content::Committed)]);
     (plan.leaf_k, plan.internal_k) = (1, 1);
-    exactly_filled(plan)
+    exactly_filled(plan, BLOCKS, IMAGE)
 }
 
 fn dataset(rank: usize, bytes: u64) -> Dataset {
@@ -86,16 +87,25 @@ fn dataset(rank: usize, bytes: u64) -> Dataset {
     }
 }
 
-/// Adds continuations to the last object until there are 1,024 blocks, and bytes until there is 1 MiB.
-fn exactly_filled(mut plan: Plan) -> Vec<u8> {
+/// A root group with one dataset, "a", in so many blocks and so many bytes.
+pub fn one_dataset(blocks: u64, bytes: usize) -> Vec<u8> {
+    let objects = vec![
+        root(vec![link("a".to_string(), Target::Object(1))]),
+        Object::new(Content::Dataset(dataset(1, 4))),
+    ];
+    exactly_filled(Plan::new(objects), blocks, bytes)
+}
+
+/// Adds continuations to the last object until there are so many blocks, and bytes until there are so many.
+fn exactly_filled(mut plan: Plan, blocks: u64, bytes: usize) -> Vec<u8> {
     let image = write(&plan, 7).sheet.bytes;
-    let used = crate::reader::audit(&image, 2048).block_count;
-    assert!(used > 0 && used <= BLOCKS && image.len() <= IMAGE);
+    let used = audit(&image, BLOCK_WORDS * BLOCKS as usize).block_count;
+    assert!(used > 0 && used <= blocks && image.len() <= bytes);
     let last = plan.objects.len() - 1;
-    plan.objects[last].parents = vec![0; (BLOCKS - used) as usize];
+    plan.objects[last].parents = vec![0; (blocks - used) as usize];
     let length = write(&plan, 7).sheet.bytes.len();
-    assert!(length <= IMAGE);
-    plan.tail = (IMAGE - length) as u64;
+    assert!(length <= bytes);
+    plan.tail = (bytes - length) as u64;
     write(&plan, 7).sheet.bytes
 }
 

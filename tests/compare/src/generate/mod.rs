@@ -13,6 +13,7 @@ pub mod files;
 pub mod group;
 pub mod header;
 pub mod limits;
+pub mod moved;
 mod orders;
 pub mod paths;
 pub mod plan;

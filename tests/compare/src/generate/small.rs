@@ -7,6 +7,7 @@ use super::header::{self, Message};
 use super::sheet::Sheet;
 use super::superblock::Superblock;
 use super::UNDEFINED;
+use crate::reader::SUPERBLOCK_OWNER;
 
 pub const ROOT: u64 = 96;
 pub const DATASET: u64 = 1128;
@@ -223,3 +224,31 @@ pub fn all() -> Vec<(&'static str, Sheet)> {
         ("C", c()),
     ]
 }
+
+/// The blocks of E in the audit's list, four words each.
+pub const E_BLOCKS: [[u64; 4]; 5] = [
+    [0, 96, 1, SUPERBLOCK_OWNER],
+    [96, 40, 2, 0],
+    [680, 32, 4, 0],
+    [712, 88, 5, 0],
+    [136, 544, 6, 0],
+];
+
+/// Those of H.
+pub const H_BLOCKS: [[u64; 4]; 8] = [
+    [0, 96, 1, SUPERBLOCK_OWNER],
+    [96, 40, 2, 0],
+    [680, 32, 4, 0],
+    [712, 88, 5, 0],
+    [136, 544, 6, 0],
+    [800, 328, 7, 0],
+    [1128, 96, 2, 1],
+    [1224, 4, 8, 1],
+];
+
+/// Those of the dataset "a" of H described.
+pub const A_BLOCKS: [[u64; 4]; 3] = [
+    [0, 96, 1, SUPERBLOCK_OWNER],
+    [1128, 96, 2, 0],
+    [1224, 4, 8, 0],
+];

@@ -11,6 +11,8 @@ use super::{attribute, dataset, superblock};
 #[derive(Clone, PartialEq, Eq, Debug, Default)]
 pub struct AuditReply {
     pub number: u32,
+    /// With 6 the address of the first block entered that the refused one meets.
+    pub met: u64,
     pub block_count: u64,
     pub objects: Vec<Object>,
     pub list: Vec<u64>,
@@ -26,20 +28,22 @@ pub fn audit(image: &[u8], lent_words: usize) -> AuditReply {
     match run(image, super::room(lent_words)) {
         Ok(audited) => AuditReply {
             number: 0,
+            met: 0,
             block_count: audited.blocks.entered().len() as u64,
             list: audited.blocks.list(lent_words),
             objects: audited.objects,
         },
-        // "Any number but 0 returns zeros in every other field, zero-fills every list lent for writing"
+        // "Any number but 0 returns zeros in every other field, zero-fills every list lent for writing", but for `met`.
         Err(stop) => AuditReply {
             number: stop.number(),
+            met: stop.met(),
             list: vec![0; lent_words],
             ..AuditReply::default()
         },
     }
 }
 
-/// Where an audit stops, if it does. No reply says it.
+/// Where an audit stops, if it does. A reply has its number alone, and with 6 the block met.
 pub fn audit_stop(image: &[u8], lent_words: usize) -> Option<Stop> {
     run(image, super::room(lent_words)).err()
 }
@@ -51,6 +55,7 @@ pub fn run(image: &[u8], room: usize) -> Walked<Audited> {
     let mut table = Table::with_root(superblock.root);
     let mut number = 0;
     while let Some(address) = table.address(number) {
+        blocks.walk_for(number as u64);
         // "A shared address is discovered as an object where its message is read, an attribute's with its header's
         // messages."
         let header = header::read(image, &mut blocks, address, |attribute| {

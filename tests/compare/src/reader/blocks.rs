@@ -4,15 +4,34 @@ use super::refusal::{Part, Refusal, Stop, Walked};
 use super::superblock::Superblock;
 use std::ops::Range;
 
+/// "four words: address, length, kind [..] and the number of the object"
+pub const BLOCK_WORDS: usize = 4;
+
+/// "Room is the lesser of 1,024 and the whole pairs lent", "counted in fours".
+pub const MOST_BLOCKS: usize = 1024;
+
+/// "all ones the superblock"
+pub const SUPERBLOCK_OWNER: u64 = u64::MAX;
+
 #[derive(Clone, Copy, PartialEq, Eq, Debug)]
 pub struct Block {
     pub address: u64,
     pub length: u64,
+    pub part: Part,
+    pub owner: u64,
+}
+
+impl Block {
+    pub fn words(&self) -> [u64; BLOCK_WORDS] {
+        [self.address, self.length, self.part as u64, self.owner]
+    }
 }
 
 pub struct Blocks {
     end_of_file: u64,
     room: usize,
+    /// "the number of the object it was walked for"
+    owner: u64,
     /// In the order of entering.
     entered: Vec<Block>,
     /// The same blocks as (first byte, end), by address.
@@ -20,16 +39,30 @@ pub struct Blocks {
 }
 
 impl Blocks {
-    /// A fresh list, "superblock first".
-    pub fn start(superblock: &Superblock, room: usize) -> Walked<Blocks> {
-        let mut blocks = Blocks {
+    /// A list of no block, for a walk of the first object.
+    pub fn empty(superblock: &Superblock, room: usize) -> Blocks {
+        Blocks {
             end_of_file: superblock.end,
             room,
+            owner: 0,
             entered: Vec::with_capacity(room.min(64)),
             by_address: Vec::with_capacity(room.min(64)),
-        };
+        }
+    }
+
+    /// A fresh list, "superblock first".
+    pub fn start(superblock: &Superblock, room: usize) -> Walked<Blocks> {
+        let mut blocks = Blocks::empty(superblock, room);
+        blocks.walk_for(SUPERBLOCK_OWNER);
         blocks.enter(Part::Superblock, 0, superblock.length)?;
+        // "description writes 0 for the rest"; the audit says for each object which it is.
+        blocks.walk_for(0);
         Ok(blocks)
+    }
+
+    /// What is entered from here on belongs to this object.
+    pub fn walk_for(&mut self, owner: u64) {
+        self.owner = owner;
     }
 
     /// The end of `length` bytes at `address` if they lie "inside the end-of-file address".
@@ -73,26 +106,31 @@ impl Blocks {
             return Err(refused(Refusal::NoRoom, 0));
         }
         self.by_address.insert(before, (address, end));
-        self.entered.push(Block { address, length });
+        self.entered.push(Block {
+            address,
+            length,
+            part,
+            owner: self.owner,
+        });
         Ok(address as usize..end as usize)
     }
 
-    /// The address of the first block entered that shares a byte with this one.
+    /// "the address of the first block entered that it meets"
     fn first_met(&self, address: u64, end: u64) -> u64 {
         let meets = |block: &&Block| block.address < end && address < block.address + block.length;
-        self.entered.iter().find(meets).map_or(0, |met| met.address)
+        let met = self.entered.iter().find(meets);
+        met.expect("a block that is met").address
     }
 
     pub fn entered(&self) -> &[Block] {
         &self.entered
     }
 
-    /// The list lent: the pairs entered, then zeros.
+    /// The list lent: the fours entered, then zeros.
     pub fn list(&self, lent_words: usize) -> Vec<u64> {
         let mut list = vec![0; lent_words];
-        for (pair, block) in list.chunks_exact_mut(2).zip(&self.entered) {
-            pair[0] = block.address;
-            pair[1] = block.length;
+        for (four, block) in list.chunks_exact_mut(BLOCK_WORDS).zip(&self.entered) {
+            four.copy_from_slice(&block.words());
         }
         list
     }

@@ -25,6 +25,8 @@ pub struct Description {
 #[derive(Clone, PartialEq, Eq, Debug, Default)]
 pub struct DescribeReply {
     pub number: u32,
+    /// As in the audit.
+    pub met: u64,
     pub block_count: u64,
     pub description: Description,
     pub list: Vec<u64>,
@@ -40,12 +42,14 @@ pub fn describe(image: &[u8], path: &[u8], lent_words: usize) -> DescribeReply {
     match run(image, path, super::room(lent_words)) {
         Ok(described) => DescribeReply {
             number: 0,
+            met: 0,
             block_count: described.blocks.entered().len() as u64,
             list: described.blocks.list(lent_words),
             description: described.description,
         },
         Err(stop) => DescribeReply {
             number: stop.number(),
+            met: stop.met(),
             list: vec![0; lent_words],
             ..DescribeReply::default()
         },

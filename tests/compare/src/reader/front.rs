@@ -1,13 +1,16 @@
 //! The audit, path lookup, dataset description, mending and undo as the C front end offers them: "on numbers and byte
 //! slices; there a word is 8 little-endian bytes", "C returns the number; other fields go as words to a further slice,
-//! spare bytes zero".
+//! spare bytes zero". With answer 6 the first of these words is the address of the block met.
 
 use super::audit::{self, Audited};
-use super::blocks::Blocks;
+use super::blocks::{Blocks, BLOCK_WORDS};
 use super::describe::{self, Described, Description};
 use super::lookup;
 use super::mend;
-use super::refusal::{ask, Located, Refusal, Walked, NO_PLACE};
+use super::refusal::{ask, Located, Refusal, Stop, Walked, NO_PLACE};
+
+/// The bytes of a block in the list.
+pub const BLOCK_BYTES: usize = 8 * BLOCK_WORDS;
 
 /// "block count, objects, then address, stored and true count of each": 2 words and 3 for each of 256 objects.
 pub const REPLY_WORDS: usize = 770;
@@ -33,7 +36,7 @@ pub fn audit_bytes(image: &[u8], blocks: &mut [u8], reply: &mut [u8]) -> u32 {
             write_audit(reply, &audited);
             0
         }
-        Err(stop) => refuse(stop.number(), blocks, reply),
+        Err(stop) => refuse(stop, blocks, reply),
     }
 }
 
@@ -47,7 +50,7 @@ pub fn lookup_bytes(image: &[u8], path: &[u8], blocks: &mut [u8], reply: &mut [u
             write_words(reply, &[0, u64::from(found.kind()), found.address()]);
             0
         }
-        Err(stop) => refuse(stop.number(), blocks, reply),
+        Err(stop) => refuse(stop, blocks, reply),
     }
 }
 
@@ -64,11 +67,11 @@ pub fn describe_bytes(image: &[u8], path: &[u8], blocks: &mut [u8], reply: &mut 
             write_words(reply, &description_words(count, &description));
             0
         }
-        Err(stop) => refuse(stop.number(), blocks, reply),
+        Err(stop) => refuse(stop, blocks, reply),
     }
 }
 
-/// A refused mend has zeros in every field, its list and its log, and so these too are written.
+/// A refused mend has zeros in every field but `met`, in its list and in its log, and so these too are written.
 pub fn mend_bytes(
     image: &mut [u8],
     blocks: &mut [u8],
@@ -78,19 +81,23 @@ pub fn mend_bytes(
 ) -> u32 {
     if let Err(stop) = long_enough(reply, MEND_WORDS) {
         log.fill(0);
-        return refuse(stop.number(), blocks, reply);
+        return refuse(stop, blocks, reply);
     }
     let mended = mend::mend(image, blocks.len() / 8, log.len() / 8, limit);
     write_words(blocks, &mended.list);
     write_words(log, &mended.log);
-    write_words(reply, &[mended.block_count, mended.entries, mended.writes]);
+    if mended.number == Refusal::BlocksMeet.number() {
+        write_words(reply, &[mended.met]);
+    } else {
+        write_words(reply, &[mended.block_count, mended.entries, mended.writes]);
+    }
     mended.number
 }
 
 /// A refused undo has no writes.
 pub fn undo_bytes(image: &mut [u8], log: &[u8], reply: &mut [u8], entries: u64, limit: u64) -> u32 {
     if let Err(stop) = long_enough(reply, UNDO_WORDS) {
-        return refuse(stop.number(), &mut [], reply);
+        return refuse(stop, &mut [], reply);
     }
     let words: Vec<u64> = log
         .chunks_exact(8)
@@ -110,19 +117,23 @@ fn room_of(blocks: &[u8]) -> usize {
     super::room(blocks.len() / 8)
 }
 
-/// "Any number but 0 returns zeros in every other field, zero-fills every list lent for writing".
-fn refuse(number: u32, blocks: &mut [u8], reply: &mut [u8]) -> u32 {
+/// "Any number but 0 returns zeros in every other field, zero-fills every list lent for writing"; with 6 "in C the first word"
+/// is the address of the block met.
+fn refuse(stop: Stop, blocks: &mut [u8], reply: &mut [u8]) -> u32 {
     blocks.fill(0);
     reply.fill(0);
+    let number = stop.number();
+    if number == Refusal::BlocksMeet.number() {
+        write_words(reply, &[stop.met()]);
+    }
     number
 }
 
 fn write_list(blocks: &mut [u8], entered: &Blocks) {
     let entered = entered.entered();
-    let (pairs, rest) = blocks.split_at_mut(16 * entered.len());
-    for (pair, block) in pairs.chunks_exact_mut(16).zip(entered) {
-        pair[..8].copy_from_slice(&block.address.to_le_bytes());
-        pair[8..].copy_from_slice(&block.length.to_le_bytes());
+    let (fours, rest) = blocks.split_at_mut(BLOCK_BYTES * entered.len());
+    for (four, block) in fours.chunks_exact_mut(BLOCK_BYTES).zip(entered) {
+        write_words(four, &block.words());
     }
     rest.fill(0);
 }

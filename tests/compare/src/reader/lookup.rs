@@ -9,6 +9,8 @@ use super::superblock::{self, Superblock};
 #[derive(Clone, PartialEq, Eq, Debug, Default)]
 pub struct LookupReply {
     pub number: u32,
+    /// As in the audit.
+    pub met: u64,
     pub kind: u32,
     pub address: u64,
     pub block_count: u64,
@@ -53,12 +55,12 @@ pub fn lookup(image: &[u8], path: &[u8], lent_words: usize) -> LookupReply {
             reply.kind = found.kind();
             reply.address = found.address();
         }
-        Err(stop) => reply.number = stop.number(),
+        Err(stop) => (reply.number, reply.met) = (stop.number(), stop.met()),
     }
     reply
 }
 
-/// Where a lookup stops, if it does. No reply says it.
+/// Where a lookup stops, if it does. A reply has its number alone, and with 6 the block met.
 pub fn lookup_stop(image: &[u8], path: &[u8], lent_words: usize) -> Option<Stop> {
     find(image, path, super::room(lent_words)).err()
 }

@@ -8,6 +8,8 @@ use super::superblock;
 #[derive(Clone, PartialEq, Eq, Debug, Default)]
 pub struct MendReply {
     pub number: u32,
+    /// As in the audit.
+    pub met: u64,
     pub block_count: u64,
     pub entries: u64,
     pub writes: u64,
@@ -27,6 +29,7 @@ pub fn mend(image: &mut [u8], lent_words: usize, log_words: usize, limit: u64) -
         Ok(reply) => reply,
         Err(stop) => MendReply {
             number: stop.number(),
+            met: stop.met(),
             list: vec![0; lent_words],
             log: vec![0; log_words],
             ..MendReply::default()
@@ -62,6 +65,7 @@ fn try_mend(
     }
     Ok(MendReply {
         number: 0,
+        met: 0,
         block_count: audited.blocks.entered().len() as u64,
         entries,
         writes,

@@ -1,4 +1,4 @@
-//! The separate reader. Comments in quotes are sentences of document 01.
+//! The separate reader. Comments in quotes are sentences of documents 01 and 02.
 
 mod attribute;
 mod audit;
@@ -12,18 +12,21 @@ mod header;
 mod heap;
 mod lookup;
 mod mend;
+mod object;
 mod refusal;
 mod superblock;
 mod table;
 
 pub use audit::{audit, audit_stop, AuditReply};
+pub use blocks::{Block, BLOCK_WORDS, MOST_BLOCKS, SUPERBLOCK_OWNER};
 pub use describe::{describe, DescribeReply, Description};
 pub use lookup::{lookup, lookup_stop, LookupReply};
 pub use mend::{mend, undo, MendReply, UndoReply};
+pub use object::object_alone;
 pub use refusal::{Part, Refusal, Stop};
 pub use table::Object;
 
-/// "Room is the lesser of 1,024 and the whole pairs lent."
+/// "Room and document 01's pairs are counted in fours."
 pub fn room(lent_words: usize) -> usize {
-    (lent_words / 2).min(1024)
+    (lent_words / BLOCK_WORDS).min(MOST_BLOCKS)
 }

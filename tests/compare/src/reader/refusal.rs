@@ -65,6 +65,14 @@ impl Stop {
         }
     }
 
+    /// "Answer 6 now also returns the address of the first block entered that it meets"; with any other it is 0.
+    pub fn met(self) -> u64 {
+        match self {
+            Stop::NotEntered { met, .. } => met,
+            Stop::Fault(..) => 0,
+        }
+    }
+
     /// The place of the fault, or the address of the block that can't be entered.
     pub fn place(self) -> u64 {
         match self {
@@ -74,7 +82,7 @@ impl Stop {
     }
 }
 
-/// What a block is.
+/// What a block is: "kind (1 to 8: superblock, header, continuation, heap, segment, tree, symbol node, data)".
 #[derive(Clone, Copy, PartialEq, Eq, Debug)]
 pub enum Part {
     Superblock = 1,

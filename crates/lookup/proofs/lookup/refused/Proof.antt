@@ -1,4 +1,4 @@
--- The number is the answer.
+-- The number is the answer, and the block met is the refusal's.
 use borrow.Author.Needs.{needs}
 use Rattle.lookup.proofs.lookup.refused.Statement.{statement}
 use Rattle.lookup.proofs.lookup.refused.Tie as tie
@@ -7,8 +7,11 @@ use mathlib.Core.Path.{refl}
 number-of-requires : tie.Need-number-of-requires
 number-of-requires c κs = search needs
 
+met-of-requires : tie.Need-met-of-requires
+met-of-requires c κs = search needs
+
 returns : tie.Need-returns
-returns c = rw (c .number-of .ensures) refl
+returns c = rw (c .before .number-of .ensures, c .met-of .ensures) refl
 
 pub refused-spec : {M : Type 1} → statement M
-refused-spec = tie.close (tie.spec number-of-requires returns)
+refused-spec = tie.close (tie.spec number-of-requires met-of-requires returns)

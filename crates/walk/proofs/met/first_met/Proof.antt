@@ -1,13 +1,12 @@
 -- What the whole search finds is what is found from the ith block on; each test settles one block.
-use Prim.Native.Nat.{_+_, _-_, _≤_}
-use mathlib.Core.Path.{_≡_}
-use mathlib.Core.Logic.{⊎-elim}
-use native.Mathlib.Nat.{sub-zero}
-use lib.ListN.{drop}
+use Prim.Native.Nat.{_+_, _-_, _*_, _≤_}
+use mathlib.Core.Path.{_≡_, refl, sym, _∙_}
+use lib.ListN.{getD, drop}
 use denote.Ref.{now}
+use Rattle.format.specs.Blocks.{block, overlaps}
 use Rattle.walk.specs.Lent.{blocksOf}
 use Rattle.walk.specs.Met.{met}
-use Rattle.walk.proofs.BlockList.{search-hit, search-below, search-above, search-end}
+use Rattle.walk.proofs.BlockList.{search-hit, search-past, search-end}
 use borrow.Author.Needs.{needs}
 use native.Mathlib.Omega.{arith}
 use Rattle.walk.proofs.met.first_met.Statement.{statement}
@@ -15,7 +14,7 @@ use Rattle.walk.proofs.met.first_met.Tie as tie
 
 abbrev Inv-loop : tie.InvT-loop
 Inv-loop blocks count at size end i₀ i =
-    (i ≤ count) × (met (blocksOf count blocks) at size ≡ met (blocksOf (count - i) (drop (i + i) blocks)) at size)
+    (i ≤ count) × (met (blocksOf count blocks) at size ≡ met (drop i (blocksOf count blocks)) at size)
 
 abbrev μ-loop : tie.MeasureT-loop
 μ-loop blocks count at size end i₀ i = count - i
@@ -24,40 +23,49 @@ add-end : tie.Need-add-end Inv-loop μ-loop
 add-end c = search needs
 
 loop-holds : tie.Need-loop-holds Inv-loop μ-loop
-loop-holds c = (search needs, rw sub-zero)
-
-add-b : tie.Need-add-b Inv-loop μ-loop
-add-b c = search needs
+loop-holds c = (search needs, refl)
 
 mul-b : tie.Need-mul-b Inv-loop μ-loop
 mul-b c = search needs
 
+mul-b-2 : tie.Need-mul-b-2 Inv-loop μ-loop
+mul-b-2 c = search needs
+
 shared-slice-read-b : tie.Need-shared-slice-read-b Inv-loop μ-loop
 shared-slice-read-b c = search needs
-
-add-n : tie.Need-add-n Inv-loop μ-loop
-add-n c = search needs
-
-add-n-2 : tie.Need-add-n-2 Inv-loop μ-loop
-add-n-2 c = search needs
 
 mul-n : tie.Need-mul-n Inv-loop μ-loop
 mul-n c = search needs
 
+add-n : tie.Need-add-n Inv-loop μ-loop
+add-n c = search needs
+
+mul-n-2 : tie.Need-mul-n-2 Inv-loop μ-loop
+mul-n-2 c = search needs
+
 shared-slice-read-n : tie.Need-shared-slice-read-n Inv-loop μ-loop
 shared-slice-read-n c = search needs
 
+meets-requires : tie.Need-meets-requires Inv-loop μ-loop
+meets-requires c κs = search needs
+
+-- what the test of a block says of it
+told : (c : tie.After-meets Inv-loop μ-loop) →
+    let s = c .before .before .before .before in
+    let a = s .before .before .args in
+    let i = s .loop .i in
+    c .meets .result ≡ overlaps (block (getD (now (a .blocks)) (4 * i) 0) (getD (now (a .blocks)) (4 * i + 1) 0)) (a .at) (a .size)
+told c =
+    let a = c .before .before .before .before .before .before .args in
+    let size : a .at + a .size - a .at ≡ a .size = omega arith in
+    rw size at (c .meets .ensures)
+
 returns : tie.Need-returns Inv-loop μ-loop
 returns c =
-    let s = c .before .before .before .before .before in
-    let a = s .before .args in
-    search-hit (a .count) (s .loop .i) (now (a .blocks)) (a .at) (a .size) _ (omega arith) (s .loop .inv .1) (omega arith) (omega arith)
-
-returns-2 : tie.Need-returns-2 Inv-loop μ-loop
-returns-2 c =
-    let s = c .before .before .before .before .before .before in
-    let a = s .before .args in
-    search-hit (a .count) (s .loop .i) (now (a .blocks)) (a .at) (a .size) _ (omega arith) (s .loop .inv .1) (omega arith) (omega arith)
+    let at-loop = c .before .before .before .before .before in
+    let a = at-loop .before .before .args in
+    search-hit (a .count) (at-loop .loop .i) (now (a .blocks)) (a .at) (a .size) _ (omega arith) (at-loop .loop .inv .1)
+    (sym (c .if1 .taken) ∙ told (c .before))
 
 add-i : tie.Need-add-i Inv-loop μ-loop
 add-i c = search needs
@@ -67,18 +75,16 @@ loop-less c = search needs
 
 loop-again : tie.Need-loop-again Inv-loop μ-loop
 loop-again c =
-    let s = c .before .before .before .before in
-    let a = s .before .args in (
+    let at-loop = c .before .before .before .before .before in
+    let a = at-loop .before .before .args in (
       omega arith,
-      ⊎-elim
-          (λ w. search-above (a .count) (s .loop .i) (now (a .blocks)) (a .at) (a .size) _ (omega arith) (s .loop .inv .1) (omega arith))
-          (λ w. search-below (a .count) (s .loop .i) (now (a .blocks)) (a .at) (a .size) _ (omega arith) (s .loop .inv .1) (omega arith))
-          (c .if1 .came),
+      search-past (a .count) (at-loop .loop .i) (now (a .blocks)) (a .at) (a .size) _ (omega arith) (at-loop .loop .inv .1)
+          (sym (c .if1 .left) ∙ told (c .before)),
     )
 
-returns-3 : tie.Need-returns-3 Inv-loop μ-loop
-returns-3 c =
-    let a = c .before .before .args in
+returns-2 : tie.Need-returns-2 Inv-loop μ-loop
+returns-2 c =
+    let a = c .before .before .before .args in
     search-end (a .count) (c .before .loop .i) (now (a .blocks)) (a .at) (a .size) _ (c .loop-test .left) (c .before .loop .inv .1)
 
 pub first-met-spec : {M : Type 1} → statement M
@@ -89,16 +95,16 @@ first-met-spec =
     μ-loop
     add-end
     loop-holds
-    add-b
     mul-b
+    mul-b-2
     shared-slice-read-b
-    add-n
-    add-n-2
     mul-n
+    add-n
+    mul-n-2
     shared-slice-read-n
+    meets-requires
     returns
-    returns-2
     add-i
     loop-less
     loop-again
-    returns-3)
+    returns-2)
