@@ -2,10 +2,10 @@
 use mathlib.Core.Path.{_≡_, refl, ap, sym, _∙_}
 use mathlib.Core.Bool.{Bool, true, false, and-false}
 use mathlib.Core.List.{List, [], _∷_, _++_, append-assoc}
-use Prim.Native.Nat.{ℕ, suc, zero, _+_, _-_, _*_, _/_, _≤_, _<_}
+use Prim.Native.Nat.{ℕ, suc, zero, _+_, _-_, _*_, _/_, _%_, _^_, _≤_, _<_}
 use native.Mathlib.Omega.{arith}
 use native.Mathlib.Numerals.{add-one}
-use borrow.Author.Tests.{lt-ltb, le-ltb, le-leb, lt-leb, ltb-true, leb-true}
+use borrow.Author.Tests.{lt-ltb, le-ltb, le-leb, lt-leb, ltb-true, leb-true, leb-false}
 use lib.ListN.{length, take, drop, getD, set, replicate, replicate-append-replicate, drop-of-length-le}
 use lib.Seq.{getD-drop, take-suc-set, length-take-le}
 use lib.Dec.{leb, ltb}
@@ -15,7 +15,7 @@ use Rattle.format.specs.Blocks.{Block, block, blockOf, noObject, ownerAfter, bl
 use Rattle.format.specs.declared.Refusal.{Refusal}
 use Rattle.format.specs.Walk.{notEntered}
 use Rattle.walk.specs.Lent.{blocksOf, Lent, entering}
-use Rattle.walk.specs.Met.{metBlock, met}
+use Rattle.walk.specs.Met.{metBlock, met, Apart}
 use Rattle.walk.specs.declared.met.Met.{Met}
 use Rattle.walk.specs.declared.met.Met.the-variants as mets
 use Rattle.walk.specs.declared.blocks.Entry.the-variants.{Entered, Refused}
@@ -92,6 +92,15 @@ pub overlaps-not-above : (v b m a n : ℕ) → b + m ≤ a → overlaps (blockOf
 unfolding overlaps
 overlaps-not-above v b m a n h = simp (le-ltb a (b + m) h, and-false)
 
+-- Distances modulo 2^64, from b to a and from a to b: where a lies behind b the first isn't wrapped, and else the second isn't.
+pub overlaps-apart : (b m a n behind before : ℕ) → behind < 2 ^ 64 → before < 2 ^ 64 → (behind + b) % 2 ^ 64 ≡ a →
+    (before + a) % 2 ^ 64 ≡ b → m ≤ behind → n ≤ before → overlaps (block b m) a n ≡ false
+overlaps-apart b m a n behind before h k e f l r = go (leb b a) refl
+  where
+    go : (t : Bool) → leb b a ≡ t → overlaps (block b m) a n ≡ false
+    go true q = overlaps-not-above 0 b m a n (omega (arith, leb-true b a q))
+    go false q = overlaps-not-below 0 b m a n (omega (arith, leb-false b a q))
+
 -- the block of number i, by its words
 abbrev pub blockAt : List ℕ → ℕ → Block
 blockAt ws i = blockOf (getD ws (4 * i + 2) 0) (getD ws (4 * i) 0) (getD ws (4 * i + 1) 0)
@@ -126,6 +135,18 @@ module _ (c i : ℕ) (ws : List ℕ) (a n : ℕ) (whole : Met) (h : i < c) (e : 
   pub search-past : false ≡ overlaps (block (getD ws (4 * i) 0) (getD ws (4 * i + 1) 0)) a n → whole ≡ met (drop (i + 1) (blocksOf c ws)) a n
   unfolding overlaps overlapsAny firstMet
   search-past t = turn ∙ rw (← t)
+
+-- four turns at once
+pub four-past : (c i : ℕ) (ws : List ℕ) (a n : ℕ) (whole : Met) → i + 3 < c → whole ≡ met (drop i (blocksOf c ws)) a n →
+    Apart ws i a n × Apart ws (i + 1) a n × Apart ws (i + 2) a n × Apart ws (i + 3) a n → whole ≡ met (drop (i + 4) (blocksOf c ws)) a n
+four-past c i ws a n whole h e t =
+    let two-on : i + 1 + 1 ≡ i + 2 = omega arith in
+    let three-on : i + 2 + 1 ≡ i + 3 = omega arith in
+    let four-on : i + 3 + 1 ≡ i + 4 = omega arith in
+    let one = search-past c i ws a n whole (omega arith) e (sym (t .0)) in
+    let two = search-past c (i + 1) ws a n whole (omega arith) one (sym (t .1)) in
+    let three = search-past c (i + 2) ws a n whole (omega arith) (rw two-on at two) (sym (t .2)) in
+    rw four-on at (search-past c (i + 3) ws a n whole h (rw three-on at three) (sym (t .3)))
 
 pub search-end : (c i : ℕ) (ws : List ℕ) (a n : ℕ) (whole : Met) → c ≤ i → whole ≡ met (drop i (blocksOf c ws)) a n → mets.Nothing ≡ whole
 unfolding overlapsAny

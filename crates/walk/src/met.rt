@@ -1,4 +1,5 @@
 // The first block of the list that a new one meets.
+use crate::apart::apart;
 ghost use mathlib.Core.Path.{_≡_};
 ghost use Prim.Native.Nat.{_+_, _-_, _*_, _^_, _<_, _≤_};
 ghost use lib.ListN.{length};
@@ -42,7 +43,7 @@ pub fn first_met(blocks: &[u64], count: usize, at: u64, size: u64) -> Met
     ensures { λ r. ⌜ r ≡ met (blocksOf count (now (blocks .entry))) at size ⌝ }
 {
     let end = at + size;
-    let mut i = 0;
+    let mut i = apart(blocks, count, at, size);
     while i < count {
         let b = blocks[4 * i];
         let n = blocks[4 * i + 1];

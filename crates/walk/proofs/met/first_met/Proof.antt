@@ -1,6 +1,6 @@
 -- What the whole search finds is what is found from the ith block on; each test settles one block.
 use Prim.Native.Nat.{_+_, _-_, _*_, _≤_}
-use mathlib.Core.Path.{_≡_, refl, sym, _∙_}
+use mathlib.Core.Path.{_≡_, sym, _∙_}
 use lib.ListN.{getD, drop}
 use denote.Ref.{now}
 use Rattle.format.specs.Blocks.{block, overlaps}
@@ -22,8 +22,15 @@ abbrev μ-loop : tie.MeasureT-loop
 add-end : tie.Need-add-end Inv-loop μ-loop
 add-end c = search needs
 
+apart-requires : tie.Need-apart-requires Inv-loop μ-loop
+apart-requires c κs = search needs
+
 loop-holds : tie.Need-loop-holds Inv-loop μ-loop
-loop-holds c = (search needs, refl)
+loop-holds c = c .apart .ensures
+
+-- what the loop is given
+abbrev given : tie.At-loop Inv-loop μ-loop → tie.Start Inv-loop μ-loop
+given c = c .before .before .before
 
 mul-b : tie.Need-mul-b Inv-loop μ-loop
 mul-b c = search needs
@@ -51,19 +58,19 @@ meets-requires c κs = search needs
 
 -- what the test of a block says of it
 told : (c : tie.After-meets Inv-loop μ-loop) →
-    let s = c .before .before .before .before in
-    let a = s .before .before .args in
-    let i = s .loop .i in
+    let at-loop = c .before .before .before .before in
+    let a = given at-loop .args in
+    let i = at-loop .loop .i in
     c .meets .result ≡ overlaps (block (getD (now (a .blocks)) (4 * i) 0) (getD (now (a .blocks)) (4 * i + 1) 0)) (a .at) (a .size)
 told c =
-    let a = c .before .before .before .before .before .before .args in
+    let a = given (c .before .before .before .before) .args in
     let size : a .at + a .size - a .at ≡ a .size = omega arith in
     rw size at (c .meets .ensures)
 
 returns : tie.Need-returns Inv-loop μ-loop
 returns c =
     let at-loop = c .before .before .before .before .before in
-    let a = at-loop .before .before .args in
+    let a = given at-loop .args in
     search-hit (a .count) (at-loop .loop .i) (now (a .blocks)) (a .at) (a .size) _ (omega arith) (at-loop .loop .inv .1)
     (sym (c .if1 .taken) ∙ told (c .before))
 
@@ -76,7 +83,7 @@ loop-less c = search needs
 loop-again : tie.Need-loop-again Inv-loop μ-loop
 loop-again c =
     let at-loop = c .before .before .before .before .before in
-    let a = at-loop .before .before .args in (
+    let a = given at-loop .args in (
       omega arith,
       search-past (a .count) (at-loop .loop .i) (now (a .blocks)) (a .at) (a .size) _ (omega arith) (at-loop .loop .inv .1)
           (sym (c .if1 .left) ∙ told (c .before)),
@@ -84,7 +91,7 @@ loop-again c =
 
 returns-2 : tie.Need-returns-2 Inv-loop μ-loop
 returns-2 c =
-    let a = c .before .before .before .args in
+    let a = given (c .before) .args in
     search-end (a .count) (c .before .loop .i) (now (a .blocks)) (a .at) (a .size) _ (c .loop-test .left) (c .before .loop .inv .1)
 
 pub first-met-spec : {M : Type 1} → statement M
@@ -94,6 +101,7 @@ first-met-spec =
     Inv-loop
     μ-loop
     add-end
+    apart-requires
     loop-holds
     mul-b
     mul-b-2
