@@ -1,6 +1,6 @@
 -- The reply in C of any call, from its number, its block list and its words.
 use Prim.Native.Nat.{ℕ, zero, suc, _*_, _/_, _≤_, _<_}
-use mathlib.Core.Path.{_≡_, refl, _∙_}
+use mathlib.Core.Path.{_≡_, refl}
 use mathlib.Core.List.{List}
 use native.Mathlib.Omega.{arith}
 use borrow.Author.Tests.{le-leb, lt-leb}
@@ -12,7 +12,6 @@ use Rattle.format.specs.Walk.{answerOf, Outcome, done, refused}
 use Rattle.format.specs.Front.{paddedBytes, refusalWords, replyWords, CReply, shortReply}
 use Rattle.walk.specs.Lent.{left}
 use Rattle.words.proofs.Words.{padded-zeros}
-use Rattle.laws.proofs.MoreRoom.{HadRoom}
 use Rattle.front.proofs.Lent.{room-lent, used-bytes}
 
 -- the bytes of a reply with this number, block met, list and words
@@ -54,8 +53,3 @@ module _ {A : Type 0} (l lent n count : ℕ) (list : List ℕ) (h : lent ≤ l /
   pub list-zero : (o : Outcome A) → Ends lent o n count list → (n ≡ 0 → ⊥) → paddedBytes l list ≡ replicate l 0
   list-zero (done a bs) e z = absurd (z (e .0))
   list-zero (refused m bs) e z = rw (e .2, padded-zeros l lent (omega arith))
-
--- a reply whose number isn't 13 is of a run that had room
-pub had-room : {A : Type 0} (lent n count : ℕ) (list : List ℕ) (o : Outcome A) → Ends lent o n count list → (n ≡ 13 → ⊥) → HadRoom o
-had-room lent n count list (done a bs) e z = tt
-had-room lent n count list (refused m bs) e z = λ q. z (e .0 ∙ q)

@@ -5,8 +5,10 @@ use mathlib.Core.List.{List}
 use native.Mathlib.Omega.{arith}
 use lib.ListN.{length, take, replicate}
 use lib.Seq.{take-at, length-take-le}
+use Rattle.format.specs.Limits.{blocksMost}
 use Rattle.format.specs.Blocks.{Block, roomOf, noObject, blockWords, blockList}
 use Rattle.format.specs.Front.{paddedBytes}
+use Rattle.walk.proofs.BlockList.{room-most}
 use Rattle.walk.proofs.Owners.{length-blockWords}
 use Rattle.words.proofs.Words.{padded-twice}
 
@@ -19,6 +21,10 @@ roomOf-room k = omega arith
 pub room-lent : (k : ℕ) → 4 * roomOf k ≤ k
 unfolding roomOf
 room-lent k = omega arith
+
+-- no more blocks than a room has fit a list for all blocks, and their words are lent
+pub room-within : (m room k : ℕ) → room ≡ roomOf k → m ≤ room → (m ≤ blocksMost) × (4 * m ≤ k)
+room-within m room k e h = (omega (arith, room-most k), omega (arith, room-lent k))
 
 -- so many words are room for no more than is lent
 pub less-room : (m k : ℕ) → m ≤ roomOf k → roomOf (4 * m) ≤ roomOf k

@@ -3,3 +3,5 @@ pub mod Lent
 pub mod Ended
 pub mod Follow
 pub mod AuditRoom
+pub mod Call
+pub mod Part

@@ -1,6 +1,7 @@
-// What the calls share: the answer for want of room, the sizes of a working list, zeros, and the reply to a refusal.
+// What the calls share: the answer for want of room, the room that is tried first, zeros, and the reply to a refusal.
 use format::answers;
 ghost use mathlib.Core.Path.{_≡_};
+ghost use mathlib.Core.Bool.{true, false};
 ghost use Prim.Native.Nat.{_≤_};
 ghost use lib.ListN.{length, replicate};
 ghost use Rattle.format.specs.Front.{paddedBytes, refusalWords};
@@ -10,9 +11,36 @@ pub const NO_ROOM: u32 = 13;
 
 // A working list for all blocks takes longer to clear than a small file to read. So an image of at most so many bytes is first
 // read with a list for few blocks.
-pub const SMALL_IMAGE: usize = 16384;
+const SMALL_IMAGE: usize = 16384;
 
 pub const FEW_BLOCKS: usize = 64;
+
+// The room that a call is tried with first, of the room that it has.
+pub fn first_room(image: usize, room: usize) -> usize
+    ensures { λ r. ⌜ r ≤ room ⌝ }
+{
+    if SMALL_IMAGE < image {
+        return room;
+    }
+    if room < FEW_BLOCKS {
+        return room;
+    }
+    FEW_BLOCKS
+}
+
+// Whether a call that was tried with less room is decided: it didn't end for want of room, or there is no more.
+pub fn decided(number: u32, first: usize, room: usize) -> bool
+    ensures { λ r. ⌜ (r ≡ true → number ≡ 13 → first ≡ room) ⌝ }
+    ensures { λ r. ⌜ (r ≡ false → number ≡ 13) ⌝ }
+{
+    if number != NO_ROOM {
+        return true;
+    }
+    if first == room {
+        return true;
+    }
+    false
+}
 
 // Zeros for both slices.
 pub fn clear_both(blocks: &mut [u8], reply: &mut [u8])

@@ -1,10 +1,9 @@
 -- The reply in C of an audit: with the words that a list has, and the same with more.
 use Prim.Native.Nat.{ℕ, _+_, _*_, _/_, _≤_, _<_}
-use mathlib.Core.Path.{_≡_, refl, ap, sym, _∙_}
+use mathlib.Core.Path.{_≡_, refl, ap, _∙_}
 use mathlib.Core.List.{List, _∷_}
 use native.Mathlib.Omega.{arith}
 use lib.ListN.{length, take, replicate}
-use lib.Seq.{length-take-le}
 use Rattle.format.specs.Limits.{objectsMost}
 use Rattle.format.specs.Blocks.{roomOf}
 use Rattle.format.specs.Walk.{Outcome, done, refused}
@@ -14,14 +13,16 @@ use Rattle.format.specs.Answers.{AuditReply, auditEnd, audit}
 use Rattle.format.specs.Front.{paddedBytes, refusalWords, objectWords, CReply, cAuditEnd, cAudit}
 use Rattle.ledger.specs.Report.{countedPlaces}
 use Rattle.walk.specs.Lent.{left}
+use Rattle.laws.proofs.MoreRoom.{HadRoom}
 use Rattle.laws.proofs.MoreRuns.{audit-run-more}
 use Rattle.words.proofs.Words.{padded-zeros}
 use Rattle.audit.specs.Audit.{AuditedIs, replyOf}
 use Rattle.audit.specs.declared.Audited.{Audited}
 use Rattle.front.proofs.Reply.{length-places}
-use Rattle.front.proofs.Lent.{room-lent, less-room, list-bytes}
+use Rattle.front.proofs.Lent.{list-bytes}
 use Rattle.front.proofs.AuditRoom.{run-room, run-fits}
-use Rattle.front.proofs.Ended.{refusal-words, too-short, long-enough, Ends, count-fits, list-used, list-zero, had-room}
+use Rattle.front.proofs.Ended.{refusal-words, too-short, long-enough, Ends, count-fits, list-used, list-zero}
+use Rattle.front.proofs.Call.{Call, enough}
 
 -- the number, the block count and the list of a reply
 ends : (im : List ℕ) (lent : ℕ) (o : Outcome (List Linked)) (a : AuditReply) → a ≡ auditEnd im lent o → Ends lent o (a .number) (a .blockCount) (a .list)
@@ -60,41 +61,30 @@ module _ (im : List ℕ) (l r : ℕ) where
         let zeros = list-zero l lent (a .number) (a .«block_count») ws h (auditRun im lent) at-end z in
         rw (← (d .reply), e, f, zeros, refusal-words (a .number) (a .met) _ z)
 
-  -- a part of a list was lent
-  pub part-reply : (x : CReply) (zs : List ℕ) (n : ℕ) → n ≤ length zs → x ≡ cAuditEnd l r (audit im (length (take n zs))) →
-      x ≡ cAuditEnd l r (audit im n)
-  part-reply x zs n h e = e ∙ ap (λ (k : ℕ). cAuditEnd l r (audit im k)) (length-take-le n zs h)
-
-  -- a run that is the same with other words lent gives the same bytes
-  end-same : (lent more : ℕ) (o : Outcome (List Linked)) → lent ≤ l / 8 → more ≤ l / 8 → 4 * length (left o) ≤ lent → 4 * length (left o) ≤ more →
+  same : (lent more : ℕ) (o : Outcome (List Linked)) → lent ≤ l / 8 → more ≤ l / 8 → 4 * length (left o) ≤ lent → 4 * length (left o) ≤ more →
       cAuditEnd l r (auditEnd im lent o) ≡ cAuditEnd l r (auditEnd im more o)
-  end-same lent more (done os bs) h k f g = rw (list-bytes l lent bs f h, list-bytes l more bs g k)
-  end-same lent more (refused x bs) h k f g = rw (padded-zeros l lent (omega arith), padded-zeros l more (omega arith))
+  same lent more (done os bs) h k f g = rw (list-bytes l lent bs f h, list-bytes l more bs g k)
+  same lent more (refused x bs) h k f g = rw (padded-zeros l lent (omega arith), padded-zeros l more (omega arith))
 
-  run-same : (lent : ℕ) → lent ≤ l / 8 → auditRun im lent ≡ auditRun im (l / 8) → cAuditEnd l r (audit im lent) ≡ cAuditEnd l r (audit im (l / 8))
-  unfolding audit
-  run-same lent h e =
-      let fits : 4 * length (left (auditRun im lent)) ≤ lent = omega (arith, run-fits im lent, room-lent lent) in
-      let more : 4 * length (left (auditRun im lent)) ≤ l / 8 = omega arith in
-      end-same lent (l / 8) (auditRun im lent) h (omega arith) fits more ∙ ap (λ (o : Outcome (List Linked)). cAuditEnd l r (auditEnd im (l / 8) o)) e
+  told : (lent : ℕ) (o : Outcome (List Linked)) → (auditEnd im lent o .number ≡ 13 → ⊥) → HadRoom o
+  told lent (done os bs) h = tt
+  told lent (refused x bs) h = h
 
-  -- The reply x with so many words lent, where the reply's slice is long enough.
-  module _ (long : 2 + 3 * objectsMost ≤ r / 8) (m : ℕ) (x : CReply) (is : x ≡ cAuditEnd l r (audit im (4 * m))) where
-    whole : cAuditEnd l r (audit im (4 * m)) ≡ cAuditEnd l r (audit im (l / 8)) → x ≡ cAudit im l r
-    unfolding cAudit
-    whole e = is ∙ e ∙ long-enough l r (2 + 3 * objectsMost) _ long
+  call : Call l (List Linked) CReply
+  call = record {
+    run = auditRun im;
+    end = λ lent o. cAuditEnd l r (auditEnd im lent o);
+    number = λ x. x .number;
+    room = run-room im;
+    fits = run-fits im;
+    more = audit-run-more im;
+    same = same;
+    told = told;
+  }
 
-    -- the whole room was lent
-    pub all-reply : m ≡ roomOf (l / 8) → x ≡ cAudit im l r
-    all-reply e = whole (run-same (4 * m) (omega (arith, room-lent (l / 8))) (rw e (run-room im (l / 8))))
-
-    -- less was lent, and it was enough
-    pub few-reply : m ≤ roomOf (l / 8) → (x .number ≡ 13 → ⊥) → x ≡ cAudit im l r
-    few-reply h z =
-        let number : (audit im (4 * m) .number ≡ 13 → ⊥) = λ q. z (ap (λ (y : CReply). y .number) is ∙ q) in
-        let room = had-room (4 * m) _ _ _ (auditRun im (4 * m)) (audit-ends im (4 * m) _ refl) number in
-        whole (run-same (4 * m) (omega (arith, room-lent (l / 8))) (sym (audit-run-more im (4 * m) (l / 8) (less-room m (l / 8) h) room)))
-
--- slices that came back with the same lengths
-pub same-slices : (l r l′ r′ : ℕ) (x : CReply) (a : AuditReply) → l′ ≡ l → r′ ≡ r → x ≡ cAuditEnd l′ r′ a → x ≡ cAuditEnd l r a
-same-slices l r l′ r′ x a e f q = rw (← e, ← f) q
+  -- the reply with room for m blocks is the call's, if that is all the room or it didn't end for want of room
+  pub whole-reply : 2 + 3 * objectsMost ≤ r / 8 → (m : ℕ) (x : CReply) → x ≡ cAuditEnd l r (audit im (4 * m)) → m ≤ roomOf (l / 8) →
+      (x .number ≡ 13 → m ≡ roomOf (l / 8)) → x ≡ cAudit im l r
+  unfolding cAudit audit call
+  whole-reply long m x is h all =
+      is ∙ enough call m h (λ q. all (ap (λ (y : CReply). y .number) is ∙ q)) ∙ long-enough l r (2 + 3 * objectsMost) _ long

@@ -48,17 +48,31 @@ fn write_reply(
     words::clear_from(reply, 16 + 24 * i);
 }
 
-// The audit with the words of a list, which are no more than those of `blocks`.
-fn audit_with(image: &[u8], list: &mut [u64], blocks: &mut [u8], reply: &mut [u8]) -> u32
-    requires { ⌜ length (now list) ≤ length (now blocks) / 8 ⌝ }
+// The audit with room for so many blocks in a list.
+fn audit_with(
+    image: &[u8],
+    list: &mut [u64],
+    blocks: &mut [u8],
+    reply: &mut [u8],
+    room: usize,
+) -> u32
+    requires { ⌜ 4 * room ≤ length (now list) ⌝ }
+    requires { ⌜ 4 * room ≤ length (now blocks) / 8 ⌝ }
     requires { ⌜ 2 + 3 * objectsMost ≤ length (now reply) / 8 ⌝ }
     ensures { λ r. ⌜ _≡_ {A = CReply} (record { number = r; list = now (blocks .exit); reply = now (reply .exit) })
-        (cAuditEnd (length (now (blocks .entry))) (length (now (reply .entry))) (definitions.audit (now (image .entry)) (length (now (list .entry))))) ⌝ }
+        (cAuditEnd (length (now (blocks .entry))) (length (now (reply .entry))) (definitions.audit (now (image .entry)) (4 * room))) ⌝ }
 {
     let mut addresses = [0u64; OBJECTS_MOST];
     let mut stored = [0u32; OBJECTS_MOST];
     let mut true_counts = [0u32; OBJECTS_MOST];
-    let r = audit::audit_into(image, list, &mut addresses, &mut stored, &mut true_counts);
+    let n = 4 * room;
+    let r = audit::audit_into(
+        image,
+        &mut list[..n],
+        &mut addresses,
+        &mut stored,
+        &mut true_counts,
+    );
     if r.number != answers::DONE {
         return front::refuse(blocks, reply, r.number, r.met);
     }
@@ -75,7 +89,7 @@ fn audit_with(image: &[u8], list: &mut [u64], blocks: &mut [u8], reply: &mut [u8
     0
 }
 
-// The audit with room for few blocks, and for all.
+// The audit with a list for few blocks, and with one for all.
 fn audit_few(image: &[u8], blocks: &mut [u8], reply: &mut [u8], room: usize) -> u32
     requires { ⌜ room ≤ fewBlocks ⌝ }
     requires { ⌜ 4 * room ≤ length (now blocks) / 8 ⌝ }
@@ -84,8 +98,7 @@ fn audit_few(image: &[u8], blocks: &mut [u8], reply: &mut [u8], room: usize) -> 
         (cAuditEnd (length (now (blocks .entry))) (length (now (reply .entry))) (definitions.audit (now (image .entry)) (4 * room))) ⌝ }
 {
     let mut list = [0u64; 4 * FEW_BLOCKS];
-    let n = 4 * room;
-    audit_with(image, &mut list[..n], blocks, reply)
+    audit_with(image, &mut list, blocks, reply, room)
 }
 
 fn audit_all(image: &[u8], blocks: &mut [u8], reply: &mut [u8], room: usize) -> u32
@@ -96,8 +109,21 @@ fn audit_all(image: &[u8], blocks: &mut [u8], reply: &mut [u8], room: usize) -> 
         (cAuditEnd (length (now (blocks .entry))) (length (now (reply .entry))) (definitions.audit (now (image .entry)) (4 * room))) ⌝ }
 {
     let mut list = [0u64; 4 * BLOCKS_MOST];
-    let n = 4 * room;
-    audit_with(image, &mut list[..n], blocks, reply)
+    audit_with(image, &mut list, blocks, reply, room)
+}
+
+// The audit with room for so many blocks, in the smaller list that has it.
+fn audit_in(image: &[u8], blocks: &mut [u8], reply: &mut [u8], room: usize) -> u32
+    requires { ⌜ room ≤ blocksMost ⌝ }
+    requires { ⌜ 4 * room ≤ length (now blocks) / 8 ⌝ }
+    requires { ⌜ 2 + 3 * objectsMost ≤ length (now reply) / 8 ⌝ }
+    ensures { λ r. ⌜ _≡_ {A = CReply} (record { number = r; list = now (blocks .exit); reply = now (reply .exit) })
+        (cAuditEnd (length (now (blocks .entry))) (length (now (reply .entry))) (definitions.audit (now (image .entry)) (4 * room))) ⌝ }
+{
+    if room <= FEW_BLOCKS {
+        return audit_few(image, blocks, reply, room);
+    }
+    audit_all(image, blocks, reply, room)
 }
 
 // The audit of an image. `blocks` gets the block list, `reply` the other fields; the number is returned.
@@ -111,15 +137,10 @@ pub fn audit_bytes(image: &[u8], blocks: &mut [u8], reply: &mut [u8]) -> u32
         return front::NO_ROOM;
     }
     let room = walk::blocks::room(blocks.len() / 8);
-    if room <= FEW_BLOCKS {
-        return audit_few(image, blocks, reply, room);
-    }
-    if front::SMALL_IMAGE < image.len() {
-        return audit_all(image, blocks, reply, room);
-    }
-    let number = audit_few(image, blocks, reply, FEW_BLOCKS);
-    if number != front::NO_ROOM {
+    let first = front::first_room(image.len(), room);
+    let number = audit_in(image, blocks, reply, first);
+    if front::decided(number, first, room) {
         return number;
     }
-    audit_all(image, blocks, reply, room)
+    audit_in(image, blocks, reply, room)
 }

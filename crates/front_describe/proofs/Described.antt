@@ -1,10 +1,9 @@
 -- The reply in C of a description: with the words that a list has, and the same with more.
 use Prim.Native.Nat.{ℕ, _+_, _*_, _/_, _≤_, _<_}
-use mathlib.Core.Path.{_≡_, refl, ap, sym, _∙_}
+use mathlib.Core.Path.{_≡_, refl, ap, _∙_}
 use mathlib.Core.List.{List, []}
 use native.Mathlib.Omega.{arith}
 use lib.ListN.{length, take, replicate}
-use lib.Seq.{length-take-le}
 use Rattle.format.specs.Limits.{rankMost}
 use Rattle.format.specs.Blocks.{roomOf}
 use Rattle.format.specs.Walk.{Outcome, done, refused}
@@ -14,17 +13,15 @@ use Rattle.format.specs.Describe.{describeWalk, describeRun}
 use Rattle.format.specs.Answers.{DescribeReply, describeEnd, describe}
 use Rattle.format.specs.Front.{paddedBytes, refusalWords, descriptionWords, CReply, cDescribeEnd, cDescribe}
 use Rattle.walk.specs.Lent.{left}
+use Rattle.laws.proofs.MoreRoom.{HadRoom}
 use Rattle.laws.proofs.MoreRuns.{describe-run-more}
 use Rattle.words.proofs.Words.{padded-zeros}
 use Rattle.describe.specs.Describe.{replyOf}
 use Rattle.describe.specs.declared.Description.{Description}
-use Rattle.front.proofs.Lent.{room-lent, less-room, list-bytes}
+use Rattle.front.proofs.Lent.{list-bytes}
 use Rattle.front.proofs.Follow.{path-room, path-fits}
-use Rattle.front.proofs.Ended.{refusal-words, too-short, long-enough, Ends, count-fits, list-used, list-zero, had-room}
-
-run-room : (im path : List ℕ) (k : ℕ) → describeRun im path (4 * roomOf k) ≡ describeRun im path k
-unfolding describeRun
-run-room im path k = path-room im k describeWalk _ (parsePath path)
+use Rattle.front.proofs.Ended.{refusal-words, too-short, long-enough, Ends, count-fits, list-used, list-zero}
+use Rattle.front.proofs.Call.{Call, enough}
 
 run-fits : (im path : List ℕ) (k : ℕ) → length (left (describeRun im path k)) ≤ roomOf k
 unfolding describeRun
@@ -68,42 +65,31 @@ module _ (im path : List ℕ) (l r : ℕ) where
         let zeros = list-zero l lent (a .number) (a .«block_count») ws h (describeRun im path lent) at-end z in
         rw (← d, e, f, zeros, refusal-words (a .number) (a .met) _ z)
 
-  -- a part of a list was lent
-  pub part-reply : (x : CReply) (zs : List ℕ) (n : ℕ) → n ≤ length zs → x ≡ cDescribeEnd l r (describe im path (length (take n zs))) →
-      x ≡ cDescribeEnd l r (describe im path n)
-  part-reply x zs n h e = e ∙ ap (λ (k : ℕ). cDescribeEnd l r (describe im path k)) (length-take-le n zs h)
-
-  -- a run that is the same with other words lent gives the same bytes
-  end-same : (lent more : ℕ) (o : Outcome Dataset) → lent ≤ l / 8 → more ≤ l / 8 → 4 * length (left o) ≤ lent → 4 * length (left o) ≤ more →
+  same : (lent more : ℕ) (o : Outcome Dataset) → lent ≤ l / 8 → more ≤ l / 8 → 4 * length (left o) ≤ lent → 4 * length (left o) ≤ more →
       cDescribeEnd l r (describeEnd lent o) ≡ cDescribeEnd l r (describeEnd more o)
-  end-same lent more (done d bs) h k f g = rw (list-bytes l lent bs f h, list-bytes l more bs g k)
-  end-same lent more (refused x bs) h k f g = rw (padded-zeros l lent (omega arith), padded-zeros l more (omega arith))
+  same lent more (done d bs) h k f g = rw (list-bytes l lent bs f h, list-bytes l more bs g k)
+  same lent more (refused x bs) h k f g = rw (padded-zeros l lent (omega arith), padded-zeros l more (omega arith))
 
-  run-same : (lent : ℕ) → lent ≤ l / 8 → describeRun im path lent ≡ describeRun im path (l / 8) →
-      cDescribeEnd l r (describe im path lent) ≡ cDescribeEnd l r (describe im path (l / 8))
-  unfolding describe
-  run-same lent h e =
-      let fits : 4 * length (left (describeRun im path lent)) ≤ lent = omega (arith, run-fits im path lent, room-lent lent) in
-      let more : 4 * length (left (describeRun im path lent)) ≤ l / 8 = omega arith in
-      end-same lent (l / 8) (describeRun im path lent) h (omega arith) fits more ∙ ap (λ (o : Outcome Dataset). cDescribeEnd l r (describeEnd (l / 8) o)) e
+  told : (lent : ℕ) (o : Outcome Dataset) → (describeEnd lent o .number ≡ 13 → ⊥) → HadRoom o
+  told lent (done d bs) h = tt
+  told lent (refused x bs) h = h
 
-  -- The reply x with so many words lent, where the reply's slice is long enough.
-  module _ (long : 10 + 2 * rankMost ≤ r / 8) (m : ℕ) (x : CReply) (is : x ≡ cDescribeEnd l r (describe im path (4 * m))) where
-    whole : cDescribeEnd l r (describe im path (4 * m)) ≡ cDescribeEnd l r (describe im path (l / 8)) → x ≡ cDescribe im path l r
-    unfolding cDescribe
-    whole e = is ∙ e ∙ long-enough l r (10 + 2 * rankMost) _ long
+  call : Call l Dataset CReply
+  unfolding describeRun
+  call = record {
+    run = describeRun im path;
+    end = λ lent o. cDescribeEnd l r (describeEnd lent o);
+    number = λ x. x .number;
+    room = λ lent. path-room im lent describeWalk _ (parsePath path);
+    fits = run-fits im path;
+    more = λ lent lent′ h had. describe-run-more im lent lent′ h path had;
+    same = same;
+    told = told;
+  }
 
-    -- the whole room was lent
-    pub all-reply : m ≡ roomOf (l / 8) → x ≡ cDescribe im path l r
-    all-reply e = whole (run-same (4 * m) (omega (arith, room-lent (l / 8))) (rw e (run-room im path (l / 8))))
-
-    -- less was lent, and it was enough
-    pub few-reply : m ≤ roomOf (l / 8) → (x .number ≡ 13 → ⊥) → x ≡ cDescribe im path l r
-    few-reply h z =
-        let number : (describe im path (4 * m) .number ≡ 13 → ⊥) = λ q. z (ap (λ (y : CReply). y .number) is ∙ q) in
-        let room = had-room (4 * m) _ _ _ (describeRun im path (4 * m)) (describe-ends im path (4 * m) _ refl) number in
-        whole (run-same (4 * m) (omega (arith, room-lent (l / 8))) (sym (describe-run-more im (4 * m) (l / 8) (less-room m (l / 8) h) path room)))
-
--- slices that came back with the same lengths
-pub same-slices : (l r l′ r′ : ℕ) (x : CReply) (a : DescribeReply) → l′ ≡ l → r′ ≡ r → x ≡ cDescribeEnd l′ r′ a → x ≡ cDescribeEnd l r a
-same-slices l r l′ r′ x a e f q = rw (← e, ← f) q
+  -- the reply with room for m blocks is the call's, if that is all the room or it didn't end for want of room
+  pub whole-reply : 10 + 2 * rankMost ≤ r / 8 → (m : ℕ) (x : CReply) → x ≡ cDescribeEnd l r (describe im path (4 * m)) → m ≤ roomOf (l / 8) →
+      (x .number ≡ 13 → m ≡ roomOf (l / 8)) → x ≡ cDescribe im path l r
+  unfolding cDescribe describe call
+  whole-reply long m x is h all =
+      is ∙ enough call m h (λ q. all (ap (λ (y : CReply). y .number) is ∙ q)) ∙ long-enough l r (10 + 2 * rankMost) _ long

@@ -51,21 +51,24 @@ fn write_description(reply: &mut [u8], d: Description)
     words::clear_from(reply, 592);
 }
 
-// The description with the words of a list, which are no more than those of `blocks`.
+// The description with room for so many blocks in a list.
 fn describe_with(
     image: &[u8],
     path: &[u8],
     list: &mut [u64],
     blocks: &mut [u8],
     reply: &mut [u8],
+    room: usize,
 ) -> u32
-    requires { ⌜ length (now list) ≤ length (now blocks) / 8 ⌝ }
+    requires { ⌜ 4 * room ≤ length (now list) ⌝ }
+    requires { ⌜ 4 * room ≤ length (now blocks) / 8 ⌝ }
     requires { ⌜ 10 + 2 * rankMost ≤ length (now reply) / 8 ⌝ }
     ensures { λ r. ⌜ _≡_ {A = CReply} (record { number = r; list = now (blocks .exit); reply = now (reply .exit) })
         (cDescribeEnd (length (now (blocks .entry))) (length (now (reply .entry)))
-        (definitions.describe (now (image .entry)) (now (path .entry)) (length (now (list .entry))))) ⌝ }
+        (definitions.describe (now (image .entry)) (now (path .entry)) (4 * room))) ⌝ }
 {
-    let r = describe::describe(image, path, list);
+    let n = 4 * room;
+    let r = describe::describe(image, path, &mut list[..n]);
     if r.number != answers::DONE {
         return front::refuse(blocks, reply, r.number, r.met);
     }
@@ -75,7 +78,7 @@ fn describe_with(
     0
 }
 
-// The description with room for few blocks, and for all.
+// The description with a list for few blocks, and with one for all.
 fn describe_few(image: &[u8], path: &[u8], blocks: &mut [u8], reply: &mut [u8], room: usize) -> u32
     requires { ⌜ room ≤ fewBlocks ⌝ }
     requires { ⌜ 4 * room ≤ length (now blocks) / 8 ⌝ }
@@ -85,8 +88,7 @@ fn describe_few(image: &[u8], path: &[u8], blocks: &mut [u8], reply: &mut [u8], 
         (definitions.describe (now (image .entry)) (now (path .entry)) (4 * room))) ⌝ }
 {
     let mut list = [0u64; 4 * FEW_BLOCKS];
-    let n = 4 * room;
-    describe_with(image, path, &mut list[..n], blocks, reply)
+    describe_with(image, path, &mut list, blocks, reply, room)
 }
 
 fn describe_all(image: &[u8], path: &[u8], blocks: &mut [u8], reply: &mut [u8], room: usize) -> u32
@@ -98,8 +100,22 @@ fn describe_all(image: &[u8], path: &[u8], blocks: &mut [u8], reply: &mut [u8], 
         (definitions.describe (now (image .entry)) (now (path .entry)) (4 * room))) ⌝ }
 {
     let mut list = [0u64; 4 * BLOCKS_MOST];
-    let n = 4 * room;
-    describe_with(image, path, &mut list[..n], blocks, reply)
+    describe_with(image, path, &mut list, blocks, reply, room)
+}
+
+// The description with room for so many blocks, in the smaller list that has it.
+fn describe_in(image: &[u8], path: &[u8], blocks: &mut [u8], reply: &mut [u8], room: usize) -> u32
+    requires { ⌜ room ≤ blocksMost ⌝ }
+    requires { ⌜ 4 * room ≤ length (now blocks) / 8 ⌝ }
+    requires { ⌜ 10 + 2 * rankMost ≤ length (now reply) / 8 ⌝ }
+    ensures { λ r. ⌜ _≡_ {A = CReply} (record { number = r; list = now (blocks .exit); reply = now (reply .exit) })
+        (cDescribeEnd (length (now (blocks .entry))) (length (now (reply .entry)))
+        (definitions.describe (now (image .entry)) (now (path .entry)) (4 * room))) ⌝ }
+{
+    if room <= FEW_BLOCKS {
+        return describe_few(image, path, blocks, reply, room);
+    }
+    describe_all(image, path, blocks, reply, room)
 }
 
 // The description of what a path leads to. `blocks` gets the block list, `reply` the other fields; the number is returned.
@@ -113,15 +129,10 @@ pub fn describe_bytes(image: &[u8], path: &[u8], blocks: &mut [u8], reply: &mut 
         return front::NO_ROOM;
     }
     let room = walk::blocks::room(blocks.len() / 8);
-    if room <= FEW_BLOCKS {
-        return describe_few(image, path, blocks, reply, room);
-    }
-    if front::SMALL_IMAGE < image.len() {
-        return describe_all(image, path, blocks, reply, room);
-    }
-    let number = describe_few(image, path, blocks, reply, FEW_BLOCKS);
-    if number != front::NO_ROOM {
+    let first = front::first_room(image.len(), room);
+    let number = describe_in(image, path, blocks, reply, first);
+    if front::decided(number, first, room) {
         return number;
     }
-    describe_all(image, path, blocks, reply, room)
+    describe_in(image, path, blocks, reply, room)
 }

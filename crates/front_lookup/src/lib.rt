@@ -13,21 +13,24 @@ ghost use Rattle.front.specs.Few.{fewBlocks};
 // The words of the reply: block count, kind, address.
 const REPLY_WORDS: usize = 3;
 
-// The lookup with the words of a list. `blocks` is zeros at the end.
+// The lookup with room for so many blocks in a list. `blocks` is zeros at the end.
 fn lookup_with(
     image: &[u8],
     path: &[u8],
     list: &mut [u64],
     blocks: &mut [u8],
     reply: &mut [u8],
+    room: usize,
 ) -> u32
-    requires { ⌜ length (now list) ≤ length (now blocks) / 8 ⌝ }
+    requires { ⌜ 4 * room ≤ length (now list) ⌝ }
+    requires { ⌜ 4 * room ≤ length (now blocks) / 8 ⌝ }
     requires { ⌜ 3 ≤ length (now reply) / 8 ⌝ }
     ensures { λ r. ⌜ _≡_ {A = CReply} (record { number = r; list = now (blocks .exit); reply = now (reply .exit) })
         (cLookupEnd (length (now (blocks .entry))) (length (now (reply .entry)))
-        (definitions.lookup (now (image .entry)) (now (path .entry)) (length (now (list .entry))))) ⌝ }
+        (definitions.lookup (now (image .entry)) (now (path .entry)) (4 * room))) ⌝ }
 {
-    let r = lookup::lookup::lookup(image, path, list);
+    let n = 4 * room;
+    let r = lookup::lookup::lookup(image, path, &mut list[..n]);
     if r.number != answers::DONE {
         return front::refuse(blocks, reply, r.number, r.met);
     }
@@ -38,7 +41,7 @@ fn lookup_with(
     0
 }
 
-// The lookup with room for few blocks, and for all.
+// The lookup with a list for few blocks, and with one for all.
 fn lookup_few(image: &[u8], path: &[u8], blocks: &mut [u8], reply: &mut [u8], room: usize) -> u32
     requires { ⌜ room ≤ fewBlocks ⌝ }
     requires { ⌜ 4 * room ≤ length (now blocks) / 8 ⌝ }
@@ -48,8 +51,7 @@ fn lookup_few(image: &[u8], path: &[u8], blocks: &mut [u8], reply: &mut [u8], ro
         (definitions.lookup (now (image .entry)) (now (path .entry)) (4 * room))) ⌝ }
 {
     let mut list = [0u64; 4 * FEW_BLOCKS];
-    let n = 4 * room;
-    lookup_with(image, path, &mut list[..n], blocks, reply)
+    lookup_with(image, path, &mut list, blocks, reply, room)
 }
 
 fn lookup_all(image: &[u8], path: &[u8], blocks: &mut [u8], reply: &mut [u8], room: usize) -> u32
@@ -61,8 +63,22 @@ fn lookup_all(image: &[u8], path: &[u8], blocks: &mut [u8], reply: &mut [u8], ro
         (definitions.lookup (now (image .entry)) (now (path .entry)) (4 * room))) ⌝ }
 {
     let mut list = [0u64; 4 * BLOCKS_MOST];
-    let n = 4 * room;
-    lookup_with(image, path, &mut list[..n], blocks, reply)
+    lookup_with(image, path, &mut list, blocks, reply, room)
+}
+
+// The lookup with room for so many blocks, in the smaller list that has it.
+fn lookup_in(image: &[u8], path: &[u8], blocks: &mut [u8], reply: &mut [u8], room: usize) -> u32
+    requires { ⌜ room ≤ blocksMost ⌝ }
+    requires { ⌜ 4 * room ≤ length (now blocks) / 8 ⌝ }
+    requires { ⌜ 3 ≤ length (now reply) / 8 ⌝ }
+    ensures { λ r. ⌜ _≡_ {A = CReply} (record { number = r; list = now (blocks .exit); reply = now (reply .exit) })
+        (cLookupEnd (length (now (blocks .entry))) (length (now (reply .entry)))
+        (definitions.lookup (now (image .entry)) (now (path .entry)) (4 * room))) ⌝ }
+{
+    if room <= FEW_BLOCKS {
+        return lookup_few(image, path, blocks, reply, room);
+    }
+    lookup_all(image, path, blocks, reply, room)
 }
 
 // The lookup of a path. `blocks` is only lent, and is zeros at the end; `reply` gets the other fields; the number is returned.
@@ -75,15 +91,10 @@ pub fn lookup_bytes(image: &[u8], path: &[u8], blocks: &mut [u8], reply: &mut [u
         return front::NO_ROOM;
     }
     let room = walk::blocks::room(blocks.len() / 8);
-    if room <= FEW_BLOCKS {
-        return lookup_few(image, path, blocks, reply, room);
-    }
-    if front::SMALL_IMAGE < image.len() {
-        return lookup_all(image, path, blocks, reply, room);
-    }
-    let number = lookup_few(image, path, blocks, reply, FEW_BLOCKS);
-    if number != front::NO_ROOM {
+    let first = front::first_room(image.len(), room);
+    let number = lookup_in(image, path, blocks, reply, first);
+    if front::decided(number, first, room) {
         return number;
     }
-    lookup_all(image, path, blocks, reply, room)
+    lookup_in(image, path, blocks, reply, room)
 }

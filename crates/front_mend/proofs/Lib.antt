@@ -1,2 +1,1 @@
-mod Part
-mod Mended
+pub mod Mended

@@ -23,9 +23,10 @@ use Rattle.laws.proofs.MoreRoom.{HadRoom}
 use Rattle.laws.proofs.MoreRuns.{audit-run-more}
 use Rattle.words.proofs.Words.{padded-twice, padded-zeros}
 use Rattle.undo_log.proofs.LogLaws.{length-logWords}
-use Rattle.front.proofs.Lent.{room-lent, less-room, list-bytes, used-bytes}
+use Rattle.front.proofs.Lent.{room-lent, list-bytes, used-bytes}
 use Rattle.front.proofs.Ended.{refusal-words}
 use Rattle.front.proofs.AuditRoom.{run-room, run-fits}
+use Rattle.front.proofs.Call.{Call, enough}
 
 -- the words of the log that are lent, of so many
 abbrev pub logRoom : ℕ → ℕ
@@ -201,20 +202,6 @@ module _ (im : List ℕ) (l g r n : ℕ) where
   end-same lent more (refused x bs) h k f f′ =
       after-same lent more h k (metOf x) 0 [] (replicate lent 0) (replicate more 0) (sym (no-words l lent h) ∙ no-words l more k) (answerOf x) (answerOf x)
 
-  run-same : (lent : ℕ) → lent ≤ l / 8 → auditRun im lent ≡ auditRun im (l / 8) →
-      cMendEnd l g r (mend im lent (g / 8) n) ≡ cMendEnd l g r (mend im (l / 8) (g / 8) n)
-  unfolding mend audit
-  run-same lent h e =
-      let fits : 4 * length (left (auditRun im lent)) ≤ lent = omega (arith, run-fits im lent, room-lent lent) in
-      let more : 4 * length (left (auditRun im lent)) ≤ l / 8 = omega arith in
-      end-same lent (l / 8) (auditRun im lent) h (omega arith) fits more
-      ∙ ap (λ (o : Outcome (List Linked)). cMendEnd l g r (mendEnd (l / 8) (g / 8) o)) e
-
-  -- a part of a list was lent
-  pub part-reply : (x : CMend) (zs : List ℕ) (k : ℕ) → k ≤ length zs → x ≡ cMendEnd l g r (mend im (length (take k zs)) (g / 8) n) →
-      x ≡ cMendEnd l g r (mend im k (g / 8) n)
-  part-reply x zs k h e = e ∙ ap (λ (lent : ℕ). cMendEnd l g r (mend im lent (g / 8) n)) (length-take-le k zs h)
-
   -- a mending that is refused leaves the image
   after-image : (lent logLent k : ℕ) (a : AuditReply) → (mendAfter im lent logLent n k a .number ≡ 0 → ⊥) → mendAfter im lent logLent n k a .image ≡ im
   after-image lent logLent zero a z = go (leb (2 * length (corrections (a .objects))) logLent) z
@@ -230,28 +217,27 @@ module _ (im : List ℕ) (l g r n : ℕ) where
       ap (λ (y : CMend). y .image) is
       ∙ after-image lent (g / 8) (audit im lent .number) (audit im lent) (λ q. z (ap (λ (y : CMend). y .number) is ∙ q))
 
-  -- a mending that didn't end for want of room is of an audit that had room
-  end-room : (lent logLent : ℕ) (o : Outcome (List Linked)) → (mendEnd lent logLent o .number ≡ 13 → ⊥) → HadRoom o
-  end-room lent logLent (done os bs) h = tt
-  end-room lent logLent (refused x bs) h = λ q. h (rw q)
+  told : (lent : ℕ) (o : Outcome (List Linked)) → (mendEnd lent (g / 8) o .number ≡ 13 → ⊥) → HadRoom o
+  told lent (done os bs) h = tt
+  told lent (refused x bs) h = λ q. h (rw q)
 
-  -- The reply x with so many words lent, where the reply's slice is long enough.
-  module _ (long : 3 ≤ r / 8) (m : ℕ) (x : CMend) (is : x ≡ cMendEnd l g r (mend im (4 * m) (g / 8) n)) where
-    whole : cMendEnd l g r (mend im (4 * m) (g / 8) n) ≡ cMendEnd l g r (mend im (l / 8) (g / 8) n) → x ≡ cMend im l g r n
-    unfolding cMend
-    whole e = is ∙ e ∙ rw (le-leb 3 (r / 8) long)
+  call : Call l (List Linked) CMend
+  call = record {
+    run = auditRun im;
+    end = λ lent o. cMendEnd l g r (mendEnd lent (g / 8) o);
+    number = λ x. x .number;
+    room = run-room im;
+    fits = run-fits im;
+    more = audit-run-more im;
+    same = end-same;
+    told = told;
+  }
 
-    -- the whole room was lent
-    pub all-reply : m ≡ roomOf (l / 8) → x ≡ cMend im l g r n
-    all-reply e = whole (run-same (4 * m) (omega (arith, room-lent (l / 8))) (rw e (run-room im (l / 8))))
-
-    -- less was lent, and it was enough
-    pub few-reply : m ≤ roomOf (l / 8) → (x .number ≡ 13 → ⊥) → x ≡ cMend im l g r n
-    unfolding mend audit
-    few-reply h z =
-        let number : (mend im (4 * m) (g / 8) n .number ≡ 13 → ⊥) = λ q. z (ap (λ (y : CMend). y .number) is ∙ q) in
-        let room = end-room (4 * m) (g / 8) (auditRun im (4 * m)) number in
-        whole (run-same (4 * m) (omega (arith, room-lent (l / 8))) (sym (audit-run-more im (4 * m) (l / 8) (less-room m (l / 8) h) room)))
+  -- the reply with room for m blocks is the call's, if that is all the room or it didn't end for want of room
+  pub whole-reply : 3 ≤ r / 8 → (m : ℕ) (x : CMend) → x ≡ cMendEnd l g r (mend im (4 * m) (g / 8) n) → m ≤ roomOf (l / 8) →
+      (x .number ≡ 13 → m ≡ roomOf (l / 8)) → x ≡ cMend im l g r n
+  unfolding cMend mend audit call
+  whole-reply long m x is h all = is ∙ enough call m h (λ q. all (ap (λ (y : CMend). y .number) is ∙ q)) ∙ rw (le-leb 3 (r / 8) long)
 
 -- slices that came back with the same lengths, and the image as it was
 pub same-slices : (im im′ : List ℕ) (l g r l′ g′ r′ lent n : ℕ) (x : CMend) → im′ ≡ im → l′ ≡ l → g′ ≡ g → r′ ≡ r →

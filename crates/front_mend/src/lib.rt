@@ -47,7 +47,7 @@ fn refuse(blocks: &mut [u8], log: &mut [u8], reply: &mut [u8], number: u8, met: 
     front::refuse(blocks, reply, number, met)
 }
 
-// The mending with the words of a list, which are no more than those of `blocks`.
+// The mending with room for so many blocks in a list.
 fn mend_with(
     image: &mut [u8],
     list: &mut [u64],
@@ -55,18 +55,21 @@ fn mend_with(
     log: &mut [u8],
     reply: &mut [u8],
     limit: u64,
+    room: usize,
 ) -> u32
-    requires { ⌜ length (now list) ≤ length (now blocks) / 8 ⌝ }
+    requires { ⌜ 4 * room ≤ length (now list) ⌝ }
+    requires { ⌜ 4 * room ≤ length (now blocks) / 8 ⌝ }
     requires { ⌜ 3 ≤ length (now reply) / 8 ⌝ }
     ensures { λ r.
         ⌜ _≡_ {A = CMend}
         (record { number = r; list = now (blocks .exit); log = now (log .exit); reply = now (reply .exit); image = now (image .exit) })
         (cMendEnd (length (now (blocks .entry))) (length (now (log .entry))) (length (now (reply .entry)))
-        (definitions.mend (now (image .entry)) (length (now (list .entry))) (length (now (log .entry)) / 8) limit)) ⌝ }
+        (definitions.mend (now (image .entry)) (4 * room) (length (now (log .entry)) / 8) limit)) ⌝ }
 {
     let mut entries = [0u64; 2 * OBJECTS_MOST];
     let m = log_room(log.len() / 8);
-    let r = mend::mend(image, list, &mut entries[..m], limit);
+    let n = 4 * room;
+    let r = mend::mend(image, &mut list[..n], &mut entries[..m], limit);
     if r.number != answers::DONE {
         return refuse(blocks, log, reply, r.number, r.met);
     }
@@ -79,7 +82,7 @@ fn mend_with(
     0
 }
 
-// The mending with room for few blocks, and for all.
+// The mending with a list for few blocks, and with one for all.
 fn mend_few(
     image: &mut [u8],
     blocks: &mut [u8],
@@ -98,8 +101,7 @@ fn mend_few(
         (definitions.mend (now (image .entry)) (4 * room) (length (now (log .entry)) / 8) limit)) ⌝ }
 {
     let mut list = [0u64; 4 * FEW_BLOCKS];
-    let n = 4 * room;
-    mend_with(image, &mut list[..n], blocks, log, reply, limit)
+    mend_with(image, &mut list, blocks, log, reply, limit, room)
 }
 
 fn mend_all(
@@ -120,8 +122,31 @@ fn mend_all(
         (definitions.mend (now (image .entry)) (4 * room) (length (now (log .entry)) / 8) limit)) ⌝ }
 {
     let mut list = [0u64; 4 * BLOCKS_MOST];
-    let n = 4 * room;
-    mend_with(image, &mut list[..n], blocks, log, reply, limit)
+    mend_with(image, &mut list, blocks, log, reply, limit, room)
+}
+
+// The mending with room for so many blocks, in the smaller list that has it.
+fn mend_in(
+    image: &mut [u8],
+    blocks: &mut [u8],
+    log: &mut [u8],
+    reply: &mut [u8],
+    limit: u64,
+    room: usize,
+) -> u32
+    requires { ⌜ room ≤ blocksMost ⌝ }
+    requires { ⌜ 4 * room ≤ length (now blocks) / 8 ⌝ }
+    requires { ⌜ 3 ≤ length (now reply) / 8 ⌝ }
+    ensures { λ r.
+        ⌜ _≡_ {A = CMend}
+        (record { number = r; list = now (blocks .exit); log = now (log .exit); reply = now (reply .exit); image = now (image .exit) })
+        (cMendEnd (length (now (blocks .entry))) (length (now (log .entry))) (length (now (reply .entry)))
+        (definitions.mend (now (image .entry)) (4 * room) (length (now (log .entry)) / 8) limit)) ⌝ }
+{
+    if room <= FEW_BLOCKS {
+        return mend_few(image, blocks, log, reply, limit, room);
+    }
+    mend_all(image, blocks, log, reply, limit, room)
 }
 
 // The mending of an image. `blocks` gets the block list, `log` the undo log, `reply` the other fields; the number is returned.
@@ -143,15 +168,10 @@ pub fn mend_bytes(
         return front::NO_ROOM;
     }
     let room = walk::blocks::room(blocks.len() / 8);
-    if room <= FEW_BLOCKS {
-        return mend_few(image, blocks, log, reply, limit, room);
-    }
-    if front::SMALL_IMAGE < image.len() {
-        return mend_all(image, blocks, log, reply, limit, room);
-    }
-    let number = mend_few(image, blocks, log, reply, limit, FEW_BLOCKS);
-    if number != front::NO_ROOM {
+    let first = front::first_room(image.len(), room);
+    let number = mend_in(image, blocks, log, reply, limit, first);
+    if front::decided(number, first, room) {
         return number;
     }
-    mend_all(image, blocks, log, reply, limit, room)
+    mend_in(image, blocks, log, reply, limit, room)
 }

@@ -1,25 +1,54 @@
 -- The laws of Described.antt, at the two ends of the code.
-use Prim.Native.Nat.{_*_, _≤_}
-use mathlib.Core.Path.{sym}
-use lib.ListN.{length}
+use Prim.Native.Nat.{ℕ, _*_, _/_, _≤_}
+use mathlib.Core.Path.{ap, sym, _∙_}
+use mathlib.Core.List.{List}
+use lib.ListN.{length, take}
 use lib.Seq.{length-take-le}
 use denote.Ref.{now}
 use Rattle.format.specs.Limits.{rankMost}
+use Rattle.format.specs.Answers.{describe}
+use Rattle.format.specs.Front.{paddedBytes, cDescribeEnd}
+use Rattle.front.proofs.Lent.{part-lent}
+use Rattle.front.proofs.Part.{Back, came-back}
+use Rattle.front.proofs.Call.{of-part}
 use Rattle.front_describe.proofs.Described.{used-fit, done-reply, refused-reply}
 use native.Mathlib.Omega.{arith}
 use borrow.Author.Needs.{needs}
 use Rattle.front_describe.proofs.describe_with.Statement.{statement}
 use Rattle.front_describe.proofs.describe_with.Tie as tie
 
--- Where the audit has returned: the start, and that the words used are among the list's.
+-- Where the description has returned: the start, and what was lent and came back.
 abbrev start : tie.After-describe → tie.Start
 start c = c .before .before .before .before .before .before .before
 
-words-fit : (c : tie.After-describe) → 4 * c .describe .result .«block_count» ≤ length (c .describe .last .1 .1 .0)
+abbrev back : tie.After-describe → List ℕ
+back c = c .describe .last .1 .1 .0
+
+abbrev used : tie.After-describe → ℕ
+used c = 4 * c .describe .result .«block_count»
+
+-- the words lent are among those of `blocks`, and the words used among those that came back
+lent : (c : tie.After-describe) → let a = start c .args in length (take (4 * a .room) (now (a .list))) ≤ length (now (a .blocks)) / 8
+lent c = let s = start c in part-lent (now (s .args .list)) (4 * s .args .room) _ (s .pre .0) (s .pre .1 .0)
+
+words-fit : (c : tie.After-describe) → used c ≤ length (back c)
 words-fit c =
     let a = start c .args in
-    let fits = used-fit (now (a .image)) (now (a .path)) (length (now (a .blocks))) (length (now (a .reply))) _ (start c .pre .0) _ _ (c .describe .ensures) in
+    let fits = used-fit (now (a .image)) (now (a .path)) (length (now (a .blocks))) (length (now (a .reply))) _ (lent c) _ _ (c .describe .ensures) in
     omega (arith, fits, c .describe .kept .1 .1 .0)
+
+came : (c : tie.After-describe) → let a = start c .args in Back (back c) (now (a .list)) (4 * a .room) (used c)
+came c = let a = start c .args in came-back (back c) (now (a .list)) (4 * a .room) (used c) (c .describe .kept .1 .1 .0) (words-fit c)
+
+mul-n : tie.Need-mul-n
+mul-n c = search needs
+
+slice-relend-prefix-describe : tie.Need-slice-relend-prefix-describe
+slice-relend-prefix-describe c = search needs
+
+slice-aggregate-describe : tie.Need-slice-aggregate-describe
+slice-aggregate-describe c =
+    let s = c .before .before .before .before .before .before in sym (length-take-le (4 * s .args .room) (now (s .args .list)) (s .pre .0))
 
 describe-requires : tie.Need-describe-requires
 describe-requires c κs = search needs
@@ -28,7 +57,7 @@ refuse-requires : tie.Need-refuse-requires
 refuse-requires c κs = search needs
 
 same-length : tie.Need-same-length
-same-length c = search needs
+same-length c = came (c .before .before .before .before .before .before .before .before .before .before .before) .whole
 
 same-length-2 : tie.Need-same-length-2
 same-length-2 c = search needs
@@ -40,42 +69,43 @@ returns : tie.Need-returns
 returns c =
     let at-refuse = c .before .before .before .before in
     let at-if1 = at-refuse .before .before .before in
-    let at-describe = at-if1 .before .before .before .before in
-    let s = start at-describe in
-    let a = s .args in
+    let d = at-if1 .before .before .before .before in
+    let a = start d .args in
     let t = at-refuse .refuse .ensures in
     rw (t .0)
-    (refused-reply (now (a .image)) (now (a .path)) (length (now (a .blocks))) (length (now (a .reply))) _ (s .pre .0) _ _ (at-describe .describe .ensures) _ _
-    (at-if1 .if1 .taken) (t .1 .0) (t .1 .1))
+    (of-part (λ (k : ℕ). cDescribeEnd (length (now (a .blocks))) (length (now (a .reply))) (describe (now (a .image)) (now (a .path)) k)) _ _ (4 * a .room)
+    (start d .pre .0)
+    (refused-reply (now (a .image)) (now (a .path)) (length (now (a .blocks))) (length (now (a .reply))) _ (lent d) _ _ (d .describe .ensures) _ _
+    (at-if1 .if1 .taken) (t .1 .0) (t .1 .1)))
 
 mul-used : tie.Need-mul-used
 mul-used c =
-    let at-describe = c .before .before .before .before .before in
-    record { fits = omega (arith, words-fit at-describe, at-describe .describe .kept .1 .1 .0, start at-describe .good .1 .1 .0 .0) }
+    let d = c .before .before .before .before .before in
+    let s = start d in
+    let long = length-take-le (4 * s .args .room) (now (s .args .list)) (s .pre .0) in
+    record { fits = omega (arith, words-fit d, d .describe .kept .1 .1 .0, long, s .pre .0, s .good .1 .1 .0 .0) }
 
 slice-reshare-prefix-spill : tie.Need-slice-reshare-prefix-spill
-slice-reshare-prefix-spill c = words-fit (c .before .before .before .before .before)
+slice-reshare-prefix-spill c = came (c .before .before .before .before .before) .fits
 
 slice-aggregate-spill : tie.Need-slice-aggregate-spill
-slice-aggregate-spill c =
-    let at-describe = c .before .before .before .before .before .before in
-    sym (length-take-le (4 * at-describe .describe .result .«block_count») _ (words-fit at-describe))
+slice-aggregate-spill c = came (c .before .before .before .before .before .before) .long
 
 spill-requires : tie.Need-spill-requires
 spill-requires c κs =
-    let at-describe = c .before .before .before .before .before .before .before in
-    let s = start at-describe in
-    let long = length-take-le (4 * at-describe .describe .result .«block_count») (at-describe .describe .last .1 .1 .0) (words-fit at-describe) in
-    omega (arith, long, words-fit at-describe, at-describe .describe .kept .1 .1 .0, s .pre .0)
+    let d = c .before .before .before .before .before .before .before in
+    omega (arith, came d .long, words-fit d, d .describe .kept .1 .1 .0, lent d)
 
 write-description-requires : tie.Need-write-description-requires
 unfolding rankMost
 write-description-requires c κs =
-    let at-describe = c .before .before .before .before .before .before .before .before .before .before .before in
-    omega (arith, start at-describe .pre .1)
+    let d = c .before .before .before .before .before .before .before .before .before .before .before in
+    omega (arith, start d .pre .1 .1)
 
 same-length-4 : tie.Need-same-length-4
-same-length-4 c = search needs
+same-length-4 c =
+    let at-spill = c .before .before .before .before .before .before in
+    came (at-spill .before .before .before .before .before .before .before .before) .whole
 
 same-length-5 : tie.Need-same-length-5
 same-length-5 c = search needs
@@ -87,16 +117,20 @@ returns-2 : tie.Need-returns-2
 returns-2 c =
     let at-spill = c .before .before .before .before .before .before in
     let at-if1 = at-spill .before .before .before .before in
-    let at-describe = at-if1 .before .before .before .before in
-    let s = start at-describe in
-    let a = s .args in
-    done-reply (now (a .image)) (now (a .path)) (length (now (a .blocks))) (length (now (a .reply))) _ (s .pre .0) _ _ (at-describe .describe .ensures) _ _
-    (at-if1 .if1 .left) (at-spill .spill .ensures) (c .before .before .write-description .ensures)
+    let d = at-if1 .before .before .before .before in
+    let a = start d .args in
+    of-part (λ (k : ℕ). cDescribeEnd (length (now (a .blocks))) (length (now (a .reply))) (describe (now (a .image)) (now (a .path)) k)) _ _ (4 * a .room)
+    (start d .pre .0)
+    (done-reply (now (a .image)) (now (a .path)) (length (now (a .blocks))) (length (now (a .reply))) _ (lent d) _ _ (d .describe .ensures) _ _
+    (at-if1 .if1 .left) (at-spill .spill .ensures ∙ ap (paddedBytes (length (now (a .blocks)))) (came d .words)) (c .before .before .write-description .ensures))
 
 pub describe-with-spec : {M : Type 1} → statement M
 describe-with-spec =
     tie.close
     (tie.spec
+    mul-n
+    slice-relend-prefix-describe
+    slice-aggregate-describe
     describe-requires
     refuse-requires
     same-length

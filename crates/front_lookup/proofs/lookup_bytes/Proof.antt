@@ -1,30 +1,28 @@
--- The laws of Located.antt, at the five ends of the code.
-use Prim.Native.Nat.{_*_, _/_, _≤_}
+-- The laws of Located.antt, at the three ends of the code.
+use Prim.Native.Nat.{ℕ, _*_, _/_, _≤_}
 use lib.ListN.{length}
 use denote.Ref.{now}
 use Rattle.format.specs.Limits.{blocksMost}
+use Rattle.format.specs.Blocks.{roomOf}
 use Rattle.format.specs.Answers.{lookup}
-use Rattle.walk.proofs.BlockList.{room-most}
-use Rattle.front.specs.Few.{fewBlocks}
-use Rattle.front.proofs.Lent.{room-lent}
-use Rattle.front_lookup.proofs.Located.{short-reply, all-reply, few-reply, same-slices}
+use Rattle.format.specs.Front.{cLookupEnd}
+use Rattle.front.proofs.Lent.{room-within}
+use Rattle.front.proofs.Call.{of-slices}
+use Rattle.front_lookup.proofs.Located.{short-reply, whole-reply}
 use native.Mathlib.Omega.{arith}
 use borrow.Author.Needs.{needs}
 use Rattle.front_lookup.proofs.lookup_bytes.Statement.{statement}
 use Rattle.front_lookup.proofs.lookup_bytes.Tie as tie
 
--- Where the room is known: the start, the reply is long enough, and the words of the room are there.
+-- Where the room is known: the start, the reply is long enough, and what holds of no more blocks than the room.
 abbrev start : tie.After-room → tie.Start
 start c = c .before .before .before .before .before .before
 
 reply-long : (c : tie.After-room) → 3 ≤ length (now (start c .args .reply)) / 8
 reply-long c = omega (arith, c .before .if1 .left)
 
-room-fits : (c : tie.After-room) → 4 * c .room .result ≤ length (now (start c .args .blocks)) / 8
-room-fits c = omega (arith, c .room .ensures, room-lent (length (now (start c .args .blocks)) / 8))
-
-room-small : (c : tie.After-room) → c .room .result ≤ blocksMost
-room-small c = omega (arith, c .room .ensures, room-most (length (now (start c .args .blocks)) / 8))
+within : (c : tie.After-room) (m : ℕ) → m ≤ c .room .result → (m ≤ blocksMost) × (4 * m ≤ length (now (start c .args .blocks)) / 8)
+within c m h = room-within m (c .room .result) _ (c .room .ensures) h
 
 clear-both-requires : tie.Need-clear-both-requires
 clear-both-requires c κs = search needs
@@ -47,8 +45,17 @@ returns c =
 room-requires : tie.Need-room-requires
 room-requires c κs = search needs
 
-lookup-few-requires : tie.Need-lookup-few-requires
-lookup-few-requires c κs = let at-room = c .before .before .before in (c .before .before .if2 .taken, (room-fits at-room, reply-long at-room))
+first-room-requires : tie.Need-first-room-requires
+first-room-requires c κs = search needs
+
+lookup-in-requires : tie.Need-lookup-in-requires
+lookup-in-requires c κs =
+    let at-first = c .before .before in
+    let fits = within (at-first .before) _ (at-first .first-room .ensures) in
+    (fits .0, (fits .1, reply-long (at-first .before)))
+
+decided-requires : tie.Need-decided-requires
+decided-requires c κs = search needs
 
 same-length-3 : tie.Need-same-length-3
 same-length-3 c = search needs
@@ -58,14 +65,21 @@ same-length-4 c = search needs
 
 returns-2 : tie.Need-returns-2
 returns-2 c =
-    let at-few = c .before .before .before .before in
-    let at-room = at-few .before .before .before .before in
+    let at-in = c .before .before .before .before .before .before in
+    let at-first = at-in .before .before .before in
+    let at-room = at-first .before in
     let a = start at-room .args in
-    all-reply (now (a .image)) (now (a .path)) (length (now (a .blocks))) (length (now (a .reply))) (reply-long at-room) (at-room .room .result) _
-    (at-few .lookup-few .ensures) (at-room .room .ensures)
+    whole-reply (now (a .image)) (now (a .path)) (length (now (a .blocks))) (length (now (a .reply))) (reply-long at-room) _ _ (at-in .lookup-in .ensures)
+    (omega (arith, at-first .first-room .ensures, at-room .room .ensures))
+    (λ q. omega (arith, c .before .decided .ensures .0 (c .if2 .taken) q, at-room .room .ensures))
 
-lookup-all-requires : tie.Need-lookup-all-requires
-lookup-all-requires c κs = let at-room = c .before .before .before .before in (room-small at-room, (room-fits at-room, reply-long at-room))
+lookup-in-requires-2 : tie.Need-lookup-in-requires-2
+lookup-in-requires-2 c κs =
+    let at-in = c .before .before .before .before .before .before .before .before in
+    let at-room = at-in .before .before .before .before in
+    let same = at-in .lookup-in .kept in
+    let fits = within at-room (at-room .room .result) (omega arith) in
+    (fits .0, (omega (arith, fits .1, same .1 .1 .0), omega (arith, reply-long at-room, same .1 .1 .1 .0)))
 
 same-length-5 : tie.Need-same-length-5
 same-length-5 c = search needs
@@ -75,56 +89,15 @@ same-length-6 c = search needs
 
 returns-3 : tie.Need-returns-3
 returns-3 c =
-    let at-all = c .before .before .before .before in
-    let at-room = at-all .before .before .before .before .before in
+    let at-again = c .before .before .before .before in
+    let at-in = at-again .before .before .before .before .before .before .before .before .before in
+    let at-room = at-in .before .before .before .before in
+    let same = at-in .lookup-in .kept in
     let a = start at-room .args in
-    all-reply (now (a .image)) (now (a .path)) (length (now (a .blocks))) (length (now (a .reply))) (reply-long at-room) (at-room .room .result) _
-    (at-all .lookup-all .ensures) (at-room .room .ensures)
-
-lookup-few-requires-2 : tie.Need-lookup-few-requires-2
-lookup-few-requires-2 c κs =
-    let at-if2 = c .before .before .before in
-    let at-room = at-if2 .before in
-    (omega arith, (omega (arith, at-if2 .if2 .left, room-fits at-room), reply-long at-room))
-
-same-length-7 : tie.Need-same-length-7
-same-length-7 c = search needs
-
-same-length-8 : tie.Need-same-length-8
-same-length-8 c = search needs
-
-returns-4 : tie.Need-returns-4
-returns-4 c =
-    let at-few = c .before .before .before .before .before in
-    let at-if2 = at-few .before .before .before .before in
-    let at-room = at-if2 .before in
-    let a = start at-room .args in
-    few-reply (now (a .image)) (now (a .path)) (length (now (a .blocks))) (length (now (a .reply))) (reply-long at-room) fewBlocks _
-    (at-few .lookup-few2 .ensures) (omega (arith, at-if2 .if2 .left, at-room .room .ensures)) (c .if4 .taken)
-
-lookup-all-requires-2 : tie.Need-lookup-all-requires-2
-lookup-all-requires-2 c κs =
-    let at-few = c .before .before .before .before .before .before .before in
-    let at-room = at-few .before .before .before .before .before in
-    let same = at-few .lookup-few2 .kept in
-    (room-small at-room, (omega (arith, room-fits at-room, same .1 .1 .0), omega (arith, reply-long at-room, same .1 .1 .1 .0)))
-
-same-length-9 : tie.Need-same-length-9
-same-length-9 c = search needs
-
-same-length-10 : tie.Need-same-length-10
-same-length-10 c = search needs
-
-returns-5 : tie.Need-returns-5
-returns-5 c =
-    let at-all = c .before .before .before .before in
-    let at-few = at-all .before .before .before .before .before .before .before .before in
-    let at-room = at-few .before .before .before .before .before in
-    let same = at-few .lookup-few2 .kept in
-    let a = start at-room .args in
-    let again = same-slices _ _ _ _ _ (lookup (now (a .image)) (now (a .path)) (4 * at-room .room .result)) (same .1 .1 .0) (same .1 .1 .1 .0) (at-all .lookup-all2 .ensures) in
-    all-reply (now (a .image)) (now (a .path)) (length (now (a .blocks))) (length (now (a .reply))) (reply-long at-room) (at-room .room .result) _ again
-    (at-room .room .ensures)
+    let again = of-slices (λ (l r : ℕ). cLookupEnd l r (lookup (now (a .image)) (now (a .path)) (4 * at-room .room .result))) _ _ _ _ _
+    (same .1 .1 .0) (same .1 .1 .1 .0) (at-again .lookup-in2 .ensures) in
+    whole-reply (now (a .image)) (now (a .path)) (length (now (a .blocks))) (length (now (a .reply))) (reply-long at-room) (at-room .room .result) _ again
+    (omega (arith, at-room .room .ensures)) (λ _. at-room .room .ensures)
 
 pub lookup-bytes-spec : {M : Type 1} → statement M
 lookup-bytes-spec =
@@ -135,19 +108,13 @@ lookup-bytes-spec =
     same-length-2
     returns
     room-requires
-    lookup-few-requires
+    first-room-requires
+    lookup-in-requires
+    decided-requires
     same-length-3
     same-length-4
     returns-2
-    lookup-all-requires
+    lookup-in-requires-2
     same-length-5
     same-length-6
-    returns-3
-    lookup-few-requires-2
-    same-length-7
-    same-length-8
-    returns-4
-    lookup-all-requires-2
-    same-length-9
-    same-length-10
-    returns-5)
+    returns-3)

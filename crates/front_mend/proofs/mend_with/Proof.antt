@@ -1,14 +1,16 @@
 -- The laws of Mended.antt, at the two ends of the code.
 use Prim.Native.Nat.{ℕ, _*_, _/_, _≤_}
 use mathlib.Core.List.{List}
-use mathlib.Core.Path.{sym, ap, _∙_}
-use lib.ListN.{length}
+use mathlib.Core.Path.{_≡_, sym, ap, _∙_}
+use lib.ListN.{length, take}
 use lib.Seq.{length-take-le}
 use denote.Ref.{now}
 use Rattle.format.specs.Answers as definitions
-use Rattle.format.specs.Front.{paddedBytes}
+use Rattle.format.specs.Front.{paddedBytes, CMend, cMendEnd}
 use Rattle.mend.specs.Mended.{replyOf}
-use Rattle.front_mend.proofs.Part.{part-fits, part-long, part-left}
+use Rattle.front.proofs.Lent.{part-lent}
+use Rattle.front.proofs.Part.{Back, came-back}
+use Rattle.front.proofs.Call.{of-part}
 use Rattle.front_mend.proofs.Mended.{log-most, log-words, within, Taken, taken, done-reply, refused-reply}
 use native.Mathlib.Omega.{arith}
 use borrow.Author.Needs.{needs}
@@ -19,7 +21,7 @@ use Rattle.front_mend.proofs.mend_with.Tie as tie
 log-fits : (c : tie.After-log-room) → c .log-room .result ≤ 512
 log-fits c = omega (arith, c .log-room .ensures, log-most)
 
--- Where the mending has returned: the start, the list and the log as they came back, and the words of the log that were lent.
+-- Where the mending has returned: the start, the list and the log as they came back, and the words that were lent of both.
 abbrev start : tie.After-mend → tie.Start
 start c = c .before .before .before .before .before .before .before .before .before .before
 
@@ -29,37 +31,56 @@ list c = c .mend .last .1 .0
 abbrev entries : tie.After-mend → List ℕ
 entries c = c .mend .last .1 .1 .0
 
+abbrev list-room : tie.After-mend → ℕ
+list-room c = 4 * start c .args .room
+
 abbrev log-room : tie.After-mend → ℕ
 log-room c = c .before .before .before .before .log-room .result
+
+lent : (c : tie.After-mend) → length (take (list-room c) (now (start c .args .list))) ≤ length (now (start c .args .blocks)) / 8
+lent c = let s = start c in part-lent (now (s .args .list)) (list-room c) _ (s .pre .0) (s .pre .1 .0)
 
 -- what it returned and left
 mended : (c : tie.After-mend) →
     let a = start c .args in
-    Taken (length (now (a .blocks))) (length (now (a .log))) (length (now (a .reply))) (length (now (a .list)))
-    (replyOf (list c) (entries c) (c .mend .last .0) (c .mend .result))
-    (definitions.mend (now (a .image)) (length (now (a .list))) (length (now (a .log)) / 8) (a .limit))
+    let lent = length (take (list-room c) (now (a .list))) in
+    Taken (length (now (a .blocks))) (length (now (a .log))) (length (now (a .reply))) lent
+    (replyOf (list c) (entries c) (c .mend .last .0) (c .mend .result)) (definitions.mend (now (a .image)) lent (length (now (a .log)) / 8) (a .limit))
 mended c =
-    let s = start c in
-    let a = s .args in
-    taken (now (a .image)) (length (now (a .blocks))) (length (now (a .log))) (length (now (a .reply))) (a .limit) _ _ _ (s .pre .0)
+    let a = start c .args in
+    taken (now (a .image)) (length (now (a .blocks))) (length (now (a .log))) (length (now (a .reply))) (a .limit) _ _ _ (lent c)
     (log-words _ _ _ (c .before .before .before .before .log-room .ensures) log-most) (c .mend .ensures .reply) (c .mend .ensures .most)
 
--- the words used are among the words lent
-blocks-fit : (c : tie.After-mend) → 4 * c .mend .result .«block_count» ≤ length (list c)
-blocks-fit c = omega (arith, mended c .blocksFit, c .mend .kept .1 .0)
+-- the words used are among the words lent, and came back with them
+list-back : (c : tie.After-mend) → Back (list c) (now (start c .args .list)) (list-room c) (4 * c .mend .result .«block_count»)
+list-back c =
+    came-back (list c) (now (start c .args .list)) (list-room c) _ (c .mend .kept .1 .0) (omega (arith, mended c .blocksFit, c .mend .kept .1 .0))
 
 entries-fit : (c : tie.After-mend) → 2 * c .mend .result .entries ≤ length (entries c)
 entries-fit c =
     within _ _ _ _ (c .mend .kept .1 .1 .0) (log-words _ _ _ (c .before .before .before .before .log-room .ensures) log-most) (mended c .entriesFit)
 
+log-back : (c : tie.After-mend) (log : List ℕ) → length (entries c) ≡ length (take (log-room c) log) →
+    Back (entries c) log (log-room c) (2 * c .mend .result .entries)
+log-back c log k = came-back (entries c) log (log-room c) _ k (entries-fit c)
+
 log-room-requires : tie.Need-log-room-requires
 log-room-requires c κs = search needs
+
+mul-n : tie.Need-mul-n
+mul-n c = search needs
+
+slice-relend-prefix-mend : tie.Need-slice-relend-prefix-mend
+slice-relend-prefix-mend c = search needs
+
+slice-aggregate-mend : tie.Need-slice-aggregate-mend
+slice-aggregate-mend c = let s = c .before .before .before .before .before .before .before .before in sym (length-take-le (4 * s .args .room) (now (s .args .list)) (s .pre .0))
 
 array-borrow-prefix-entries : tie.Need-array-borrow-prefix-entries
 array-borrow-prefix-entries c = log-fits (c .before .before)
 
-slice-aggregate-mend : tie.Need-slice-aggregate-mend
-slice-aggregate-mend c = let at-log-room = c .before .before .before in sym (length-take-le (at-log-room .log-room .result) _ (log-fits at-log-room))
+slice-aggregate-mend-2 : tie.Need-slice-aggregate-mend-2
+slice-aggregate-mend-2 c = let at-log-room = c .before .before .before in sym (length-take-le (at-log-room .log-room .result) _ (log-fits at-log-room))
 
 mend-requires : tie.Need-mend-requires
 mend-requires c κs = search needs
@@ -71,7 +92,7 @@ same-length : tie.Need-same-length
 same-length c = search needs
 
 same-length-2 : tie.Need-same-length-2
-same-length-2 c = search needs
+same-length-2 c = list-back (c .before .before .before .before .before .before .before .before .before .before .before .before .before .before .before .before .before) .whole
 
 same-length-3 : tie.Need-same-length-3
 same-length-3 c = search needs
@@ -82,6 +103,13 @@ same-length-4 c = search needs
 same-length-5 : tie.Need-same-length-5
 same-length-5 c = search needs
 
+-- the reply of a mending with so many words lent
+abbrev reply : tie.After-mend → ℕ → CMend
+reply d k =
+    let a = start d .args in
+    cMendEnd (length (now (a .blocks))) (length (now (a .log))) (length (now (a .reply)))
+    (definitions.mend (now (a .image)) k (length (now (a .log)) / 8) (a .limit))
+
 returns : tie.Need-returns
 returns c =
     let at-refuse = c .before .before .before .before .before .before in
@@ -90,13 +118,14 @@ returns c =
     let a = start d .args in
     let t = at-refuse .refuse .ensures in
     rw (t .0)
+    (of-part (reply d) _ _ (list-room d) (start d .pre .0)
     (refused-reply (now (a .image)) (length (now (a .blocks))) (length (now (a .log))) (length (now (a .reply))) (a .limit) _ _ (mended d) _ _ _
-    (at-if1 .if1 .taken) (t .1 .0) (t .1 .1 .0) (t .1 .1 .1))
+    (at-if1 .if1 .taken) (t .1 .0) (t .1 .1 .0) (t .1 .1 .1)))
 
 mul-used : tie.Need-mul-used
 mul-used c =
     let d = c .before .before .before .before .before .before .before .before in
-    record { fits = omega (arith, mended d .blocksFit, start d .good .1 .0 .0) }
+    record { fits = omega (arith, mended d .blocksFit, lent d, start d .good .1 .1 .0 .0) }
 
 mul-logged : tie.Need-mul-logged
 mul-logged c =
@@ -104,34 +133,33 @@ mul-logged c =
     record { fits = omega (arith, mended d .entriesFit, log-most) }
 
 slice-reshare-prefix-spill : tie.Need-slice-reshare-prefix-spill
-slice-reshare-prefix-spill c = blocks-fit (c .before .before .before .before .before .before .before .before .before)
+slice-reshare-prefix-spill c = list-back (c .before .before .before .before .before .before .before .before .before) .fits
 
 slice-aggregate-spill : tie.Need-slice-aggregate-spill
-slice-aggregate-spill c =
-    let d = c .before .before .before .before .before .before .before .before .before .before in
-    sym (length-take-le (4 * d .mend .result .«block_count») _ (blocks-fit d))
+slice-aggregate-spill c = list-back (c .before .before .before .before .before .before .before .before .before .before) .long
 
 spill-requires : tie.Need-spill-requires
 spill-requires c κs =
     let d = c .before .before .before .before .before .before .before .before .before .before .before in
-    let long = length-take-le (4 * d .mend .result .«block_count») (list d) (blocks-fit d) in
-    omega (arith, long, mended d .blocksFit, start d .pre .0)
+    omega (arith, list-back d .long, mended d .blocksFit, lent d)
 
 array-share-prefix-entries : tie.Need-array-share-prefix-entries
 array-share-prefix-entries c =
-    let d = c .before .before .before .before .before .before .before .before .before .before .before .before .before .before in
-    part-fits (entries d) _ (log-room d) _ (d .mend .kept .1 .1 .0) (entries-fit d)
+    let at-spill = c .before .before in
+    let d = at-spill .before .before .before .before .before .before .before .before .before .before .before .before in
+    log-back d _ (d .mend .kept .1 .1 .0) .fits
 
 slice-aggregate-spill-2 : tie.Need-slice-aggregate-spill-2
 slice-aggregate-spill-2 c =
-    let d = c .before .before .before .before .before .before .before .before .before .before .before .before .before .before .before in
-    part-long (entries d) _ (log-room d) _ (d .mend .kept .1 .1 .0) (entries-fit d)
+    let at-spill = c .before .before .before in
+    let d = at-spill .before .before .before .before .before .before .before .before .before .before .before .before in
+    log-back d _ (d .mend .kept .1 .1 .0) .long
 
 spill-requires-2 : tie.Need-spill-requires-2
 spill-requires-2 c κs =
-    let d = c .before .before .before .before .before .before .before .before .before .before .before .before .before .before .before .before in
-    let long = part-long (entries d) _ (log-room d) _ (d .mend .kept .1 .1 .0) (entries-fit d) in
-    omega (arith, long, mended d .entriesFit)
+    let at-spill = c .before .before .before .before in
+    let d = at-spill .before .before .before .before .before .before .before .before .before .before .before .before in
+    omega (arith, log-back d _ (d .mend .kept .1 .1 .0) .long, mended d .entriesFit)
 
 slice-aggregate-spill-3 : tie.Need-slice-aggregate-spill-3
 slice-aggregate-spill-3 c = search needs
@@ -141,13 +169,13 @@ spill-requires-3 c κs =
     let at-spill2 = c .before .before .before .before in
     let at-spill = at-spill2 .before .before .before .before .before in
     let d = at-spill .before .before .before .before .before .before .before .before .before .before .before .before in
-    omega (arith, start d .pre .1)
+    omega (arith, start d .pre .1 .1)
 
 same-length-6 : tie.Need-same-length-6
 same-length-6 c = search needs
 
 same-length-7 : tie.Need-same-length-7
-same-length-7 c = search needs
+same-length-7 c = list-back (c .before .before .before .before .before .before .before .before .before .before .before .before .before .before .before .before .before .before .before .before .before .before .before .before) .whole
 
 same-length-8 : tie.Need-same-length-8
 same-length-8 c = search needs
@@ -166,20 +194,23 @@ returns-2 c =
     let at-if1 = at-spill .before .before .before .before .before in
     let d = at-if1 .before .before .before .before .before .before .before in
     let a = start d .args in
-    let log = part-left (entries d) _ (log-room d) _ (d .mend .kept .1 .1 .0) (entries-fit d) in
-    done-reply (now (a .image)) (length (now (a .blocks))) (length (now (a .log))) (length (now (a .reply))) (a .limit) _ _ (mended d) _ _ _
+    of-part (reply d) _ _ (list-room d) (start d .pre .0)
+    (done-reply (now (a .image)) (length (now (a .blocks))) (length (now (a .log))) (length (now (a .reply))) (a .limit) _ _ (mended d) _ _ _
     (at-if1 .if1 .left)
-    (at-spill .spill .ensures)
-    (at-spill2 .spill2 .ensures ∙ ap (paddedBytes (length (now (a .log)))) log)
-    (at-spill3 .spill3 .ensures)
+    (at-spill .spill .ensures ∙ ap (paddedBytes (length (now (a .blocks)))) (list-back d .words))
+    (at-spill2 .spill2 .ensures ∙ ap (paddedBytes (length (now (a .log)))) (log-back d _ (d .mend .kept .1 .1 .0) .words))
+    (at-spill3 .spill3 .ensures))
 
 pub mend-with-spec : {M : Type 1} → statement M
 mend-with-spec =
     tie.close
     (tie.spec
     log-room-requires
-    array-borrow-prefix-entries
+    mul-n
+    slice-relend-prefix-mend
     slice-aggregate-mend
+    array-borrow-prefix-entries
+    slice-aggregate-mend-2
     mend-requires
     refuse-requires
     same-length
