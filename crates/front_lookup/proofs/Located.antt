@@ -3,7 +3,7 @@ use Prim.Native.Nat.{ℕ, _*_, _/_, _≤_, _<_}
 use mathlib.Core.Path.{_≡_, refl, ap, _∙_}
 use mathlib.Core.List.{List, [], _∷_}
 use native.Mathlib.Omega.{arith}
-use lib.ListN.{length, replicate}
+use lib.ListN.{replicate}
 use Rattle.format.specs.Blocks.{roomOf}
 use Rattle.format.specs.Walk.{Outcome, done, refused}
 use Rattle.format.specs.Path.{parsePath}

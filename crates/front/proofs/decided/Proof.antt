@@ -1,7 +1,6 @@
 -- Each test says its part.
 use mathlib.Core.Path.{sym}
 use mathlib.Core.Bool.{true≢false}
-use borrow.Author.Needs.{needs}
 use Rattle.front.proofs.decided.Statement.{statement}
 use Rattle.front.proofs.decided.Tie as tie
 

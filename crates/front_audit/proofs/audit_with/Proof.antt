@@ -7,7 +7,7 @@ use lib.Seq.{length-take-le}
 use denote.Ref.{now}
 use Rattle.format.specs.Limits.{objectsMost}
 use Rattle.format.specs.Answers.{audit}
-use Rattle.format.specs.Front.{paddedBytes, cAuditEnd}
+use Rattle.format.specs.Front.{paddedBytes, CReply, cAuditEnd}
 use Rattle.front.proofs.Lent.{part-lent}
 use Rattle.front.proofs.Part.{Back, came-back}
 use Rattle.front.proofs.Call.{of-part}
@@ -39,6 +39,10 @@ words-fit c =
 
 came : (c : tie.After-audit-into) → let a = start c .args in Back (back c) (now (a .list)) (4 * a .room) (used c)
 came c = let a = start c .args in came-back (back c) (now (a .list)) (4 * a .room) (used c) (c .audit-into .kept .1 .0) (words-fit c)
+
+-- the reply of an audit with so many words lent
+abbrev reply : tie.After-audit-into → ℕ → CReply
+reply c k = let a = start c .args in cAuditEnd (length (now (a .blocks))) (length (now (a .reply))) (audit (now (a .image)) k)
 
 mul-n : tie.Need-mul-n
 mul-n c = search needs
@@ -83,7 +87,7 @@ returns c =
     let a = start d .args in
     let t = at-refuse .refuse .ensures in
     rw (t .0)
-    (of-part (λ (k : ℕ). cAuditEnd (length (now (a .blocks))) (length (now (a .reply))) (audit (now (a .image)) k)) _ _ (4 * a .room) (start d .pre .0)
+    (of-part (reply d) _ _ (4 * a .room) (start d .pre .0)
     (refused-reply (now (a .image)) (length (now (a .blocks))) (length (now (a .reply))) _ (lent d) _ _ _ _ _ (d .audit-into .ensures) _ _
     (at-if1 .if1 .taken) (t .1 .0) (t .1 .1)))
 
@@ -145,7 +149,7 @@ returns-2 c =
     let at-if1 = at-spill .before .before .before .before in
     let d = at-if1 .before .before .before .before .before .before .before in
     let a = start d .args in
-    of-part (λ (k : ℕ). cAuditEnd (length (now (a .blocks))) (length (now (a .reply))) (audit (now (a .image)) k)) _ _ (4 * a .room) (start d .pre .0)
+    of-part (reply d) _ _ (4 * a .room) (start d .pre .0)
     (done-reply (now (a .image)) (length (now (a .blocks))) (length (now (a .reply))) _ (lent d) _ _ _ _ _ (d .audit-into .ensures) _ _
     (at-if1 .if1 .left) (at-spill .spill .ensures ∙ ap (paddedBytes (length (now (a .blocks)))) (came d .words)) (c .before .before .write-reply .ensures))
 

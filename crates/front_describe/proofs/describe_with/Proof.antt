@@ -7,7 +7,7 @@ use lib.Seq.{length-take-le}
 use denote.Ref.{now}
 use Rattle.format.specs.Limits.{rankMost}
 use Rattle.format.specs.Answers.{describe}
-use Rattle.format.specs.Front.{paddedBytes, cDescribeEnd}
+use Rattle.format.specs.Front.{paddedBytes, CReply, cDescribeEnd}
 use Rattle.front.proofs.Lent.{part-lent}
 use Rattle.front.proofs.Part.{Back, came-back}
 use Rattle.front.proofs.Call.{of-part}
@@ -39,6 +39,10 @@ words-fit c =
 
 came : (c : tie.After-describe) → let a = start c .args in Back (back c) (now (a .list)) (4 * a .room) (used c)
 came c = let a = start c .args in came-back (back c) (now (a .list)) (4 * a .room) (used c) (c .describe .kept .1 .1 .0) (words-fit c)
+
+-- the reply of a description with so many words lent
+abbrev reply : tie.After-describe → ℕ → CReply
+reply c k = let a = start c .args in cDescribeEnd (length (now (a .blocks))) (length (now (a .reply))) (describe (now (a .image)) (now (a .path)) k)
 
 mul-n : tie.Need-mul-n
 mul-n c = search needs
@@ -73,8 +77,7 @@ returns c =
     let a = start d .args in
     let t = at-refuse .refuse .ensures in
     rw (t .0)
-    (of-part (λ (k : ℕ). cDescribeEnd (length (now (a .blocks))) (length (now (a .reply))) (describe (now (a .image)) (now (a .path)) k)) _ _ (4 * a .room)
-    (start d .pre .0)
+    (of-part (reply d) _ _ (4 * a .room) (start d .pre .0)
     (refused-reply (now (a .image)) (now (a .path)) (length (now (a .blocks))) (length (now (a .reply))) _ (lent d) _ _ (d .describe .ensures) _ _
     (at-if1 .if1 .taken) (t .1 .0) (t .1 .1)))
 
@@ -119,10 +122,10 @@ returns-2 c =
     let at-if1 = at-spill .before .before .before .before in
     let d = at-if1 .before .before .before .before in
     let a = start d .args in
-    of-part (λ (k : ℕ). cDescribeEnd (length (now (a .blocks))) (length (now (a .reply))) (describe (now (a .image)) (now (a .path)) k)) _ _ (4 * a .room)
-    (start d .pre .0)
+    of-part (reply d) _ _ (4 * a .room) (start d .pre .0)
     (done-reply (now (a .image)) (now (a .path)) (length (now (a .blocks))) (length (now (a .reply))) _ (lent d) _ _ (d .describe .ensures) _ _
-    (at-if1 .if1 .left) (at-spill .spill .ensures ∙ ap (paddedBytes (length (now (a .blocks)))) (came d .words)) (c .before .before .write-description .ensures))
+    (at-if1 .if1 .left) (at-spill .spill .ensures ∙ ap (paddedBytes (length (now (a .blocks)))) (came d .words))
+    (c .before .before .write-description .ensures))
 
 pub describe-with-spec : {M : Type 1} → statement M
 describe-with-spec =

@@ -1,6 +1,5 @@
 -- The list has the words of all blocks.
 use Rattle.format.specs.Limits.{blocksMost}
-use native.Mathlib.Omega.{arith}
 use borrow.Author.Needs.{needs}
 use Rattle.front_lookup.proofs.lookup_all.Statement.{statement}
 use Rattle.front_lookup.proofs.lookup_all.Tie as tie

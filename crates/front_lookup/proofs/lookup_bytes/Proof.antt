@@ -3,7 +3,6 @@ use Prim.Native.Nat.{ℕ, _*_, _/_, _≤_}
 use lib.ListN.{length}
 use denote.Ref.{now}
 use Rattle.format.specs.Limits.{blocksMost}
-use Rattle.format.specs.Blocks.{roomOf}
 use Rattle.format.specs.Answers.{lookup}
 use Rattle.format.specs.Front.{cLookupEnd}
 use Rattle.front.proofs.Lent.{room-within}

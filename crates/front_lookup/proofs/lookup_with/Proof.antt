@@ -6,13 +6,12 @@ use lib.ListN.{length, take, drop}
 use lib.Seq.{length-take-le}
 use denote.Ref.{now}
 use Rattle.format.specs.Answers.{lookup}
-use Rattle.format.specs.Front.{cLookupEnd}
+use Rattle.format.specs.Front.{CReply, cLookupEnd}
 use Rattle.front.proofs.Lent.{part-lent}
 use Rattle.front.proofs.Part.{part-back}
 use Rattle.front.proofs.Call.{of-part}
 use Rattle.front.proofs.Reply.{all-zero}
 use Rattle.front_lookup.proofs.Located.{done-reply, refused-reply}
-use native.Mathlib.Omega.{arith}
 use borrow.Author.Needs.{needs}
 use Rattle.front_lookup.proofs.lookup_with.Statement.{statement}
 use Rattle.front_lookup.proofs.lookup_with.Tie as tie
@@ -27,6 +26,10 @@ lent c = let s = start c in part-lent (now (s .args .list)) (4 * s .args .room) 
 -- the list has its length
 list-kept : (c : tie.After-lookup) → let a = start c .args in length (c .lookup .last .1 .1 .0 ++ drop (4 * a .room) (now (a .list))) ≡ length (now (a .list))
 list-kept c = let a = start c .args in part-back (c .lookup .last .1 .1 .0) (now (a .list)) (4 * a .room) (c .lookup .kept .1 .1 .0)
+
+-- the reply of a lookup with so many words lent
+abbrev reply : tie.After-lookup → ℕ → CReply
+reply c k = let a = start c .args in cLookupEnd (length (now (a .blocks))) (length (now (a .reply))) (lookup (now (a .image)) (now (a .path)) k)
 
 mul-n : tie.Need-mul-n
 mul-n c = search needs
@@ -61,7 +64,7 @@ returns c =
     let a = s .args in
     let t = at-refuse .refuse .ensures in
     rw (t .0)
-    (of-part (λ (k : ℕ). cLookupEnd (length (now (a .blocks))) (length (now (a .reply))) (lookup (now (a .image)) (now (a .path)) k)) _ _ (4 * a .room) (s .pre .0)
+    (of-part (reply at-lookup) _ _ (4 * a .room) (s .pre .0)
     (refused-reply (now (a .image)) (now (a .path)) (length (now (a .blocks))) (length (now (a .reply))) _ (lent at-lookup) _ _ (at-lookup .lookup .ensures) _ _
     (at-if1 .if1 .taken) (t .1 .0) (t .1 .1)))
 
@@ -94,7 +97,7 @@ returns-2 c =
     let at-lookup = at-if1 .before .before .before .before in
     let s = start at-lookup in
     let a = s .args in
-    of-part (λ (k : ℕ). cLookupEnd (length (now (a .blocks))) (length (now (a .reply))) (lookup (now (a .image)) (now (a .path)) k)) _ _ (4 * a .room) (s .pre .0)
+    of-part (reply at-lookup) _ _ (4 * a .room) (s .pre .0)
     (done-reply (now (a .image)) (now (a .path)) (length (now (a .blocks))) (length (now (a .reply))) _ (lent at-lookup) _ _ (at-lookup .lookup .ensures) _ _
     (at-if1 .if1 .left) (all-zero (now (a .blocks)) _ (at-clear-from .clear-from .ensures)) (at-spill .spill .ensures))
 

@@ -74,7 +74,8 @@ slice-relend-prefix-mend : tie.Need-slice-relend-prefix-mend
 slice-relend-prefix-mend c = search needs
 
 slice-aggregate-mend : tie.Need-slice-aggregate-mend
-slice-aggregate-mend c = let s = c .before .before .before .before .before .before .before .before in sym (length-take-le (4 * s .args .room) (now (s .args .list)) (s .pre .0))
+slice-aggregate-mend c =
+    let s = c .before .before .before .before .before .before .before .before in sym (length-take-le (4 * s .args .room) (now (s .args .list)) (s .pre .0))
 
 array-borrow-prefix-entries : tie.Need-array-borrow-prefix-entries
 array-borrow-prefix-entries c = log-fits (c .before .before)
@@ -92,7 +93,9 @@ same-length : tie.Need-same-length
 same-length c = search needs
 
 same-length-2 : tie.Need-same-length-2
-same-length-2 c = list-back (c .before .before .before .before .before .before .before .before .before .before .before .before .before .before .before .before .before) .whole
+same-length-2 c =
+    let at-refuse = c .before .before .before .before .before .before in
+    list-back (at-refuse .before .before .before .before .before .before .before .before .before .before .before) .whole
 
 same-length-3 : tie.Need-same-length-3
 same-length-3 c = search needs
@@ -175,7 +178,9 @@ same-length-6 : tie.Need-same-length-6
 same-length-6 c = search needs
 
 same-length-7 : tie.Need-same-length-7
-same-length-7 c = list-back (c .before .before .before .before .before .before .before .before .before .before .before .before .before .before .before .before .before .before .before .before .before .before .before .before) .whole
+same-length-7 c =
+    let at-spill = c .before .before .before .before .before .before .before .before .before .before .before .before in
+    list-back (at-spill .before .before .before .before .before .before .before .before .before .before .before .before) .whole
 
 same-length-8 : tie.Need-same-length-8
 same-length-8 c = search needs

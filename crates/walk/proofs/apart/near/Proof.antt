@@ -1,5 +1,4 @@
 -- Where both distances are long enough, one block ends before the other begins.
-use mathlib.Core.Path.{sym}
 use mathlib.Core.Bool.{true≢false}
 use native.Mathlib.Omega.{arith}
 use Rattle.walk.proofs.BlockList.{overlaps-apart}
