@@ -1,11 +1,12 @@
 -- Each test says its part.
 use mathlib.Core.Path.{sym}
 use mathlib.Core.Bool.{true≢false}
+use native.Mathlib.Omega.{arith}
 use Rattle.front.proofs.decided.Statement.{statement}
 use Rattle.front.proofs.decided.Tie as tie
 
 returns : tie.Need-returns
-returns c = (λ _ q. absurd (c .if1 .taken q), λ e. absurd (true≢false e))
+returns c = (λ _ q. omega (arith, c .if1 .taken, q), λ e. absurd (true≢false e))
 
 returns-2 : tie.Need-returns-2
 returns-2 c = (λ _ _. c .if2 .taken, λ e. absurd (true≢false e))
