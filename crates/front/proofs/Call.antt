@@ -41,17 +41,17 @@ module _ {l : ℕ} {A C : Type 0} (call : Call l A C) where
       call .same lent (l / 8) (call .run lent) h (omega arith) fits (omega arith) ∙ ap (λ (o : Outcome A). call .end (l / 8) o) e
 
   -- room for m blocks is as good as all, if it is all or the answer isn't for want of room
-  pub enough : (m : ℕ) → m ≤ roomOf (l / 8) → (call .number (replyWith (4 * m)) ≡ 13 → m ≡ roomOf (l / 8)) → replyWith (4 * m) ≡ replyWith (l / 8)
-  enough m h all = go (eqb (call .number (replyWith (4 * m))) 13) refl
+  pub enough : (m all : ℕ) → all ≡ roomOf (l / 8) → m ≤ all → (call .number (replyWith (4 * m)) ≡ 13 → m ≡ all) → replyWith (4 * m) ≡ replyWith (l / 8)
+  enough m all e h whole = go (eqb (call .number (replyWith (4 * m))) 13) refl
     where
       inside : 4 * m ≤ l / 8
       inside = omega (arith, room-lent (l / 8))
 
       go : (t : Bool) → eqb (call .number (replyWith (4 * m))) 13 ≡ t → replyWith (4 * m) ≡ replyWith (l / 8)
-      go true e = run-same (4 * m) inside (rw (all (eqb-true _ _ e)) (call .room (l / 8)))
-      go false e =
-          let had = call .told (4 * m) (call .run (4 * m)) (eqb-false _ _ e) in
-          run-same (4 * m) inside (sym (call .more (4 * m) (l / 8) (less-room m (l / 8) h) had))
+      go true q = run-same (4 * m) inside (rw (whole (eqb-true _ _ q), e) (call .room (l / 8)))
+      go false q =
+          let had = call .told (4 * m) (call .run (4 * m)) (eqb-false _ _ q) in
+          run-same (4 * m) inside (sym (call .more (4 * m) (l / 8) (less-room m (l / 8) (omega arith)) had))
 
 -- a part of a list was lent
 pub of-part : {C : Type 0} (reply : ℕ → C) (x : C) (zs : List ℕ) (n : ℕ) → n ≤ length zs → x ≡ reply (length (take n zs)) → x ≡ reply n

@@ -15,7 +15,7 @@ const SMALL_IMAGE: usize = 16384;
 
 pub const FEW_BLOCKS: usize = 64;
 
-// The room that a call is tried with first, of the room that it has.
+// The room that a call is tried with first, of the room that it has. Which it is shows in no reply.
 pub fn first_room(image: usize, room: usize) -> usize
     ensures { λ r. ⌜ r ≤ room ⌝ }
 {

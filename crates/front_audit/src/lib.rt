@@ -9,10 +9,10 @@ ghost use Prim.Native.Nat.{_+_, _*_, _/_, _≤_};
 ghost use lib.ListN.{length};
 ghost use Rattle.format.specs.Bytes.{overwrite};
 ghost use Rattle.format.specs.Limits.{objectsMost, blocksMost};
-ghost use Rattle.format.specs.Answers as definitions;
-ghost use Rattle.format.specs.Front.{wordBytes, paddedBytes, objectWords, CReply, cAuditEnd, cAudit};
+ghost use Rattle.format.specs.Front.{wordBytes, paddedBytes, objectWords, CReply, cAudit};
 ghost use Rattle.ledger.specs.Report.{countedPlaces};
 ghost use Rattle.front_audit.specs.Room.{Roomy};
+ghost use Rattle.front_audit.specs.With.{AuditsWith};
 ghost use Rattle.front.specs.Few.{fewBlocks};
 
 // Writes the words of one object.
@@ -59,8 +59,8 @@ fn audit_with(
     requires { ⌜ 4 * room ≤ length (now list) ⌝ }
     requires { ⌜ 4 * room ≤ length (now blocks) / 8 ⌝ }
     requires { ⌜ 2 + 3 * objectsMost ≤ length (now reply) / 8 ⌝ }
-    ensures { λ r. ⌜ _≡_ {A = CReply} (record { number = r; list = now (blocks .exit); reply = now (reply .exit) })
-        (cAuditEnd (length (now (blocks .entry))) (length (now (reply .entry))) (definitions.audit (now (image .entry)) (4 * room))) ⌝ }
+    ensures { λ r. ⌜ AuditsWith (now (image .entry)) (length (now (blocks .entry))) (length (now (reply .entry))) room
+        (record { number = r; list = now (blocks .exit); reply = now (reply .exit) }) ⌝ }
 {
     let mut addresses = [0u64; OBJECTS_MOST];
     let mut stored = [0u32; OBJECTS_MOST];
@@ -94,8 +94,8 @@ fn audit_few(image: &[u8], blocks: &mut [u8], reply: &mut [u8], room: usize) -> 
     requires { ⌜ room ≤ fewBlocks ⌝ }
     requires { ⌜ 4 * room ≤ length (now blocks) / 8 ⌝ }
     requires { ⌜ 2 + 3 * objectsMost ≤ length (now reply) / 8 ⌝ }
-    ensures { λ r. ⌜ _≡_ {A = CReply} (record { number = r; list = now (blocks .exit); reply = now (reply .exit) })
-        (cAuditEnd (length (now (blocks .entry))) (length (now (reply .entry))) (definitions.audit (now (image .entry)) (4 * room))) ⌝ }
+    ensures { λ r. ⌜ AuditsWith (now (image .entry)) (length (now (blocks .entry))) (length (now (reply .entry))) room
+        (record { number = r; list = now (blocks .exit); reply = now (reply .exit) }) ⌝ }
 {
     let mut list = [0u64; 4 * FEW_BLOCKS];
     audit_with(image, &mut list, blocks, reply, room)
@@ -105,8 +105,8 @@ fn audit_all(image: &[u8], blocks: &mut [u8], reply: &mut [u8], room: usize) -> 
     requires { ⌜ room ≤ blocksMost ⌝ }
     requires { ⌜ 4 * room ≤ length (now blocks) / 8 ⌝ }
     requires { ⌜ 2 + 3 * objectsMost ≤ length (now reply) / 8 ⌝ }
-    ensures { λ r. ⌜ _≡_ {A = CReply} (record { number = r; list = now (blocks .exit); reply = now (reply .exit) })
-        (cAuditEnd (length (now (blocks .entry))) (length (now (reply .entry))) (definitions.audit (now (image .entry)) (4 * room))) ⌝ }
+    ensures { λ r. ⌜ AuditsWith (now (image .entry)) (length (now (blocks .entry))) (length (now (reply .entry))) room
+        (record { number = r; list = now (blocks .exit); reply = now (reply .exit) }) ⌝ }
 {
     let mut list = [0u64; 4 * BLOCKS_MOST];
     audit_with(image, &mut list, blocks, reply, room)
@@ -117,8 +117,8 @@ fn audit_in(image: &[u8], blocks: &mut [u8], reply: &mut [u8], room: usize) -> u
     requires { ⌜ room ≤ blocksMost ⌝ }
     requires { ⌜ 4 * room ≤ length (now blocks) / 8 ⌝ }
     requires { ⌜ 2 + 3 * objectsMost ≤ length (now reply) / 8 ⌝ }
-    ensures { λ r. ⌜ _≡_ {A = CReply} (record { number = r; list = now (blocks .exit); reply = now (reply .exit) })
-        (cAuditEnd (length (now (blocks .entry))) (length (now (reply .entry))) (definitions.audit (now (image .entry)) (4 * room))) ⌝ }
+    ensures { λ r. ⌜ AuditsWith (now (image .entry)) (length (now (blocks .entry))) (length (now (reply .entry))) room
+        (record { number = r; list = now (blocks .exit); reply = now (reply .exit) }) ⌝ }
 {
     if room <= FEW_BLOCKS {
         return audit_few(image, blocks, reply, room);

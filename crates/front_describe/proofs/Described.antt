@@ -88,8 +88,8 @@ module _ (im path : List ℕ) (l r : ℕ) where
   }
 
   -- the reply with room for m blocks is the call's, if that is all the room or it didn't end for want of room
-  pub whole-reply : 10 + 2 * rankMost ≤ r / 8 → (m : ℕ) (x : CReply) → x ≡ cDescribeEnd l r (describe im path (4 * m)) → m ≤ roomOf (l / 8) →
-      (x .number ≡ 13 → m ≡ roomOf (l / 8)) → x ≡ cDescribe im path l r
+  pub whole-reply : 10 + 2 * rankMost ≤ r / 8 → (m all : ℕ) (x : CReply) → x ≡ cDescribeEnd l r (describe im path (4 * m)) → all ≡ roomOf (l / 8) →
+      m ≤ all → (x .number ≡ 13 → m ≡ all) → x ≡ cDescribe im path l r
   unfolding cDescribe describe call
-  whole-reply long m x is h all =
-      is ∙ enough call m h (λ q. all (ap (λ (y : CReply). y .number) is ∙ q)) ∙ long-enough l r (10 + 2 * rankMost) _ long
+  whole-reply long m all x is e h whole =
+      is ∙ enough call m all e h (λ q. whole (ap (λ (y : CReply). y .number) is ∙ q)) ∙ long-enough l r (10 + 2 * rankMost) _ long

@@ -9,10 +9,10 @@ ghost use Prim.Native.Nat.{_+_, _*_, _/_, _≤_};
 ghost use lib.ListN.{length};
 ghost use Rattle.format.specs.Bytes.{overwrite};
 ghost use Rattle.format.specs.Limits.{rankMost, blocksMost};
-ghost use Rattle.format.specs.Answers as definitions;
-ghost use Rattle.format.specs.Front.{wordBytes, paddedBytes, descriptionWords, CReply, cDescribeEnd, cDescribe};
+ghost use Rattle.format.specs.Front.{wordBytes, paddedBytes, descriptionWords, CReply, cDescribe};
 ghost use Rattle.describe.specs.Describe.{replyOf};
 ghost use Rattle.front.specs.Few.{fewBlocks};
+ghost use Rattle.front_describe.specs.With.{DescribesWith};
 
 // Writes words one after the other.
 fn put_words(reply: &mut [u8], at: usize, words: &[u64])
@@ -63,9 +63,8 @@ fn describe_with(
     requires { ⌜ 4 * room ≤ length (now list) ⌝ }
     requires { ⌜ 4 * room ≤ length (now blocks) / 8 ⌝ }
     requires { ⌜ 10 + 2 * rankMost ≤ length (now reply) / 8 ⌝ }
-    ensures { λ r. ⌜ _≡_ {A = CReply} (record { number = r; list = now (blocks .exit); reply = now (reply .exit) })
-        (cDescribeEnd (length (now (blocks .entry))) (length (now (reply .entry)))
-        (definitions.describe (now (image .entry)) (now (path .entry)) (4 * room))) ⌝ }
+    ensures { λ r. ⌜ DescribesWith (now (image .entry)) (now (path .entry)) (length (now (blocks .entry))) (length (now (reply .entry))) room
+        (record { number = r; list = now (blocks .exit); reply = now (reply .exit) }) ⌝ }
 {
     let n = 4 * room;
     let r = describe::describe(image, path, &mut list[..n]);
@@ -83,9 +82,8 @@ fn describe_few(image: &[u8], path: &[u8], blocks: &mut [u8], reply: &mut [u8], 
     requires { ⌜ room ≤ fewBlocks ⌝ }
     requires { ⌜ 4 * room ≤ length (now blocks) / 8 ⌝ }
     requires { ⌜ 10 + 2 * rankMost ≤ length (now reply) / 8 ⌝ }
-    ensures { λ r. ⌜ _≡_ {A = CReply} (record { number = r; list = now (blocks .exit); reply = now (reply .exit) })
-        (cDescribeEnd (length (now (blocks .entry))) (length (now (reply .entry)))
-        (definitions.describe (now (image .entry)) (now (path .entry)) (4 * room))) ⌝ }
+    ensures { λ r. ⌜ DescribesWith (now (image .entry)) (now (path .entry)) (length (now (blocks .entry))) (length (now (reply .entry))) room
+        (record { number = r; list = now (blocks .exit); reply = now (reply .exit) }) ⌝ }
 {
     let mut list = [0u64; 4 * FEW_BLOCKS];
     describe_with(image, path, &mut list, blocks, reply, room)
@@ -95,9 +93,8 @@ fn describe_all(image: &[u8], path: &[u8], blocks: &mut [u8], reply: &mut [u8], 
     requires { ⌜ room ≤ blocksMost ⌝ }
     requires { ⌜ 4 * room ≤ length (now blocks) / 8 ⌝ }
     requires { ⌜ 10 + 2 * rankMost ≤ length (now reply) / 8 ⌝ }
-    ensures { λ r. ⌜ _≡_ {A = CReply} (record { number = r; list = now (blocks .exit); reply = now (reply .exit) })
-        (cDescribeEnd (length (now (blocks .entry))) (length (now (reply .entry)))
-        (definitions.describe (now (image .entry)) (now (path .entry)) (4 * room))) ⌝ }
+    ensures { λ r. ⌜ DescribesWith (now (image .entry)) (now (path .entry)) (length (now (blocks .entry))) (length (now (reply .entry))) room
+        (record { number = r; list = now (blocks .exit); reply = now (reply .exit) }) ⌝ }
 {
     let mut list = [0u64; 4 * BLOCKS_MOST];
     describe_with(image, path, &mut list, blocks, reply, room)
@@ -108,9 +105,8 @@ fn describe_in(image: &[u8], path: &[u8], blocks: &mut [u8], reply: &mut [u8], r
     requires { ⌜ room ≤ blocksMost ⌝ }
     requires { ⌜ 4 * room ≤ length (now blocks) / 8 ⌝ }
     requires { ⌜ 10 + 2 * rankMost ≤ length (now reply) / 8 ⌝ }
-    ensures { λ r. ⌜ _≡_ {A = CReply} (record { number = r; list = now (blocks .exit); reply = now (reply .exit) })
-        (cDescribeEnd (length (now (blocks .entry))) (length (now (reply .entry)))
-        (definitions.describe (now (image .entry)) (now (path .entry)) (4 * room))) ⌝ }
+    ensures { λ r. ⌜ DescribesWith (now (image .entry)) (now (path .entry)) (length (now (blocks .entry))) (length (now (reply .entry))) room
+        (record { number = r; list = now (blocks .exit); reply = now (reply .exit) }) ⌝ }
 {
     if room <= FEW_BLOCKS {
         return describe_few(image, path, blocks, reply, room);

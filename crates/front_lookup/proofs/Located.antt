@@ -70,7 +70,7 @@ module _ (im path : List ℕ) (l r : ℕ) where
   }
 
   -- the reply with room for m blocks is the call's, if that is all the room or it didn't end for want of room
-  pub whole-reply : 3 ≤ r / 8 → (m : ℕ) (x : CReply) → x ≡ cLookupEnd l r (lookup im path (4 * m)) → m ≤ roomOf (l / 8) →
-      (x .number ≡ 13 → m ≡ roomOf (l / 8)) → x ≡ cLookup im path l r
+  pub whole-reply : 3 ≤ r / 8 → (m all : ℕ) (x : CReply) → x ≡ cLookupEnd l r (lookup im path (4 * m)) → all ≡ roomOf (l / 8) →
+      m ≤ all → (x .number ≡ 13 → m ≡ all) → x ≡ cLookup im path l r
   unfolding cLookup lookup call
-  whole-reply long m x is h all = is ∙ enough call m h (λ q. all (ap (λ (y : CReply). y .number) is ∙ q)) ∙ long-enough l r 3 _ long
+  whole-reply long m all x is e h whole = is ∙ enough call m all e h (λ q. whole (ap (λ (y : CReply). y .number) is ∙ q)) ∙ long-enough l r 3 _ long

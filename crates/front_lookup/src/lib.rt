@@ -6,9 +6,9 @@ ghost use mathlib.Core.Path.{_≡_};
 ghost use Prim.Native.Nat.{_*_, _/_, _≤_};
 ghost use lib.ListN.{length};
 ghost use Rattle.format.specs.Limits.{blocksMost};
-ghost use Rattle.format.specs.Answers as definitions;
-ghost use Rattle.format.specs.Front.{CReply, cLookupEnd, cLookup};
+ghost use Rattle.format.specs.Front.{CReply, cLookup};
 ghost use Rattle.front.specs.Few.{fewBlocks};
+ghost use Rattle.front_lookup.specs.With.{LooksUpWith};
 
 // The words of the reply: block count, kind, address.
 const REPLY_WORDS: usize = 3;
@@ -25,9 +25,8 @@ fn lookup_with(
     requires { ⌜ 4 * room ≤ length (now list) ⌝ }
     requires { ⌜ 4 * room ≤ length (now blocks) / 8 ⌝ }
     requires { ⌜ 3 ≤ length (now reply) / 8 ⌝ }
-    ensures { λ r. ⌜ _≡_ {A = CReply} (record { number = r; list = now (blocks .exit); reply = now (reply .exit) })
-        (cLookupEnd (length (now (blocks .entry))) (length (now (reply .entry)))
-        (definitions.lookup (now (image .entry)) (now (path .entry)) (4 * room))) ⌝ }
+    ensures { λ r. ⌜ LooksUpWith (now (image .entry)) (now (path .entry)) (length (now (blocks .entry))) (length (now (reply .entry))) room
+        (record { number = r; list = now (blocks .exit); reply = now (reply .exit) }) ⌝ }
 {
     let n = 4 * room;
     let r = lookup::lookup::lookup(image, path, &mut list[..n]);
@@ -46,9 +45,8 @@ fn lookup_few(image: &[u8], path: &[u8], blocks: &mut [u8], reply: &mut [u8], ro
     requires { ⌜ room ≤ fewBlocks ⌝ }
     requires { ⌜ 4 * room ≤ length (now blocks) / 8 ⌝ }
     requires { ⌜ 3 ≤ length (now reply) / 8 ⌝ }
-    ensures { λ r. ⌜ _≡_ {A = CReply} (record { number = r; list = now (blocks .exit); reply = now (reply .exit) })
-        (cLookupEnd (length (now (blocks .entry))) (length (now (reply .entry)))
-        (definitions.lookup (now (image .entry)) (now (path .entry)) (4 * room))) ⌝ }
+    ensures { λ r. ⌜ LooksUpWith (now (image .entry)) (now (path .entry)) (length (now (blocks .entry))) (length (now (reply .entry))) room
+        (record { number = r; list = now (blocks .exit); reply = now (reply .exit) }) ⌝ }
 {
     let mut list = [0u64; 4 * FEW_BLOCKS];
     lookup_with(image, path, &mut list, blocks, reply, room)
@@ -58,9 +56,8 @@ fn lookup_all(image: &[u8], path: &[u8], blocks: &mut [u8], reply: &mut [u8], ro
     requires { ⌜ room ≤ blocksMost ⌝ }
     requires { ⌜ 4 * room ≤ length (now blocks) / 8 ⌝ }
     requires { ⌜ 3 ≤ length (now reply) / 8 ⌝ }
-    ensures { λ r. ⌜ _≡_ {A = CReply} (record { number = r; list = now (blocks .exit); reply = now (reply .exit) })
-        (cLookupEnd (length (now (blocks .entry))) (length (now (reply .entry)))
-        (definitions.lookup (now (image .entry)) (now (path .entry)) (4 * room))) ⌝ }
+    ensures { λ r. ⌜ LooksUpWith (now (image .entry)) (now (path .entry)) (length (now (blocks .entry))) (length (now (reply .entry))) room
+        (record { number = r; list = now (blocks .exit); reply = now (reply .exit) }) ⌝ }
 {
     let mut list = [0u64; 4 * BLOCKS_MOST];
     lookup_with(image, path, &mut list, blocks, reply, room)
@@ -71,9 +68,8 @@ fn lookup_in(image: &[u8], path: &[u8], blocks: &mut [u8], reply: &mut [u8], roo
     requires { ⌜ room ≤ blocksMost ⌝ }
     requires { ⌜ 4 * room ≤ length (now blocks) / 8 ⌝ }
     requires { ⌜ 3 ≤ length (now reply) / 8 ⌝ }
-    ensures { λ r. ⌜ _≡_ {A = CReply} (record { number = r; list = now (blocks .exit); reply = now (reply .exit) })
-        (cLookupEnd (length (now (blocks .entry))) (length (now (reply .entry)))
-        (definitions.lookup (now (image .entry)) (now (path .entry)) (4 * room))) ⌝ }
+    ensures { λ r. ⌜ LooksUpWith (now (image .entry)) (now (path .entry)) (length (now (blocks .entry))) (length (now (reply .entry))) room
+        (record { number = r; list = now (blocks .exit); reply = now (reply .exit) }) ⌝ }
 {
     if room <= FEW_BLOCKS {
         return lookup_few(image, path, blocks, reply, room);

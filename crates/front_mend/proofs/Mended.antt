@@ -234,10 +234,10 @@ module _ (im : List ℕ) (l g r n : ℕ) where
   }
 
   -- the reply with room for m blocks is the call's, if that is all the room or it didn't end for want of room
-  pub whole-reply : 3 ≤ r / 8 → (m : ℕ) (x : CMend) → x ≡ cMendEnd l g r (mend im (4 * m) (g / 8) n) → m ≤ roomOf (l / 8) →
-      (x .number ≡ 13 → m ≡ roomOf (l / 8)) → x ≡ cMend im l g r n
+  pub whole-reply : 3 ≤ r / 8 → (m all : ℕ) (x : CMend) → x ≡ cMendEnd l g r (mend im (4 * m) (g / 8) n) → all ≡ roomOf (l / 8) →
+      m ≤ all → (x .number ≡ 13 → m ≡ all) → x ≡ cMend im l g r n
   unfolding cMend mend audit call
-  whole-reply long m x is h all = is ∙ enough call m h (λ q. all (ap (λ (y : CMend). y .number) is ∙ q)) ∙ rw (le-leb 3 (r / 8) long)
+  whole-reply long m all x is e h whole = is ∙ enough call m all e h (λ q. whole (ap (λ (y : CMend). y .number) is ∙ q)) ∙ rw (le-leb 3 (r / 8) long)
 
 -- slices that came back with the same lengths, and the image as it was
 pub same-slices : (im im′ : List ℕ) (l g r l′ g′ r′ lent n : ℕ) (x : CMend) → im′ ≡ im → l′ ≡ l → g′ ≡ g → r′ ≡ r →

@@ -7,9 +7,9 @@ ghost use mathlib.Core.Path.{_≡_};
 ghost use Prim.Native.Nat.{_*_, _/_, _≤_, min};
 ghost use lib.ListN.{length, replicate};
 ghost use Rattle.format.specs.Limits.{objectsMost, blocksMost};
-ghost use Rattle.format.specs.Answers as definitions;
-ghost use Rattle.format.specs.Front.{paddedBytes, refusalWords, CMend, cMendEnd, cMend};
+ghost use Rattle.format.specs.Front.{paddedBytes, refusalWords, CMend, cMend};
 ghost use Rattle.front.specs.Few.{fewBlocks};
+ghost use Rattle.front_mend.specs.With.{MendsWith};
 
 // The words of the reply: block count, entries, writes.
 const REPLY_WORDS: usize = 3;
@@ -61,10 +61,8 @@ fn mend_with(
     requires { ⌜ 4 * room ≤ length (now blocks) / 8 ⌝ }
     requires { ⌜ 3 ≤ length (now reply) / 8 ⌝ }
     ensures { λ r.
-        ⌜ _≡_ {A = CMend}
-        (record { number = r; list = now (blocks .exit); log = now (log .exit); reply = now (reply .exit); image = now (image .exit) })
-        (cMendEnd (length (now (blocks .entry))) (length (now (log .entry))) (length (now (reply .entry)))
-        (definitions.mend (now (image .entry)) (4 * room) (length (now (log .entry)) / 8) limit)) ⌝ }
+        ⌜ MendsWith (now (image .entry)) (length (now (blocks .entry))) (length (now (log .entry))) (length (now (reply .entry))) limit room
+        (record { number = r; list = now (blocks .exit); log = now (log .exit); reply = now (reply .exit); image = now (image .exit) }) ⌝ }
 {
     let mut entries = [0u64; 2 * OBJECTS_MOST];
     let m = log_room(log.len() / 8);
@@ -95,10 +93,8 @@ fn mend_few(
     requires { ⌜ 4 * room ≤ length (now blocks) / 8 ⌝ }
     requires { ⌜ 3 ≤ length (now reply) / 8 ⌝ }
     ensures { λ r.
-        ⌜ _≡_ {A = CMend}
-        (record { number = r; list = now (blocks .exit); log = now (log .exit); reply = now (reply .exit); image = now (image .exit) })
-        (cMendEnd (length (now (blocks .entry))) (length (now (log .entry))) (length (now (reply .entry)))
-        (definitions.mend (now (image .entry)) (4 * room) (length (now (log .entry)) / 8) limit)) ⌝ }
+        ⌜ MendsWith (now (image .entry)) (length (now (blocks .entry))) (length (now (log .entry))) (length (now (reply .entry))) limit room
+        (record { number = r; list = now (blocks .exit); log = now (log .exit); reply = now (reply .exit); image = now (image .exit) }) ⌝ }
 {
     let mut list = [0u64; 4 * FEW_BLOCKS];
     mend_with(image, &mut list, blocks, log, reply, limit, room)
@@ -116,10 +112,8 @@ fn mend_all(
     requires { ⌜ 4 * room ≤ length (now blocks) / 8 ⌝ }
     requires { ⌜ 3 ≤ length (now reply) / 8 ⌝ }
     ensures { λ r.
-        ⌜ _≡_ {A = CMend}
-        (record { number = r; list = now (blocks .exit); log = now (log .exit); reply = now (reply .exit); image = now (image .exit) })
-        (cMendEnd (length (now (blocks .entry))) (length (now (log .entry))) (length (now (reply .entry)))
-        (definitions.mend (now (image .entry)) (4 * room) (length (now (log .entry)) / 8) limit)) ⌝ }
+        ⌜ MendsWith (now (image .entry)) (length (now (blocks .entry))) (length (now (log .entry))) (length (now (reply .entry))) limit room
+        (record { number = r; list = now (blocks .exit); log = now (log .exit); reply = now (reply .exit); image = now (image .exit) }) ⌝ }
 {
     let mut list = [0u64; 4 * BLOCKS_MOST];
     mend_with(image, &mut list, blocks, log, reply, limit, room)
@@ -138,10 +132,8 @@ fn mend_in(
     requires { ⌜ 4 * room ≤ length (now blocks) / 8 ⌝ }
     requires { ⌜ 3 ≤ length (now reply) / 8 ⌝ }
     ensures { λ r.
-        ⌜ _≡_ {A = CMend}
-        (record { number = r; list = now (blocks .exit); log = now (log .exit); reply = now (reply .exit); image = now (image .exit) })
-        (cMendEnd (length (now (blocks .entry))) (length (now (log .entry))) (length (now (reply .entry)))
-        (definitions.mend (now (image .entry)) (4 * room) (length (now (log .entry)) / 8) limit)) ⌝ }
+        ⌜ MendsWith (now (image .entry)) (length (now (blocks .entry))) (length (now (log .entry))) (length (now (reply .entry))) limit room
+        (record { number = r; list = now (blocks .exit); log = now (log .exit); reply = now (reply .exit); image = now (image .exit) }) ⌝ }
 {
     if room <= FEW_BLOCKS {
         return mend_few(image, blocks, log, reply, limit, room);

@@ -1,6 +1,6 @@
 -- The laws of Mended.antt, at the three ends of the code.
 use Prim.Native.Nat.{ℕ, _*_, _/_, _≤_}
-use mathlib.Core.Path.{_≡_}
+use mathlib.Core.Path.{_≡_, refl}
 use lib.ListN.{length}
 use denote.Ref.{now}
 use Rattle.format.specs.Limits.{blocksMost}
@@ -85,9 +85,8 @@ returns-2 c =
     let at-first = at-in .before .before .before .before .before in
     let at-room = at-first .before in
     let a = start at-room .args in
-    whole-reply (now (a .image)) (length (now (a .blocks))) (length (now (a .log))) (length (now (a .reply))) (a .limit) (reply-long at-room) _ _
-    (at-in .mend-in .ensures) (omega (arith, at-first .first-room .ensures, at-room .room .ensures))
-    (λ q. omega (arith, c .before .decided .ensures .0 (c .if2 .taken) q, at-room .room .ensures))
+    whole-reply (now (a .image)) (length (now (a .blocks))) (length (now (a .log))) (length (now (a .reply))) (a .limit) (reply-long at-room) _ _ _
+    (at-in .mend-in .ensures) (at-room .room .ensures) (at-first .first-room .ensures) (c .before .decided .ensures .0 (c .if2 .taken))
 
 mend-in-requires-2 : tie.Need-mend-in-requires-2
 mend-in-requires-2 c κs =
@@ -120,7 +119,7 @@ returns-3 c =
     let again = same-slices (now (a .image)) _ (length (now (a .blocks))) (length (now (a .log))) (length (now (a .reply))) _ _ _
     (4 * at-room .room .result) (a .limit) _ (image-left at-if2) (same .1 .0) (same .1 .1 .0) (same .1 .1 .1 .0) (at-again .mend-in2 .ensures) in
     whole-reply (now (a .image)) (length (now (a .blocks))) (length (now (a .log))) (length (now (a .reply))) (a .limit) (reply-long at-room)
-    (at-room .room .result) _ again (omega (arith, at-room .room .ensures)) (λ _. at-room .room .ensures)
+    (at-room .room .result) _ _ again (at-room .room .ensures) (omega arith) (λ _. refl)
 
 pub mend-bytes-spec : {M : Type 1} → statement M
 mend-bytes-spec =
