@@ -76,7 +76,7 @@ getD-addresses (suc n) zero xs ts h = refl
 getD-addresses (suc n) (suc k) [] ts h = getD-addresses n k [] (drop 1 ts) (omega arith) ∙ refl
 getD-addresses (suc n) (suc k) (x ∷ xs) ts h = getD-addresses n k xs (drop 1 ts) (omega arith)
 
-getD-zeros : (n k : ℕ) → _≡_ {A = ℕ} (getD (replicate n 0) k 0) 0
+pub getD-zeros : (n k : ℕ) → _≡_ {A = ℕ} (getD (replicate n 0) k 0) 0
 getD-zeros zero k = refl
 getD-zeros (suc n) zero = refl
 getD-zeros (suc n) (suc k) = getD-zeros n k
@@ -87,7 +87,7 @@ module _ (im ws : List ℕ) (s : Superblock) (count objects : ℕ) (ws₁ addres
   abbrev os : List Linked
   os = linkedOf objects addresses counts
 
-  ran : run im (s .«end_of_file») (roomOf (length ws)) (auditWalk (superblockOf s)) [] ≡ done os (blocksOf count ws₁)
+  pub ran : run im (s .«end_of_file») (roomOf (length ws)) (auditWalk (superblockOf s)) [] ≡ done os (blocksOf count ws₁)
   ran = walked-done ws ws₁ os count _ (w .walked)
 
   -- the stored counts lie inside the image
@@ -102,7 +102,7 @@ module _ (im ws : List ℕ) (s : Superblock) (count objects : ℕ) (ws₁ addres
   pub count-fits : 4 * count ≤ length ws₁
   count-fits = omega (arith, w .ready .lent .counted, w .ready .lent .lent)
 
-  list-is : take (4 * count) ws₁ ++ replicate (length ws₁ - 4 * count) 0 ≡ blockList (length ws) (blocksOf count ws₁)
+  pub list-is : take (4 * count) ws₁ ++ replicate (length ws₁ - 4 * count) 0 ≡ blockList (length ws) (blocksOf count ws₁)
   list-is = rw (list-cleared count (blocksOf count ws₁) ws₁ count-fits (w .ready .lent .numbered), same)
 
   pub done-is : opened (superblockOf s) ≡ openImage im → Bounded im s → (stored₀ stored : List ℕ) → stored₀ ≡ replicate objectsMost 0 →

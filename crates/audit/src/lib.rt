@@ -42,7 +42,7 @@ fn refused(list: &mut [u64], refusal: Refusal) -> Audited
 
 // The audit's walk: the superblock, then all objects from the root on. The superblock's root entry is the root's first link,
 // and nothing else is known of any object yet.
-fn walk_image(
+pub fn walk_image(
     image: &[u8],
     list: &mut [u64],
     addresses: &mut [u64],

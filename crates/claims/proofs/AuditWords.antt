@@ -15,8 +15,9 @@ use Rattle.walk.proofs.BlockList.{room-most}
 use Rattle.laws.proofs.ImageLength.{image-small}
 use Rattle.links.proofs.AuditAnswers.{audit-zero}
 use Rattle.links.proofs.AuditSound.{audit-opened, audit-blocks}
+use Rattle.links.proofs.Opened.{opened-end}
 use Rattle.demand.specs.Bytes.{IsBytes}
-use Rattle.demand.proofs.Opened.{opened-range, opened-end}
+use Rattle.demand.proofs.Opened.{opened-range}
 use Rattle.demand.proofs.BytesBack.{count-small}
 use Rattle.demand.proofs.AuditFields.{header-inside}
 use Rattle.demand.proofs.AuditCounts.{counts-small}

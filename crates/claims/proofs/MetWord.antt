@@ -21,8 +21,9 @@ use Rattle.laws.specs.Blocks.{Inside}
 use Rattle.laws.proofs.Growth.{inside-append}
 use Rattle.laws.proofs.ImageLength.{image-small}
 use Rattle.links.specs.Fault.{Fault, here, atEntry, later, AuditFault}
+use Rattle.links.proofs.Opened.{opened-end}
 use Rattle.found.specs.PathFault.{PathFault, malformed, unopened, atComponent, atLast, LookupFault, DescribeFault}
-use Rattle.demand.proofs.Opened.{opened-range, opened-end}
+use Rattle.demand.proofs.Opened.{opened-range}
 use Rattle.claims.specs.Owners.{MetBy}
 use Rattle.claims.specs.Zeros.{cMendZeros}
 use Rattle.claims.proofs.BlockMet.{audit-met-by, lookup-met-by, describe-met-by, mend-met-by}

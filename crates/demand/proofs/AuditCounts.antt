@@ -23,8 +23,9 @@ use Rattle.laws.proofs.ImageLength.{image-small}
 use Rattle.laws.proofs.SumOfLengths.{lengths-inside}
 use Rattle.ledger.specs.Links.{linkSum}
 use Rattle.links.proofs.AuditSound.{audit-opened, audit-blocks}
+use Rattle.links.proofs.Opened.{opened-end, opened-size}
 use Rattle.found.proofs.Replayed.{audit-walked}
-use Rattle.demand.proofs.Opened.{opened-range, opened-end, opened-size}
+use Rattle.demand.proofs.Opened.{opened-range}
 use Rattle.demand.proofs.Rises.{Rises, rises-ret, rises-located, rises-least, rises-enter, rises-after, rises-then, rises-on}
 use Rattle.demand.proofs.SharingRises.{total, visit-rises, shares-rise, message-rises, type-one, known-rises}
 use Rattle.demand.proofs.HeaderRises.{header-rises}
@@ -90,7 +91,9 @@ module _ (im : List ℕ) (lent : ℕ) (s : Superblock) (os : List Linked) (bs : 
   -- all links and sharings are at most the lengths of the blocks entered
   pub all-inside : linkSum os ≤ lengthSum bs
   unfolding lengthSum
-  all-inside = omega (arith, audit-rises im (s .endOfFile) (roomOf lent) s (opened-size im s p) [] os bs (audit-walked im lent s os bs p e))
+  all-inside =
+      let sized : 1 ≤ s .size = omega (arith, opened-size im s p) in
+      omega (arith, audit-rises im (s .endOfFile) (roomOf lent) s sized [] os bs (audit-walked im lent s os bs p e))
 
   -- a true count is at most the end of file
   pub count-inside : (o : Linked) → List·Memᴰ o os → o .links ≤ s .endOfFile

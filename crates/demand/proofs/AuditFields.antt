@@ -16,16 +16,15 @@ use Rattle.ledger.specs.Links.{addressesOf}
 use Rattle.links.specs.Sound.{Sound}
 use Rattle.links.proofs.AuditSound.{audit-sound}
 use Rattle.links.proofs.LedgerIn.{member-in}
+use Rattle.links.proofs.Opened.{opened-end, opened-size}
 use Rattle.found.specs.Beside.{Beside}
 use Rattle.found.proofs.Replayed.{audit-walked}
 use Rattle.found.proofs.LedgerSpared.{behind-superblock}
-use Rattle.found.proofs.OpenedSame.{opened-size}
 use Rattle.demand.specs.Bytes.{IsBytes}
 use Rattle.demand.specs.Fields.{Fields, Small}
 use Rattle.demand.proofs.BytesBack.{count-small}
 use Rattle.demand.proofs.HeadersApart.{headers-apart}
 use Rattle.demand.proofs.Corrections.{changeOf, countedOf, correction-from, counted-from}
-use Rattle.demand.proofs.Opened.{opened-end}
 use Rattle.demand.proofs.AuditCounts.{counts-small}
 
 -- the place of an object in the ledger

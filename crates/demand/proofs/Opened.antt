@@ -1,4 +1,4 @@
--- What is known of an image that can be opened: its length, its first bytes, and where its file ends.
+-- What is known of an image that can be opened: its length and its first bytes.
 use Prim.Native.Nat.{ℕ, _+_, _*_, _^_, _≤_}
 use mathlib.Core.Bool.{true}
 use mathlib.Core.List.{List}
@@ -10,7 +10,7 @@ use lib.Dec.{leb}
 use lib.Seq.{take-add}
 use Rattle.format.specs.Limits.{imageLeast, imageMost}
 use Rattle.format.specs.Bytes.{inRange, littleEndian, part, u32, u64}
-use Rattle.format.specs.Superblock.{Superblock, opened, signature, versionShift, superblockSound, superblockFields, openImage}
+use Rattle.format.specs.Superblock.{Superblock, opened, signature, versionShift, superblockSound, openImage}
 use Rattle.walk.proofs.LittleEndian.{littleEndian-append}
 use Rattle.walk.proofs.Parts.{part-length}
 use Rattle.walk.proofs.Tests.{all-held}
@@ -19,24 +19,6 @@ use Rattle.laws.proofs.Opening.{opened-tested}
 module _ (im : List ℕ) (s : Superblock) (p : openImage im ≡ opened s) where
   pub opened-range : inRange imageLeast imageMost (length im) ≡ true
   opened-range = opened-tested im s p .0 .ranged
-
-  end-most : leb (u64 im (40 + versionShift im)) (length im) ≡ true
-  unfolding superblockSound
-  end-most =
-      let one = all-held _ _ (opened-tested im s p .0 .sound) in
-      let two = all-held _ _ (one .1) in
-      let three = all-held _ _ (two .1) in
-      let four = all-held _ _ (three .1) in
-      all-held _ _ (four .1) .0
-
-  -- the end of file is inside the image
-  pub opened-end : s .endOfFile ≤ length im
-  unfolding superblockFields
-  opened-end = omega (arith, leb-true (u64 im (40 + versionShift im)) (length im) end-most, ap (λ (t : Superblock). t .endOfFile) (opened-tested im s p .1))
-
-  pub opened-size : 1 ≤ s .size
-  unfolding superblockFields
-  opened-size = omega (arith, ap (λ (t : Superblock). t .size) (opened-tested im s p .1))
 
   pub opened-long : 96 ≤ length im
   unfolding superblockSound

@@ -16,12 +16,13 @@ use Rattle.format.specs.Answers.{lookup, lookupEnd, describe, describeEnd}
 use Rattle.laws.specs.Shown.{Shown, AllSame}
 use Rattle.laws.specs.CountFields.{OnlyCounts}
 use Rattle.laws.proofs.Agreement.{run-agree}
+use Rattle.links.proofs.Opened.{opened-size}
 use Rattle.found.specs.Covered.{AllCovered, auditShown}
 use Rattle.found.proofs.WholeShown.{done-shown}
 use Rattle.found.proofs.Replayed.{audit-walked, walk-replayed}
 use Rattle.found.proofs.PathReplayed.{lookup-agree, describe-agree, lookup-replayed, describe-replayed}
 use Rattle.found.proofs.LedgerSpared.{behind-superblock, covered-same}
-use Rattle.found.proofs.OpenedSame.{opened-size, opened-same}
+use Rattle.found.proofs.OpenedSame.{opened-same}
 
 module _ (im : List ℕ) (lent : ℕ) (s : Superblock) (os : List Linked) (bs : List Block) (p : openImage im ≡ opened s) (e : auditRun im lent ≡ done os bs)
     -- headers of the ledger, and an image that differs only in their count fields

@@ -9,16 +9,10 @@ use lib.ListN.{getD}
 use lib.Dec.{eqb}
 use Rattle.format.specs.Bytes.{if_then_else_, part, u8}
 use Rattle.format.specs.Walk.{superblockBlock, shown}
-use Rattle.format.specs.Superblock.{Superblock, opened, versionShift, versionsRead}
+use Rattle.format.specs.Superblock.{versionShift, versionsRead}
 use Rattle.format.specs.Superblock.{sizesRead, addressesRead, superblockRead, superblockSound, superblockFields, openImage}
 use Rattle.laws.specs.CountFields.{OnlyCounts}
 use Rattle.laws.proofs.CountFields.{shown-same}
-use Rattle.laws.proofs.Opening.{opened-tested}
-
--- the superblock has 96 bytes or more
-pub opened-size : (im : List ℕ) (s : Superblock) → openImage im ≡ opened s → 96 ≤ s .size
-unfolding superblockFields
-opened-size im s e = omega (arith, ap (λ (t : Superblock). t .size) (opened-tested im s e .1))
 
 shift-most : (im : List ℕ) → versionShift im ≤ 4
 unfolding versionShift

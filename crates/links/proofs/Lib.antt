@@ -35,3 +35,13 @@ pub mod BlockWords
 pub mod ReplyNumbers
 pub mod AuditAnswers
 pub mod AuditMet
+pub mod Opened
+pub mod PlacedBlocks
+pub mod Placed
+pub mod PlacedRun
+pub mod PlacedMessages
+pub mod PlacedHeader
+pub mod PlacedNode
+pub mod PlacedGroup
+pub mod PlacedDataset
+pub mod PlacedAudit

@@ -6,14 +6,13 @@ use Rattle.format.specs.Bytes.{withFirst}
 use Rattle.format.specs.Walk.{ret, _>>=_}
 use Rattle.format.specs.Superblock.{Superblock, superblockWalk}
 use Rattle.format.specs.Header.{Object, group, dataset, committed}
-use Rattle.format.specs.Entry.{Entry}
 use Rattle.format.specs.Ledger.{Linked, discover}
 use Rattle.format.specs.Sharing.{Found, discoverSharing}
 use Rattle.format.specs.Object.{contentWalk, objectWalk}
 use Rattle.format.specs.Audit.{objectsWalk, auditWalk}
-use Rattle.links.proofs.Numbered.{Answered, Numbered, answers, numbered-bind, numbered-ret, numbers}
+use Rattle.links.proofs.Numbered.{Numbered, numbered-bind, numbered-ret, numbers}
 use Rattle.links.proofs.NumberedHeader.{visits-numbered}
-use Rattle.links.proofs.NumberedSharing.{link-answered, sharing-answered, known-answered}
+use Rattle.links.proofs.NumberedSharing.{discover-answered, sharing-answered, known-answered}
 use Rattle.links.proofs.NumberedDataset.{sharing-numbered}
 use Rattle.links.proofs.NumberedGroup.{group-numbered}
 
@@ -23,14 +22,10 @@ unfolding superblockWalk
 superblock-numbered N s = search numbers depth 8
 
 module _ (N : ℕ → Type 0) (three : N 3) (seven : N 7) (eight : N 8) (nine : N 9) (ten : N 10) (eleven : N 11) (twelve : N 12) (full : N 13) where
-  discover-answered : (e : Entry) (os : List Linked) → Answered N (discover e os)
-  unfolding discover
-  discover-answered e os = search (answers, link-answered) depth 8
-
   content-numbered : (s : Superblock) (o : Object) (f : Found) → Numbered N (contentWalk s o f)
   unfolding contentWalk
   content-numbered s (group tree heap) f =
-      numbered-bind N _ _ (group-numbered N seven eight nine (s .leafK) (s .internalK) tree heap discover (f .objects) discover-answered)
+      numbered-bind N _ _ (group-numbered N seven eight nine (s .leafK) (s .internalK) tree heap discover (f .objects) (discover-answered N three ten twelve))
       (λ os. numbered-ret N _)
   content-numbered s (dataset space type layout) f = sharing-numbered N three eleven ten twelve space type layout f
   content-numbered s committed f = numbered-ret N f

@@ -12,7 +12,7 @@ use Rattle.links.proofs.Numbered.{Answered, Numbered, answers, numbers}
 use Rattle.links.proofs.NumberedSharing.{shares-answered}
 
 module _ (N : ℕ → Type 0) (three : N 3) (eleven : N 11) where
-  space-answered : (b : List ℕ) → Answered N (readDataspace b)
+  pub space-answered : (b : List ℕ) → Answered N (readDataspace b)
   unfolding readDataspace
   space-answered b = search answers depth 20
 
@@ -24,11 +24,11 @@ module _ (N : ℕ → Type 0) (three : N 3) (eleven : N 11) where
   unfolding readShared
   shared-answered b = search answers depth 8
 
-  type-answered : (m : Message) → Answered N (readType m)
+  pub type-answered : (m : Message) → Answered N (readType m)
   unfolding readType
   type-answered m = search (answers, own-answered, shared-answered)
 
-  layout-answered : (place : ℕ) (b : List ℕ) → Answered N (readLayout place b)
+  pub layout-answered : (place : ℕ) (b : List ℕ) → Answered N (readLayout place b)
   unfolding readLayout readCompact readContiguous
   layout-answered place b = search answers depth 12
 

@@ -13,7 +13,7 @@ use Rattle.format.specs.Names.{Bound}
 use Rattle.format.specs.Entry.{Entry, Group, GroupState, readValue, readEntry}
 use Rattle.format.specs.Symbols.{entries, symbolWalk}
 use Rattle.format.specs.Tree.{keysWalk, children, nodeWalk, branches, subtree, treeWalk, groupWalk}
-use Rattle.links.proofs.Numbered.{Answered, Numbered, answered-value, answered-if, answers, numbered-bind, numbered-check, numbers}
+use Rattle.links.proofs.Numbered.{Answered, Numbered, answers, numbered-bind, numbered-check, numbers}
 
 module _ (N : ℕ → Type 0) (seven : N 7) (eight : N 8) (nine : N 9) where
   free-answered : (fuel : ℕ) (seg : List ℕ) (off : ℕ) (met : List Block) → Answered N (freeBlocks fuel seg off met)
@@ -23,9 +23,13 @@ module _ (N : ℕ → Type 0) (seven : N 7) (eight : N 8) (nine : N 9) where
       let rest = free-answered fuel seg (u64 seg off) (met ++ (block off (u64 seg (off + 8)) ∷ [])) in
       search answers depth 12
 
+  pub list-answered : (seg : List ℕ) (head : ℕ) → Answered N (freeList seg head)
+  unfolding freeList
+  list-answered seg head = search (answers, free-answered)
+
   heap-numbered : (at : ℕ) → Numbered N (heapWalk at)
-  unfolding heapWalk freeList
-  heap-numbered at = search (numbers, answered-if, answered-value, free-answered) depth 12
+  unfolding heapWalk
+  heap-numbered at = search (numbers, list-answered) depth 12
 
   keys-numbered : (h : Heap) (n at : ℕ) (b : List ℕ) → Numbered N (keysWalk h n at b)
   unfolding keysWalk
@@ -42,7 +46,7 @@ module _ (N : ℕ → Type 0) (seven : N 7) (eight : N 8) (nine : N 9) where
 
   -- a group whose visits have such numbers only
   module _ {S : Type 0} (g : Group S) (visited : (e : Entry) (s : S) → Answered N (g .visit e s)) where
-    entry-answered : (bounds : List Bound) (b : List ℕ) (s : GroupState S) → Answered N (readEntry g bounds b s)
+    pub entry-answered : (bounds : List Bound) (b : List ℕ) (s : GroupState S) → Answered N (readEntry g bounds b s)
     unfolding readEntry
     entry-answered bounds b s = search (answers, value-answered) depth 12
 

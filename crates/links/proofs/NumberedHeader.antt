@@ -8,8 +8,8 @@ use Rattle.format.specs.Header.{Gathered, messages, continuations, headerConten
 use Rattle.format.specs.Message.{Message, readMessage, ofType}
 use Rattle.links.proofs.Numbered.{Answered, Numbered, answered-value, answers, numbered-bind, numbered-ret, numbers}
 
-module _ (N : ℕ → Type 0) (three : N 3) (ten : N 10) (full : N 13) where
-  message-answered : (place : ℕ) (m : List ℕ) → Answered N (readMessage place m)
+module _ (N : ℕ → Type 0) (three : N 3) (ten : N 10) where
+  pub message-answered : (place : ℕ) (m : List ℕ) → Answered N (readMessage place m)
   unfolding readMessage
   message-answered place m = search answers depth 20
 
@@ -17,6 +17,7 @@ module _ (N : ℕ → Type 0) (three : N 3) (ten : N 10) (full : N 13) where
   unfolding objectOf
   object-numbered at ms = search numbers depth 8
 
+module _ (N : ℕ → Type 0) (three : N 3) (ten : N 10) (full : N 13) where
   -- a header whose visits have such numbers only
   module _ {S : Type 0} (visit : Message → S → Result S) (visited : (m : Message) (s : S) → Answered N (visit m s)) where
     messages-numbered : (fuel place : ℕ) (m : List ℕ) (s : S) → Numbered N (messages visit fuel place m s)

@@ -1,17 +1,22 @@
--- The numbers with which sharings are refused: 3, 10, 12.
+-- The numbers with which discoveries and sharings are refused: 3, 10, 12.
 use Prim.Native.Nat.{ℕ}
 use mathlib.Core.List.{List, [], _∷_}
 use Rattle.format.specs.Header.{Object, group, dataset, committed}
 use Rattle.format.specs.Message.{Message}
+use Rattle.format.specs.Entry.{Entry}
 use Rattle.format.specs.Attribute.{readSharedPart, readAttribute}
-use Rattle.format.specs.Ledger.{Linked, countLink}
+use Rattle.format.specs.Ledger.{Linked, countLink, discover}
 use Rattle.format.specs.Sharing.{Found, share, shareEach, discoverSharing, notCommitted, known}
 use Rattle.links.proofs.Numbered.{Answered, answered-bind, answered-value, answers}
 
 module _ (N : ℕ → Type 0) (three : N 3) (ten : N 10) (twelve : N 12) where
-  pub link-answered : (a : ℕ) (os : List Linked) → Answered N (countLink a os)
+  link-answered : (a : ℕ) (os : List Linked) → Answered N (countLink a os)
   unfolding countLink
   link-answered a os = search answers depth 8
+
+  pub discover-answered : (e : Entry) (os : List Linked) → Answered N (discover e os)
+  unfolding discover
+  discover-answered e os = search (answers, link-answered) depth 8
 
   share-answered : (a : ℕ) (f : Found) → Answered N (share a f)
   unfolding share

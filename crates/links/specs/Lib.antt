@@ -5,3 +5,4 @@ pub mod Fault
 pub mod FirstMet
 pub mod Owners
 pub mod Fours
+pub mod Placed

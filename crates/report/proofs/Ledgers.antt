@@ -1,0 +1,39 @@
+-- The report with its ledger: an empty one where there are no objects, else the lists.
+use Prim.Native.Nat.{ℕ, _<_}
+use mathlib.Core.List.{List}
+use mathlib.Core.Path.{_≡_}
+use native.Mathlib.Omega.{arith}
+use Rattle.format.specs.Limits.{objectsMost}
+use Rattle.ledger.specs.Report.{countedPlaces, Empty}
+use Rattle.ledger.specs.declared.report.Ledger.{Ledger}
+use Rattle.ledger.proofs.ReportLaws.{empty-law}
+use Rattle.audit.proofs.ReplyLaws.{getD-zeros}
+use Rattle.report.specs.Report.{ReportedIs, ReportIs}
+use Rattle.report.specs.declared.Reported.{Reported}
+use Rattle.report.specs.declared.Reply.{Reply}
+
+abbrev withLedger : Reported → Ledger → Reply
+withLedger r l = record { answer = r .answer; «block_count» = r .«block_count»; place = r .place; block = r .block; met = r .met; ledger = l }
+
+module _ (im : List ℕ) (lent : ℕ) (ws addresses stored counts : List ℕ) (r : Reported) (h : ReportedIs im lent ws addresses stored counts r) where
+  pub empty-reply : (l : Ledger) → r .objects ≡ 0 → Empty l → ReportIs im lent ws (withLedger r l)
+  unfolding countedPlaces
+  empty-reply l z e =
+      let p = h .reply in
+      record {
+        reply = rw (empty-law l e) (rw z at p);
+        fits = omega (arith, e .none);
+        addressesRest = λ k m. rw (e .addressesZero) (getD-zeros objectsMost k);
+        storedRest = λ k m. rw (e .storedZero) (getD-zeros objectsMost k);
+        countsRest = λ k m. rw (e .countsZero) (getD-zeros objectsMost k);
+      }
+
+  pub full-reply : 0 < r .objects →
+      ReportIs im lent ws (withLedger r (record { objects = r .objects; addresses = addresses; stored = stored; «true_counts» = counts }))
+  full-reply z = record {
+    reply = h .reply;
+    fits = h .fits;
+    addressesRest = h .addressesRest z;
+    storedRest = h .storedRest z;
+    countsRest = h .countsRest z;
+  }
