@@ -1,5 +1,5 @@
-/* Ebikwotula: the audit of hard links and sharings in an HDF5 file, mending and undo of their counts, path lookup and
- * dataset description, for C.
+/* Ebikwotula: the audit of hard links and sharings in an HDF5 file, mending and undo of their counts, path lookup, dataset
+ * description and damage report, for C.
  *
  * Link with libebikwotula.a (rt staticlib ebikwotula).
  *
@@ -39,12 +39,16 @@ extern "C" {
 #define EBIKWOTULA_RANK_MOST 32
 
 /* The least length of reply, in bytes: 770 words for the audit, 3 for a lookup, 74 for a description, 3 for a mending,
- * 1 for undo. */
+ * 1 for undo, 8 for a report. */
 #define EBIKWOTULA_AUDIT_REPLY_BYTES 6160
 #define EBIKWOTULA_LOOKUP_REPLY_BYTES 24
 #define EBIKWOTULA_DESCRIBE_REPLY_BYTES 592
 #define EBIKWOTULA_MEND_REPLY_BYTES 24
 #define EBIKWOTULA_UNDO_REPLY_BYTES 8
+#define EBIKWOTULA_REPORT_REPLY_BYTES 64
+
+/* The words of a report. */
+#define EBIKWOTULA_REPORT_WORDS 8
 
 /* What a block takes in blocks, in bytes: four words. The most that a call uses of blocks: that for each of 1,024 blocks. */
 #define EBIKWOTULA_BLOCK_BYTES 32
@@ -252,6 +256,36 @@ uint32_t ebikwotula_mend(uint8_t *image, size_t image_length, uint8_t *blocks, s
  */
 uint32_t ebikwotula_undo(uint8_t *image, size_t image_length, const uint8_t *log, size_t log_length, uint8_t *reply,
                          size_t reply_length, uint64_t entries, uint64_t limit);
+
+/* Reports where the file whose bytes are image is damaged: audits it, and names the block in which the audit stopped. The image
+ * is not changed.
+ *
+ * Returns 0 for every image, also for a damaged one: the audit's answer is a word of reply. Returns 13, before the image is
+ * read, if reply has under 8 words; then every byte of blocks and reply is 0.
+ *
+ * If it returns 0:
+ *   blocks  has four words for each block entered, as above: all of a sound file, else those entered before the fault. The
+ *           words behind them are 0.
+ *   reply   word 0   the audit's answer, 0 to 13, as an audit with the same blocks_length gives it
+ *           word 1   the number of blocks entered
+ *           word 2   the place in the file where the fault was met: the first byte of the message, key or entry that is
+ *                    wrong, or that of the block
+ *           word 3   the address of the damaged block
+ *           word 4   its length, in bytes
+ *           word 5   its kind, one of the block kinds above
+ *           word 6   the number of its object, as in blocks
+ *           word 7   with answer 6 the address of the block met, as above; else 0
+ *
+ * The damaged block is the one of blocks that holds the place. With answer 5, 6 or 13 it is the block that can't be entered,
+ * as it is pointed to, and the place is its address; it was not entered, and may lie outside the file. A header whose first 16
+ * bytes are not inside has length 16.
+ *
+ * With answer 0 words 2 to 7 are 0. With answer 1 words 1 to 7 are 0. With 2, 4, or 3 of the superblock no block was entered,
+ * word 2 is 0 and the damaged block is the superblock: 0, 96, EBIKWOTULA_BLOCK_KIND_SUPERBLOCK,
+ * EBIKWOTULA_SUPERBLOCK_OBJECT.
+ */
+uint32_t ebikwotula_report(const uint8_t *image, size_t image_length, uint8_t *blocks, size_t blocks_length, uint8_t *reply,
+                           size_t reply_length);
 
 #ifdef __cplusplus
 }

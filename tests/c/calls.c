@@ -127,8 +127,14 @@ static uint32_t undo(struct call *c)
     return ebikwotula_undo(c->image, c->image_length, c->log, c->log_length, c->reply, c->reply_length, c->entries, c->limit);
 }
 
+static uint32_t report(struct call *c)
+{
+    return ebikwotula_report(c->image, c->image_length, c->blocks, c->blocks_length, c->reply, c->reply_length);
+}
+
 typedef uint32_t function(struct call *);
 
+/* A stack of 0 bytes is one that the header doesn't give. */
 static const struct {
     const char *name;
     function *run;
@@ -140,6 +146,7 @@ static const struct {
     {"describe", describe, EBIKWOTULA_DESCRIBE_REPLY_BYTES, EBIKWOTULA_DESCRIBE_STACK_BYTES},
     {"mend", mend, EBIKWOTULA_MEND_REPLY_BYTES, EBIKWOTULA_MEND_STACK_BYTES},
     {"undo", undo, EBIKWOTULA_UNDO_REPLY_BYTES, EBIKWOTULA_UNDO_STACK_BYTES},
+    {"report", report, EBIKWOTULA_REPORT_REPLY_BYTES, 0},
 };
 
 #define CALLS (sizeof calls / sizeof calls[0])
@@ -298,7 +305,18 @@ static void described_blocks(struct file wrong)
     free(c);
 }
 
-/* Every call but undo gives 6 and names the block met. */
+/* The words of a report: answer, block count, place, the damaged block, the block met. */
+static int report_is(const struct call *c, const uint64_t *words)
+{
+    for (size_t k = 0; k < EBIKWOTULA_REPORT_WORDS; k++) {
+        if (word(c->reply, k) != words[k]) {
+            return 0;
+        }
+    }
+    return 1;
+}
+
+/* Every call but undo and report gives 6 and names the block met. */
 static void meets(struct file file, uint64_t address)
 {
     uint8_t *before = malloc(file.length);
@@ -307,7 +325,7 @@ static void meets(struct file file, uint64_t address)
     }
     memcpy(before, file.bytes, file.length);
     for (size_t i = 0; i < CALLS; i++) {
-        if (calls[i].run == undo) {
+        if (calls[i].run == undo || calls[i].run == report) {
             continue;
         }
         struct call *c = lend(file, calls[i].reply_bytes);
@@ -331,17 +349,27 @@ static void meets(struct file file, uint64_t address)
 #define SEGMENT_ADDRESS 24
 #define ROOT_ADDRESS 64
 
+/* A report of an overlap names both blocks: the refused one of object 0, and the one met. */
+static void reports_overlap(struct file file, uint64_t count, uint64_t address, uint64_t length, uint64_t kind, uint64_t met)
+{
+    struct call *c = lend(file, EBIKWOTULA_REPORT_REPLY_BYTES);
+    CHECK(report(c) == EBIKWOTULA_DONE);
+    CHECK(report_is(c, (const uint64_t[]){EBIKWOTULA_OVERLAP, count, address, address, length, kind, 0, met}));
+    free(c);
+}
+
 /* The root's segment moved into its heap; then the root moved into the superblock, which is at 0. */
 static void overlaps(struct file wrong)
 {
     struct call *c = lend(wrong, EBIKWOTULA_AUDIT_REPLY_BYTES);
     uint8_t *old = malloc(wrong.length);
-    size_t heap = 0;
+    size_t heap = 0, entered = 0;
     memcpy(old, wrong.bytes, wrong.length);
     CHECK(audit(c) == EBIKWOTULA_DONE);
     for (size_t i = 0; i < word(c->reply, 0); i++) {
         if (block_word(c, i, 2) == EBIKWOTULA_BLOCK_KIND_HEAP && block_word(c, i, 3) == 0) {
             heap = block_word(c, i, 0);
+            entered = i + 1;
         }
     }
     CHECK(heap > 0);
@@ -349,11 +377,71 @@ static void overlaps(struct file wrong)
         wrong.bytes[heap + SEGMENT_ADDRESS + i] = (uint8_t)((heap + 1) >> (8 * i));
     }
     meets(wrong, heap);
+    reports_overlap(wrong, entered, heap + 1, word(wrong.bytes + heap, 1), EBIKWOTULA_BLOCK_KIND_SEGMENT, heap);
     memcpy(wrong.bytes, old, wrong.length);
     memset(wrong.bytes + ROOT_ADDRESS, 0, 8);
     meets(wrong, 0);
+    reports_overlap(wrong, 1, 0, 16, EBIKWOTULA_BLOCK_KIND_HEADER, 0);
     memcpy(wrong.bytes, old, wrong.length);
     free(old);
+    free(c);
+}
+
+/* A sound file, and the same file with the signature of one heap or node after the other changed: that block is named, and the
+ * blocks entered up to it stay in the list. */
+static void reports(struct file file)
+{
+    struct call *a = lend(file, EBIKWOTULA_AUDIT_REPLY_BYTES);
+    struct call *c = lend(file, EBIKWOTULA_REPORT_REPLY_BYTES);
+    CHECK(audit(a) == EBIKWOTULA_DONE);
+    size_t count = word(a->reply, 0);
+    CHECK(report(c) == EBIKWOTULA_DONE);
+    CHECK(report_is(c, (const uint64_t[]){EBIKWOTULA_DONE, count, 0, 0, 0, 0, 0, 0}));
+    CHECK(memcmp(c->blocks, a->blocks, sizeof a->blocks) == 0);
+    for (size_t i = 1; i < count; i++) {
+        uint64_t address = block_word(a, i, 0), length = block_word(a, i, 1);
+        uint64_t kind = block_word(a, i, 2), object = block_word(a, i, 3);
+        size_t entered = i + 1, bytes = EBIKWOTULA_BLOCK_BYTES * entered;
+        int is_node = kind == EBIKWOTULA_BLOCK_KIND_TREE || kind == EBIKWOTULA_BLOCK_KIND_SYMBOL_NODE;
+        if (!is_node && kind != EBIKWOTULA_BLOCK_KIND_HEAP) {
+            continue;
+        }
+        file.bytes[address] ^= 1;
+        CHECK(report(c) == EBIKWOTULA_DONE);
+        CHECK(report_is(c, (const uint64_t[]){EBIKWOTULA_NODE_OR_HEAP, entered, address, address, length, kind, object, 0}));
+        CHECK(memcmp(c->blocks, a->blocks, bytes) == 0);
+        CHECK(zeros(c->blocks + bytes, c->blocks_length - bytes));
+        file.bytes[address] ^= 1;
+    }
+    free(c);
+    free(a);
+}
+
+/* Reports where there is room for one block, of images that can't be opened, and into a reply that is too short. */
+static void other_reports(struct file small)
+{
+    const uint64_t superblock[] = {EBIKWOTULA_NO_SIGNATURE, 0, 0, 0, 96, EBIKWOTULA_BLOCK_KIND_SUPERBLOCK,
+                                   EBIKWOTULA_SUPERBLOCK_OBJECT, 0};
+    struct call *c = lend(small, EBIKWOTULA_REPORT_REPLY_BYTES);
+    CHECK(EBIKWOTULA_REPORT_REPLY_BYTES == 8 * EBIKWOTULA_REPORT_WORDS);
+    c->blocks_length = EBIKWOTULA_BLOCK_BYTES;
+    CHECK(report(c) == EBIKWOTULA_DONE);
+    uint64_t root = word(small.bytes + ROOT_ADDRESS, 0), length = 16 + (word(small.bytes + root + 8, 0) & UINT32_MAX);
+    CHECK(report_is(c, (const uint64_t[]){EBIKWOTULA_NO_ROOM, 1, root, root, length, EBIKWOTULA_BLOCK_KIND_HEADER, 0, 0}));
+    CHECK(block_word(c, 0, 1) == 96 && block_word(c, 0, 3) == EBIKWOTULA_SUPERBLOCK_OBJECT);
+    c->blocks_length = sizeof c->blocks;
+    small.bytes[0] ^= 1;
+    CHECK(report(c) == EBIKWOTULA_DONE);
+    CHECK(report_is(c, superblock) && zeros(c->blocks, c->blocks_length));
+    small.bytes[0] ^= 1;
+    c->image_length = EBIKWOTULA_IMAGE_LEAST - 1;
+    CHECK(report(c) == EBIKWOTULA_DONE);
+    CHECK(report_is(c, (const uint64_t[]){EBIKWOTULA_IMAGE_LENGTH, 0, 0, 0, 0, 0, 0, 0}));
+    CHECK(zeros(c->blocks, c->blocks_length));
+    c->image_length = small.length;
+    c->reply_length--;
+    CHECK(report(c) == EBIKWOTULA_NO_ROOM);
+    CHECK(zeros(c->blocks, c->blocks_length) && zeros(c->reply, c->reply_length));
     free(c);
 }
 
@@ -455,8 +543,10 @@ static void stacks(struct file *files, int count)
             free(job.call);
         }
         printf("stack of %s: %zu bytes\n", calls[i].name, most);
-        CHECK(most <= calls[i].stack_bytes);
-        CHECK(most + 8192 > calls[i].stack_bytes);
+        if (calls[i].stack_bytes > 0) {
+            CHECK(most <= calls[i].stack_bytes);
+            CHECK(most + 8192 > calls[i].stack_bytes);
+        }
     }
 }
 
@@ -502,6 +592,10 @@ int main(int count, char **names)
     owners(files[4]);
     described_blocks(files[1]);
     overlaps(files[1]);
+    reports(files[0]);
+    reports(files[1]);
+    reports(files[4]);
+    other_reports(files[0]);
     mend_and_undo(files[1]);
     longest_log(files[2]);
     stacks(files, 5);

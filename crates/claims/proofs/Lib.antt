@@ -18,6 +18,13 @@ pub mod Demand2
 pub mod MetWord
 pub mod ListWords
 pub mod Owners
+pub mod DamagedBlock
+pub mod ReportEnds
+pub mod ReportFaults
+pub mod ReportEntries
+pub mod ReportSame
+pub mod ReportWords
+pub mod Reports
 pub mod Demand3Due
 pub mod CDemandThree
 pub mod DemandThree

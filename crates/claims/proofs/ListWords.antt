@@ -35,7 +35,7 @@ pub zeros-fill : (lent : ℕ) → FillsList lent (replicate lent 0)
 zeros-fill lent = record { words = λ k. omega (arith, zero-at lent k); whole = length-replicate lent 0 }
 
 -- a number is at most all ones
-owner-most : (o v : ℕ) → o ≤ noObject → ownerAfter o v ≤ noObject
+pub owner-most : (o v : ℕ) → o ≤ noObject → ownerAfter o v ≤ noObject
 unfolding ownerAfter
 owner-most o v h = go (eqb v superblockKind) (eqb v headerKind) (eqb o noObject) refl
   where
@@ -49,7 +49,7 @@ owner-most o v h = go (eqb v superblockKind) (eqb v headerKind) (eqb o noObject)
         below true l = leb-true _ _ l
         below false l = absurd (eqb-false o noObject e (omega (arith, h, leb-false (o + 1) noObject l)))
 
-all-ones : (x : ℕ) → x ≤ noObject → x < 2 ^ 64
+pub all-ones : (x : ℕ) → x ≤ noObject → x < 2 ^ 64
 unfolding undefinedAddress
 all-ones x h = omega arith
 
@@ -63,17 +63,21 @@ module _ (eof : ℕ) (small : eof < 2 ^ 32) (n : ℕ) where
   block-words o (b ∷ bs) m i k (suc (suc (suc zero))) = all-ones (ownerAfter o (b .kind)) (owner-most o (b .kind) m)
   block-words o (b ∷ bs) m i k (suc (suc (suc (suc j)))) = block-words (ownerAfter o (b .kind)) bs (owner-most o (b .kind) m) (i .1) (k .1) j
 
+-- the list of blocks that lie inside and are no more than the room
+pub blocks-fill : (eof lent : ℕ) (bs : List Block) → eof < 2 ^ 32 → Inside eof bs → AllKinds (λ v. v ≤ 8) bs → length bs ≤ roomOf lent →
+    FillsList lent (blockList lent bs)
+unfolding roomOf undefinedAddress
+blocks-fill eof lent bs small inside kinds fits = record {
+  words = block-words eof small (lent - length (blockWords noObject bs)) noObject bs (omega arith) inside kinds;
+  whole = simp (length-append, length-replicate) (omega (arith, length-blockWords noObject bs, fits));
+}
+
 -- the list of a run that is done, begun with no block
 pub run-fills : {A : Type 0} (im : List ℕ) (eof lent : ℕ) (w : Walk A) (a : A) (bs : List Block) → eof < 2 ^ 32 → run im eof (roomOf lent) w [] ≡ done a bs →
     FillsList lent (blockList lent bs)
-unfolding roomOf undefinedAddress
 run-fills im eof lent w a bs small e =
     let g : Grown eof (roomOf lent) [] bs = rw e at (run-grown im eof (roomOf lent) w [] (omega arith)) in
     let new : g .new ≡ bs = sym (g .all) in
-    let inside : Inside eof bs = rw new at (g .inside) in
     let all = run-done im eof w (roomOf lent) [] bs a e .all in
     let kinds : AllKinds (λ v. v ≤ 8) bs = rw all (plan-kinds (λ v. v ≤ 8) im eof w (enters-known w)) in
-    record {
-      words = block-words eof small (lent - length (blockWords noObject bs)) noObject bs (omega arith) inside kinds;
-      whole = simp (length-append, length-replicate) (omega (arith, length-blockWords noObject bs, g .fits));
-    }
+    blocks-fill eof lent bs small (rw new at (g .inside)) kinds (g .fits)

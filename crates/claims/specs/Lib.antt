@@ -10,6 +10,7 @@ pub mod Replies
 pub mod Causes
 pub mod Demand2
 pub mod Owners
+pub mod Reports
 pub mod Demand3
 pub mod CDemand3
 pub mod DemandThree

@@ -14,6 +14,7 @@ use Rattle.format.specs.Blocks.{Block, block, noObject, blockWords, roomOf}
 use Rattle.laws.specs.Blocks.{Inside}
 use Rattle.links.specs.Fours.{Four, numberAt}
 use Rattle.links.proofs.BlockWords.{list-holds}
+use Rattle.links.proofs.BlocksBefore.{inside-at}
 use Rattle.damaged_block.specs.Entered.{Leading}
 
 -- one word more is filled
@@ -40,11 +41,6 @@ four-of bs ws e k h =
     let whole : blockWords noObject bs ++ drop (4 * length bs) ws ≡ ws =
     ap (λ (front : List ℕ). front ++ drop (4 * length bs) ws) (sym e) ∙ take-append-drop (4 * length bs) ws in
     rw whole at (list-holds bs (drop (4 * length bs) ws) .four k h)
-
-inside-at : (eof : ℕ) (bs : List Block) (k : ℕ) → Inside eof bs → k < length bs → getD bs k (block 0 0) .at ≤ eof
-inside-at eof [] k i h = absurd (omega arith)
-inside-at eof (b ∷ bs) zero i h = omega (arith, i .0)
-inside-at eof (b ∷ bs) (suc k) i h = inside-at eof bs k (i .1) (omega arith)
 
 -- What is known of a list behind a refusal: it was filled before the walk, and its first words are those of the blocks entered.
 module _ (eof : ℕ) (bs : List Block) (ws ws′ : List ℕ) (same : length ws′ ≡ length ws) (filled : ws ≡ replicate (length ws) undefinedAddress)

@@ -13,14 +13,7 @@ use Rattle.format.specs.Superblock.{versionShift, versionsRead}
 use Rattle.format.specs.Superblock.{sizesRead, addressesRead, superblockRead, superblockSound, superblockFields, openImage}
 use Rattle.laws.specs.CountFields.{OnlyCounts}
 use Rattle.laws.proofs.CountFields.{shown-same}
-
-shift-most : (im : List ℕ) → versionShift im ≤ 4
-unfolding versionShift
-shift-most im = go (eqb (u8 im 8) 1)
-  where
-    go : (t : Bool) → (if t then 4 else 0) ≤ 4
-    go true = omega arith
-    go false = omega arith
+use Rattle.links.proofs.Opened.{shift-most}
 
 module _ (H : ℕ → Type 0) (im im′ : List ℕ) (d : OnlyCounts H im im′) (behind : (h : ℕ) → H h → 96 ≤ h) where
   byte-same : (i : ℕ) → i < 96 → getD im i 0 ≡ getD im′ i 0

@@ -13,7 +13,8 @@ use Rattle.format.specs.Superblock.{Superblock, opened, openImage, superblockWa
 use Rattle.format.specs.Ledger.{Linked}
 use Rattle.format.specs.Audit.{objectsWalk, rootFound, auditWalk, auditRun}
 use Rattle.laws.specs.Blocks.{Fresh}
-use Rattle.laws.proofs.Growth.{Grown, run-grown}
+use Rattle.walk.specs.Lent.{left}
+use Rattle.laws.proofs.Growth.{run-grown}
 use Rattle.laws.proofs.Disjoint.{Apart, apart-second, apart-order, fresh-apart}
 use Rattle.ledger.specs.Links.{addressesOf}
 use Rattle.ledger.proofs.LedgerLaws.{length-addresses}
@@ -104,12 +105,15 @@ fresh-one-owner before (b ∷ bs) h (suc j) zero x p q =
     absurd (apart-bytes b bs (apart-second before (b ∷ []) bs (fresh-apart (before ++ (b ∷ [])) bs (h .1))) j x q p)
 fresh-one-owner before (b ∷ bs) h (suc j) (suc k) x p q = ap suc (fresh-one-owner (before ++ (b ∷ [])) bs (h .1) j k x p q)
 
--- of any run that begins with an empty list
+-- of any run that begins with an empty list, however it ends
+pub left-one-owner : {A : Type 0} (im : List ℕ) (eof room : ℕ) (w : Walk A) → OneOwner (left (run im eof room w []))
+left-one-owner im eof room w =
+    let g = run-grown im eof room w [] (omega arith) in
+    let same : g .new ≡ left (run im eof room w []) = sym (g .all) in
+    fresh-one-owner [] (left (run im eof room w [])) (rw same at (g .fresh))
+
 pub run-one-owner : {A : Type 0} (im : List ℕ) (eof room : ℕ) (w : Walk A) (a : A) (bs : List Block) → run im eof room w [] ≡ done a bs → OneOwner bs
-run-one-owner im eof room w a bs e =
-    let g : Grown eof room [] bs = rw e at (run-grown im eof room w [] (omega arith)) in
-    let same : g .new ≡ bs = sym (g .all) in
-    fresh-one-owner [] bs (rw same at (g .fresh))
+run-one-owner im eof room w a bs e = rw e at (left-one-owner im eof room w)
 
 module _ (im : List ℕ) (lent : ℕ) (s : Superblock) (os : List Linked) (bs : List Block) (p : openImage im ≡ opened s) (e : auditRun im lent ≡ done os bs) where
   -- whose block it is

@@ -71,22 +71,23 @@ module _ (K : ℕ → Type 0) where
       go n true p c = (h .0, c)
       go n false p c = tt
 
--- "kind (1 to 8 ..": whatever a walk enters has one of these kinds
+-- "kind (1 to 8 .."
+pub known-kind : (u : Kind) → kindNumber u ≤ 8
+known-kind superblockBlock = omega arith
+known-kind headerBlock = omega arith
+known-kind continuationBlock = omega arith
+known-kind heapBlock = omega arith
+known-kind segmentBlock = omega arith
+known-kind treeBlock = omega arith
+known-kind symbolBlock = omega arith
+known-kind dataBlock = omega arith
+
+-- whatever a walk enters has one of these kinds
 pub enters-known : {A : Type 0} (w : Walk A) → Enters (λ v. v ≤ 8) w
 unfolding Enters
 enters-known (ret a) = tt
 enters-known (refuse r) = tt
-enters-known (enter v a l k) = (known v, λ b. enters-known (k b))
-  where
-    known : (u : Kind) → kindNumber u ≤ 8
-    known superblockBlock = omega arith
-    known headerBlock = omega arith
-    known continuationBlock = omega arith
-    known heapBlock = omega arith
-    known segmentBlock = omega arith
-    known treeBlock = omega arith
-    known symbolBlock = omega arith
-    known dataBlock = omega arith
+enters-known (enter v a l k) = (known-kind v, λ b. enters-known (k b))
 
 -- the laws of such walks, for `search`
 pub ruleset entering = (enters-bind, enters-ret, enters-refuse, enters-enter, enters-check, enters-if, enters-located, tt)

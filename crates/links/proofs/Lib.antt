@@ -35,9 +35,12 @@ pub mod BlockWords
 pub mod ReplyNumbers
 pub mod AuditAnswers
 pub mod AuditMet
+pub mod BlocksBefore
 pub mod Opened
+pub mod Gives
 pub mod PlacedBlocks
 pub mod Placed
+pub mod RefusedEntry
 pub mod PlacedRun
 pub mod PlacedMessages
 pub mod PlacedHeader

@@ -24,10 +24,10 @@ Not13 n = n ≡ 13 → ⊥
 pub not-13 : (n : ℕ) → eqb n 13 ≡ false → Not13 n
 not-13 n e = eqb-false n 13 e
 
--- the place of a fault is held by the blocks entered; with the number 13 these are more than any room
+-- the place of a fault is held by the blocks entered; with the number 13 these are more than any room. No walk refuses a block by itself
 abbrev pub Met : List Block → Refusal → Type 0
 Met bs (Fault n at) = HeldBy bs at × (n ≡ 13 → blocksMost < length bs)
-Met bs (NotEntered n kind a size met) = Unit {0}
+Met bs (NotEntered n kind a size met) = ⊥
 
 -- a block of m bytes can have the length l
 abbrev pub OfLength : Length → ℕ → Type 0

@@ -7,6 +7,7 @@ use lib.ListN.{length, drop}
 use Rattle.format.specs.Limits.{objectsMost}
 use Rattle.format.specs.Bytes.{withFirst}
 use Rattle.format.specs.Blocks.{Block, roomOf}
+use Rattle.format.specs.declared.Refusal.{Refusal}
 use Rattle.format.specs.declared.Refusal.the-variants.{Fault}
 use Rattle.format.specs.Walk.{ret, refused, run, superblockBlock, _>>=_}
 use Rattle.format.specs.Superblock.{Superblock, opened, openImage, superblockWalk}
@@ -22,7 +23,7 @@ use Rattle.links.proofs.NumberedSharing.{discover-answered, sharing-ans
 use Rattle.links.proofs.Opened.{opened-end, opened-size}
 use Rattle.links.proofs.RefusedFault.{refused-fault}
 use Rattle.links.proofs.Placed.{Not13, not-13, Placed, Whatever, placed-bind, placed-ret, placed-block, placed-located}
-use Rattle.links.proofs.PlacedRun.{fault-placed}
+use Rattle.links.proofs.PlacedRun.{Stopped, fault-placed}
 use Rattle.links.proofs.PlacedHeader.{ObjectHeld, HeadedEnd, header-placed}
 use Rattle.links.proofs.PlacedGroup.{group-placed}
 use Rattle.links.proofs.PlacedDataset.{dataset-placed}
@@ -74,11 +75,17 @@ walk-placed s l =
     placed-bind Whatever _ bs _ _ (objects-placed s objectsMost 0 (rootFound s) bs z) λ cs f _ _.
     placed-ret _ cs _ tt
 
-pub audit-placed : (im : List ℕ) (lent : ℕ) (s : Superblock) (n at : ℕ) (bs : List Block) → openImage im ≡ opened s →
-    run im (s .endOfFile) (roomOf lent) (auditWalk s) [] ≡ refused (Fault n at) bs → HeldBy bs at × (n ≡ 13 → ⊥)
-audit-placed im lent s n at bs p e =
-    let room = roomOf lent in
-    let f = refused-fault im (s .endOfFile) room (auditWalk s) [] (Fault n at) bs e in
-    let met = fault-placed im (s .endOfFile) room (opened-end im s p) Whatever f (walk-placed s (omega (arith, opened-size im s p))) in
-    let fits : length bs ≤ room = rw e at (run-grown im (s .endOfFile) room (auditWalk s) [] (omega arith) .fits) in
-    (met .0, λ full. omega (arith, met .1 full, fits, room-most lent))
+-- an audit that is refused
+module _ (im : List ℕ) (lent : ℕ) (s : Superblock) (p : openImage im ≡ opened s) where
+  pub audit-stopped : (r : Refusal) (bs : List Block) → run im (s .endOfFile) (roomOf lent) (auditWalk s) [] ≡ refused r bs →
+      Stopped (s .endOfFile) (roomOf lent) bs r
+  audit-stopped r bs e =
+      fault-placed im (s .endOfFile) (roomOf lent) (opened-end im s p) Whatever
+      (refused-fault im (s .endOfFile) (roomOf lent) (auditWalk s) [] r bs e) (walk-placed s (omega (arith, opened-size im s p)))
+
+  pub audit-placed : (n at : ℕ) (bs : List Block) → run im (s .endOfFile) (roomOf lent) (auditWalk s) [] ≡ refused (Fault n at) bs →
+      HeldBy bs at × (n ≡ 13 → ⊥)
+  audit-placed n at bs e =
+      let met = audit-stopped (Fault n at) bs e in
+      let fits : length bs ≤ roomOf lent = rw e at (run-grown im (s .endOfFile) (roomOf lent) (auditWalk s) [] (omega arith) .fits) in
+      (met .0, λ full. omega (arith, met .1 full, fits, room-most lent))

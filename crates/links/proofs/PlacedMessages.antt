@@ -15,6 +15,7 @@ use Rattle.format.specs.Message.{Message, readMessage, ofType, theMessage}
 use Rattle.format.specs.Header.{messages}
 use Rattle.format.specs.Dataset.{headAt}
 use Rattle.links.specs.Placed.{HeldBy}
+use Rattle.links.proofs.Gives.{Gives, gives-value, gives-check}
 use Rattle.links.proofs.Numbered.{Answered}
 use Rattle.links.proofs.NumberedHeader.{message-answered}
 use Rattle.links.proofs.PlacedBlocks.{HeldUpTo, Kept}
@@ -50,20 +51,6 @@ heads-of bs ms z h t = go (ofType t ms) (heads-type bs t ms h)
     go : (ns : List Message) → HeadsHeld bs ns → HeldBy bs (headAt (withFirst ns (record { type = t; flags = 0; body = []; place = 0 }) (λ m. m)))
     go [] k = z
     go (n ∷ ns) k = k .0
-
--- P holds of whatever the reader makes of its part
-unfoldable Gives : {A : Type 0} → (A → Type 0) → Result A → Type 0
-Gives P (value a) = P a
-Gives P (answer n) = Unit {0}
-
-gives-check : {A : Type 0} (P : A → Type 0) (t : Bool) (n : ℕ) (r : Result A) → Gives P r → Gives P (check t n >>= λ _. r)
-unfolding Gives _>>=_
-gives-check P true n r h = h
-gives-check P false n r h = tt
-
-gives-value : {A : Type 0} (P : A → Type 0) (a : A) → P a → Gives P (value a)
-unfolding Gives
-gives-value P a h = h
 
 -- a message begins where its bytes do
 message-gives : (place : ℕ) (m : List ℕ) → Gives (λ here. headAt here ≡ place) (readMessage place m)

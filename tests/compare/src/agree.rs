@@ -2,7 +2,8 @@
 
 use crate::library;
 use crate::plain::{self, Meeting, Meetings};
-use crate::reader::front::{audit_bytes, describe_bytes, lookup_bytes, mend_bytes, undo_bytes};
+use crate::reader::front::{audit_bytes, describe_bytes, lookup_bytes};
+use crate::reader::front::{mend_bytes, report_bytes, undo_bytes};
 use crate::reader::front::{BLOCK_BYTES, REPLY_WORDS};
 use crate::reader::{AuditReply, Object, Refusal, MOST_BLOCKS};
 use std::fmt::Display;
@@ -235,6 +236,20 @@ impl Pair {
         assert!(copy == log, "{title}: the log changed");
         self.compare(&title, number, mine);
         assert_ne!(number, MEET, "{title}");
+        number
+    }
+
+    /// Both reports of an image, with so many bytes lent for blocks and for the reply.
+    pub fn report(&mut self, name: &str, image: &[u8], blocks: usize, reply: usize) -> u32 {
+        self.library.prepare(blocks, reply);
+        self.reader.prepare(blocks, reply);
+        let mine = report_bytes(image, &mut self.reader.blocks, &mut self.reader.reply);
+        let copy = image.to_vec();
+        let lent = &mut self.library;
+        let number = library::report(&copy, &mut lent.blocks, &mut lent.reply);
+        let title = format_args!("{name}, report");
+        assert!(copy == image, "{title}: the image changed");
+        self.compare(&title, number, mine);
         number
     }
 

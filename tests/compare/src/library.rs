@@ -57,6 +57,15 @@ mod exported {
             entries: u64,
             limit: u64,
         ) -> u32;
+
+        pub fn ebikwotula_report(
+            image: *const u8,
+            image_length: usize,
+            blocks: *mut u8,
+            blocks_length: usize,
+            reply: *mut u8,
+            reply_length: usize,
+        ) -> u32;
     }
 }
 
@@ -149,6 +158,22 @@ pub fn undo(image: &mut [u8], log: &[u8], reply: &mut [u8], entries: u64, limit:
             reply.len(),
             entries,
             limit,
+        )
+    }
+}
+
+/// The damage report, which is always made where the reply has 8 words. These are the audit's answer, the block count, the
+/// place, the damaged block's address, length, kind and object, and the block met; the list has the blocks entered.
+pub fn report(image: &[u8], blocks: &mut [u8], reply: &mut [u8]) -> u32 {
+    // Each pointer is that of a live slice of the length beside it.
+    unsafe {
+        exported::ebikwotula_report(
+            image.as_ptr(),
+            image.len(),
+            blocks.as_mut_ptr(),
+            blocks.len(),
+            reply.as_mut_ptr(),
+            reply.len(),
         )
     }
 }

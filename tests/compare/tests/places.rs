@@ -9,7 +9,7 @@ const FULL: usize = 4096;
 /// The answer and the place.
 fn fault(stop: Option<Stop>) -> Option<(u32, u64)> {
     match stop {
-        Some(Stop::Fault(refusal, place)) => Some((refusal.number(), place)),
+        Some(Stop::Fault(refusal, site)) => Some((refusal.number(), site.place)),
         _ => None,
     }
 }
@@ -81,6 +81,7 @@ fn blocks_in_h() {
                 address,
                 length,
                 met,
+                ..
             }) => (refusal.number(), part, address, length, met),
             stop => panic!("{stop:?}"),
         }

@@ -3,9 +3,10 @@
 use super::blocks::Blocks;
 use super::group::{self, Target};
 use super::header::{self, Kind};
-use super::refusal::{Located, Stop, Walked};
+use super::refusal::{Located, Site, Stop, Walked};
+use super::superblock::{self, Superblock};
 use super::table::{Object, Table};
-use super::{attribute, dataset, superblock};
+use super::{attribute, dataset};
 
 /// The audit's reply and the block list as it leaves it.
 #[derive(Clone, PartialEq, Eq, Debug, Default)]
@@ -48,35 +49,39 @@ pub fn audit_stop(image: &[u8], lent_words: usize) -> Option<Stop> {
     run(image, super::room(lent_words)).err()
 }
 
-/// "enter the superblock; take objects in order of discovery, root first."
 pub fn run(image: &[u8], room: usize) -> Walked<Audited> {
-    let superblock = superblock::read(image).at(0)?;
-    let mut blocks = Blocks::start(&superblock, room)?;
+    let superblock = superblock::read(image).at(Site::block(0))?;
+    let mut blocks = Blocks::empty(&superblock, room);
+    let objects = walk(image, &superblock, &mut blocks)?;
+    Ok(Audited { blocks, objects })
+}
+
+/// "enter the superblock; take objects in order of discovery, root first." The list is empty before; where the walk stops it
+/// has the blocks entered so far.
+pub fn walk(image: &[u8], superblock: &Superblock, blocks: &mut Blocks) -> Walked<Vec<Object>> {
+    blocks.enter_superblock(superblock)?;
     let mut table = Table::with_root(superblock.root);
     let mut number = 0;
     while let Some(address) = table.address(number) {
         blocks.walk_for(number as u64);
         // "A shared address is discovered as an object where its message is read, an attribute's with its header's
         // messages."
-        let header = header::read(image, &mut blocks, address, |attribute| {
+        let header = header::read(image, blocks, address, |attribute| {
             let shared = attribute::shared_address(attribute)?;
             shared.map_or(Ok(()), |address| table.share(address))
         })?;
         table.store(number, header.stored);
         let committed = matches!(header.kind, Kind::Committed);
-        table.learn_kind(number, committed).at(address)?;
+        let learned = table.learn_kind(number, committed);
+        learned.at(Site::block(address))?;
         match header.kind {
             Kind::Group { tree, heap } => {
-                group::walk(
-                    image,
-                    &superblock,
-                    &mut blocks,
-                    (tree, heap),
-                    |link| match link.target {
+                group::walk(image, superblock, blocks, (tree, heap), |link| {
+                    match link.target {
                         Target::Hard(address) => table.link(address),
                         Target::Symbolic => Ok(()),
-                    },
-                )?;
+                    }
+                })?;
             }
             Kind::Dataset {
                 space,
@@ -84,14 +89,11 @@ pub fn run(image: &[u8], room: usize) -> Walked<Audited> {
                 layout,
             } => {
                 let messages = [space, datatype, layout];
-                dataset::read(&mut blocks, messages, |address| table.share(address))?;
+                dataset::read(blocks, messages, |address| table.share(address))?;
             }
             Kind::Committed => {}
         }
         number += 1;
     }
-    Ok(Audited {
-        blocks,
-        objects: table.into_objects(),
-    })
+    Ok(table.into_objects())
 }

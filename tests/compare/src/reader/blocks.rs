@@ -53,11 +53,16 @@ impl Blocks {
     /// A fresh list, "superblock first".
     pub fn start(superblock: &Superblock, room: usize) -> Walked<Blocks> {
         let mut blocks = Blocks::empty(superblock, room);
-        blocks.walk_for(SUPERBLOCK_OWNER);
-        blocks.enter(Part::Superblock, 0, superblock.length)?;
-        // "description writes 0 for the rest"; the audit says for each object which it is.
-        blocks.walk_for(0);
+        blocks.enter_superblock(superblock)?;
         Ok(blocks)
+    }
+
+    pub fn enter_superblock(&mut self, superblock: &Superblock) -> Walked<()> {
+        self.walk_for(SUPERBLOCK_OWNER);
+        self.enter(Part::Superblock, 0, superblock.length)?;
+        // "description writes 0 for the rest"; the audit says for each object which it is.
+        self.walk_for(0);
+        Ok(())
     }
 
     /// What is entered from here on belongs to this object.
@@ -74,6 +79,7 @@ impl Blocks {
                 part,
                 address,
                 length,
+                owner: self.owner,
                 met: 0,
             })
     }
@@ -92,11 +98,13 @@ impl Blocks {
             Some(next) => end <= next.0,
             None => true,
         };
+        let owner = self.owner;
         let refused = |refusal, met| Stop::NotEntered {
             refusal,
             part,
             address,
             length,
+            owner,
             met,
         };
         if !apart {
@@ -110,7 +118,7 @@ impl Blocks {
             address,
             length,
             part,
-            owner: self.owner,
+            owner,
         });
         Ok(address as usize..end as usize)
     }
@@ -124,6 +132,11 @@ impl Blocks {
 
     pub fn entered(&self) -> &[Block] {
         &self.entered
+    }
+
+    /// The block entered that has this address: no other has, since blocks share no byte and none is empty.
+    pub fn entered_at(&self, address: u64) -> Option<&Block> {
+        self.entered.iter().find(|block| block.address == address)
     }
 
     /// The list lent: the fours entered, then zeros.

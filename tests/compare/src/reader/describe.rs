@@ -4,7 +4,7 @@ use super::blocks::Blocks;
 use super::dataset::{self, Dataset, Datatype, MOST_DIMENSIONS};
 use super::header::Kind;
 use super::lookup::{find, Found};
-use super::refusal::{Refusal, Stop, Walked, NO_PLACE};
+use super::refusal::{Refusal, Stop, Walked, NOWHERE};
 
 /// The fields of a description; "those not given are 0".
 #[derive(Clone, PartialEq, Eq, Debug, Default)]
@@ -56,7 +56,7 @@ pub fn describe(image: &[u8], path: &[u8], lent_words: usize) -> DescribeReply {
     }
 }
 
-const NO_DATASET: Stop = Stop::Fault(Refusal::NoDataset, NO_PLACE);
+const NO_DATASET: Stop = Stop::Fault(Refusal::NoDataset, NOWHERE);
 
 /// "Description looks up (20 unless kind 2), then reads the dataset's messages on the header's list, enters its data
 /// and leaves that list."

@@ -1,4 +1,4 @@
-//! The audit, path lookup, dataset description, mending and undo as the C front end offers them: "on numbers and byte
+//! The audit, path lookup, dataset description, mending, undo and damage report as the C front end offers them: "on numbers and byte
 //! slices; there a word is 8 little-endian bytes", "C returns the number; other fields go as words to a further slice,
 //! spare bytes zero". With answer 6 the first of these words is the address of the block met.
 
@@ -7,7 +7,8 @@ use super::blocks::{Blocks, BLOCK_WORDS};
 use super::describe::{self, Described, Description};
 use super::lookup;
 use super::mend;
-use super::refusal::{ask, Located, Refusal, Stop, Walked, NO_PLACE};
+use super::refusal::{ask, Located, Refusal, Stop, Walked, NOWHERE};
+use super::report;
 
 /// The bytes of a block in the list.
 pub const BLOCK_BYTES: usize = 8 * BLOCK_WORDS;
@@ -27,6 +28,9 @@ pub const MEND_WORDS: usize = 3;
 
 /// "undo's writes"
 pub const UNDO_WORDS: usize = 1;
+
+/// "answer, block count, place, address, length, kind, object, met"
+pub const REPORT_WORDS: usize = 8;
 
 pub fn audit_bytes(image: &[u8], blocks: &mut [u8], reply: &mut [u8]) -> u32 {
     let audited = long_enough(reply, REPLY_WORDS).and_then(|()| audit::run(image, room_of(blocks)));
@@ -108,9 +112,31 @@ pub fn undo_bytes(image: &mut [u8], log: &[u8], reply: &mut [u8], entries: u64, 
     undone.number
 }
 
-/// "Under 770, 3 or 1 words gives 13 first, in C only." Lookup and description have their own least number of words.
+/// "A report is always made", and its number is 0, but "13 with zeros if the reply has under 8 words".
+pub fn report_bytes(image: &[u8], blocks: &mut [u8], reply: &mut [u8]) -> u32 {
+    if let Err(stop) = long_enough(reply, REPORT_WORDS) {
+        return refuse(stop, blocks, reply);
+    }
+    let report = report::report(image, blocks.len() / 8);
+    write_words(blocks, &report.list);
+    let [address, length, kind, object] = report.block;
+    let words: [u64; REPORT_WORDS] = [
+        u64::from(report.answer),
+        report.block_count,
+        report.place,
+        address,
+        length,
+        kind,
+        object,
+        report.met,
+    ];
+    write_words(reply, &words);
+    0
+}
+
+/// "Under 770, 3 or 1 words gives 13 first, in C only." The others have their own least number of words.
 fn long_enough(reply: &[u8], words: usize) -> Walked<()> {
-    ask(reply.len() / 8 >= words, Refusal::NoRoom).at(NO_PLACE)
+    ask(reply.len() / 8 >= words, Refusal::NoRoom).at(NOWHERE)
 }
 
 fn room_of(blocks: &[u8]) -> usize {

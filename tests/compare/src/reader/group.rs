@@ -3,7 +3,7 @@
 use super::blocks::Blocks;
 use super::bytes::{u16_at, u32_at, u64_at};
 use super::heap::{self, Heap};
-use super::refusal::{ask, Located, Part, Read, Refusal, Walked};
+use super::refusal::{ask, Located, Part, Read, Refusal, Site, Walked};
 use super::superblock::Superblock;
 
 /// A sound entry of a symbol node.
@@ -80,16 +80,17 @@ where
         // "It occupies 32 + 32K bytes, K internal."
         let length = 32 + 32 * self.superblock.internal_k;
         let node = &self.image[self.blocks.enter(Part::Tree, address, length)?];
-        ask(node[..4] == *b"TREE", Refusal::WrongSignature).at(address)?;
+        let whole = Site::block(address);
+        ask(node[..4] == *b"TREE", Refusal::WrongSignature).at(whole)?;
         let used = usize::from(u16_at(node, 6));
-        ask(self.node_is_sound(node, level, used), Refusal::BadTree).at(address)?;
+        ask(self.node_is_sound(node, level, used), Refusal::BadTree).at(whole)?;
         if used == 0 {
             return Ok(());
         }
         for key in 0..=used {
             let at = 24 + 16 * key;
             let ends = self.heap.ends(u64_at(node, at));
-            ends.at(address + at as u64)?;
+            ends.at(Site::inside(address, at))?;
         }
         let mut low = self.key(node, address, 24)?;
         for child in 0..used {
@@ -108,7 +109,8 @@ where
 
     /// The key whose offset stands there in a node.
     fn key(&self, node: &[u8], address: u64, at: usize) -> Walked<&'a [u8]> {
-        self.heap.key(u64_at(node, at)).at(address + at as u64)
+        let key = self.heap.key(u64_at(node, at));
+        key.at(Site::inside(address, at))
     }
 
     /// "type 0 (else 8), level, entries used", "At most 2K entries. Only a root of level 0 may be empty".
@@ -127,16 +129,17 @@ where
         let length = 8 + 80 * self.superblock.leaf_k;
         let node = &self.image[self.blocks.enter(Part::SymbolNode, address, length)?];
         let signed = node[..4] == *b"SNOD" && node[4] == 1;
-        ask(signed, Refusal::WrongSignature).at(address)?;
+        let whole = Site::block(address);
+        ask(signed, Refusal::WrongSignature).at(whole)?;
         let count = u16_at(node, 6);
         let in_range = (1..=2 * self.superblock.leaf_k).contains(&u64::from(count));
-        ask(in_range, Refusal::BadTree).at(address)?;
+        ask(in_range, Refusal::BadTree).at(whole)?;
         // From here on a name has to be above the last one and above the key.
         self.last = self.last.max(bounds.low);
         let entries = node[8..].chunks_exact(40).take(usize::from(count));
         for (number, entry) in entries.enumerate() {
-            let place = address + 8 + 40 * number as u64;
-            self.entry(entry, bounds.high).at(place)?;
+            let site = Site::inside(address, 8 + 40 * number);
+            self.entry(entry, bounds.high).at(site)?;
         }
         Ok(())
     }

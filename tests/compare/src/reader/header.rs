@@ -2,7 +2,7 @@
 
 use super::blocks::Blocks;
 use super::bytes::{u16_at, u32_at, u64_at};
-use super::refusal::{ask, Located, Part, Read, Refusal, Walked};
+use super::refusal::{ask, Located, Part, Read, Refusal, Site, Walked};
 
 /// A message body: "handed to its reader as a part of the image and no reader sees beyond it".
 #[derive(Clone, Copy)]
@@ -10,13 +10,18 @@ pub struct Body<'a> {
     pub bytes: &'a [u8],
     /// Its first byte's place in the image.
     pub place: usize,
+    /// The address of the header or continuation that its message stands in.
+    pub block: u64,
     pub shared: bool,
 }
 
 impl Body<'_> {
-    /// The place of its message, which has 8 bytes before the body.
-    pub fn message(&self) -> u64 {
-        self.place as u64 - 8
+    /// Where its message stands, which has 8 bytes before the body.
+    pub fn message(&self) -> Site {
+        Site {
+            block: self.block,
+            place: self.place as u64 - 8,
+        }
     }
 }
 
@@ -90,7 +95,8 @@ where
     let place = blocks.prefix(Part::Header, address, 16)?;
     let length = 16 + u64::from(u32_at(image, place + 8));
     let block = blocks.enter(Part::Header, address, length)?;
-    ask(image[place] == 1, Refusal::NotRead).at(address)?;
+    let whole = Site::block(address);
+    ask(image[place] == 1, Refusal::NotRead).at(whole)?;
     let mut messages = Messages::default();
     messages.read_block(&image[block.clone()], block.start, 16, &mut each)?;
     let mut turn = 0;
@@ -101,15 +107,15 @@ where
     }
     // "their total over all blocks equals the message count, else 10"
     let count = u64::from(u16_at(image, place + 2));
-    ask(messages.total == count, Refusal::BadHeader).at(address)?;
+    ask(messages.total == count, Refusal::BadHeader).at(whole)?;
     Ok(Header {
         stored: u32_at(image, place + 4),
-        kind: messages.kind().at(address)?,
+        kind: messages.kind().at(whole)?,
     })
 }
 
 impl<'a> Messages<'a> {
-    /// "Messages fill each block exactly": from `at` on to the block's end.
+    /// "Messages fill each block exactly": from `at` on to the block's end. The block lies at `place`.
     fn read_block<F>(
         &mut self,
         block: &'a [u8],
@@ -121,15 +127,15 @@ impl<'a> Messages<'a> {
         F: FnMut(&'a [u8]) -> Read<()>,
     {
         while at < block.len() {
-            let head = place + at;
-            let length = self.read_message(&block[at..], head, each);
-            at += length.at(head as u64)?;
+            let site = Site::inside(place as u64, at);
+            let length = self.read_message(&block[at..], site, each);
+            at += length.at(site)?;
         }
         Ok(())
     }
 
     /// The first message of the rest of a block; gives its length.
-    fn read_message<F>(&mut self, rest: &'a [u8], place: usize, each: &mut F) -> Read<usize>
+    fn read_message<F>(&mut self, rest: &'a [u8], site: Site, each: &mut F) -> Read<usize>
     where
         F: FnMut(&'a [u8]) -> Read<()>,
     {
@@ -145,7 +151,8 @@ impl<'a> Messages<'a> {
         ask(!shared || kind == 0x0003, Refusal::NotRead)?;
         let body = Body {
             bytes: &rest[8..8 + size],
-            place: place + 8,
+            place: site.place as usize + 8,
+            block: site.block,
             shared,
         };
         if kind == 0x000c {

@@ -2,7 +2,7 @@
 
 use super::blocks::Blocks;
 use super::bytes::{u64_at, UNDEFINED};
-use super::refusal::{ask, Located, Part, Read, Refusal, Walked};
+use super::refusal::{ask, Located, Part, Read, Refusal, Site, Walked};
 
 /// A name has at most 255 bytes: a longer key compares with names by its first 256.
 const KEY_BYTES: usize = 256;
@@ -19,14 +19,16 @@ pub struct Heap<'a> {
 pub fn read<'a>(image: &'a [u8], blocks: &mut Blocks, address: u64) -> Walked<Heap<'a>> {
     let head = &image[blocks.enter(Part::Heap, address, 32)?];
     let signed = head[..4] == *b"HEAP" && head[4] == 0;
-    ask(signed, Refusal::WrongSignature).at(address)?;
+    let whole = Site::block(address);
+    ask(signed, Refusal::WrongSignature).at(whole)?;
     let size = u64_at(head, 8);
     // "Segment at least 8."
-    ask(size >= 8, Refusal::BadHeapOrName).at(address)?;
+    ask(size >= 8, Refusal::BadHeapOrName).at(whole)?;
     let segment_at = u64_at(head, 24);
     let segment = &image[blocks.enter(Part::Segment, segment_at, size)?];
     let free = free_blocks(segment, u64_at(head, 16));
-    let free = free.ok_or(Refusal::BadHeapOrName).at(segment_at)?;
+    let free = free.ok_or(Refusal::BadHeapOrName);
+    let free = free.at(Site::block(segment_at))?;
     let ended_below = match segment.iter().rposition(|byte| *byte == 0) {
         Some(last_nul) => last_nul + 1,
         None => 0,

@@ -3,7 +3,7 @@
 use super::blocks::Blocks;
 use super::group::{self, Target};
 use super::header::{self, Header, Kind};
-use super::refusal::{ask, Located, Read, Refusal, Stop, Walked, NO_PLACE};
+use super::refusal::{ask, Located, Read, Refusal, Site, Stop, Walked, NOWHERE};
 use super::superblock::{self, Superblock};
 
 #[derive(Clone, PartialEq, Eq, Debug, Default)]
@@ -66,8 +66,8 @@ pub fn lookup_stop(image: &[u8], path: &[u8], lent_words: usize) -> Option<Stop>
 }
 
 pub fn find<'a>(image: &'a [u8], path: &[u8], room: usize) -> Walked<Found<'a>> {
-    let components = components(path).at(NO_PLACE)?;
-    let superblock = superblock::read(image).at(0)?;
+    let components = components(path).at(NOWHERE)?;
+    let superblock = superblock::read(image).at(Site::block(0))?;
     let mut address = superblock.root;
     let count = components.len();
     for (number, component) in components.into_iter().enumerate() {
@@ -75,7 +75,7 @@ pub fn find<'a>(image: &'a [u8], path: &[u8], room: usize) -> Walked<Found<'a>> 
             Target::Hard(next) => address = next,
             // "symbolic link before the last component"
             Target::Symbolic => {
-                ask(number + 1 == count, Refusal::SymbolicLink).at(NO_PLACE)?;
+                ask(number + 1 == count, Refusal::SymbolicLink).at(NOWHERE)?;
                 return Ok(Found::SymbolicLink);
             }
         }
@@ -106,7 +106,7 @@ fn step(
     let mut blocks = Blocks::start(superblock, room)?;
     let header = header::read(image, &mut blocks, address, stepped_over)?;
     let Kind::Group { tree, heap } = header.kind else {
-        return Err(Stop::Fault(Refusal::NoGroup, NO_PLACE));
+        return Err(Stop::Fault(Refusal::NoGroup, NOWHERE));
     };
     let mut found = None;
     group::walk(image, superblock, &mut blocks, (tree, heap), |link| {
@@ -115,7 +115,7 @@ fn step(
         }
         Ok(())
     })?;
-    found.ok_or(Refusal::NameAbsent).at(NO_PLACE)
+    found.ok_or(Refusal::NameAbsent).at(NOWHERE)
 }
 
 /// "a path is "/" or '/' before each component; any other form, a length outside 1 to 1,024, or a component that is

@@ -2,7 +2,7 @@
 
 use super::audit;
 use super::bytes::u32_at;
-use super::refusal::{ask, Located, Read, Refusal, Walked, NO_PLACE};
+use super::refusal::{ask, Located, Read, Refusal, Walked, NOWHERE};
 use super::superblock;
 
 #[derive(Clone, PartialEq, Eq, Debug, Default)]
@@ -54,7 +54,7 @@ fn try_mend(
         .filter(|object| object.stored != object.true_count);
     let mut entries = 0;
     for object in wrong {
-        let place = places.next().ok_or(Refusal::LogTooShort).at(NO_PLACE)?;
+        let place = places.next().ok_or(Refusal::LogTooShort).at(NOWHERE)?;
         place[0] = object.address + 4;
         place[1] = u64::from(object.stored) << 32 | u64::from(object.true_count);
         entries += 1;

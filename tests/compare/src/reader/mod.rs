@@ -1,4 +1,4 @@
-//! The separate reader. Comments in quotes are sentences of documents 01 and 02.
+//! The separate reader. Comments in quotes are sentences of documents 01 and 02, in the damage report those of its request.
 
 mod attribute;
 mod audit;
@@ -14,6 +14,7 @@ mod lookup;
 mod mend;
 mod object;
 mod refusal;
+mod report;
 mod superblock;
 mod table;
 
@@ -23,7 +24,8 @@ pub use describe::{describe, DescribeReply, Description};
 pub use lookup::{lookup, lookup_stop, LookupReply};
 pub use mend::{mend, undo, MendReply, UndoReply};
 pub use object::object_alone;
-pub use refusal::{Part, Refusal, Stop};
+pub use refusal::{Part, Refusal, Site, Stop};
+pub use report::{report, ReportReply};
 pub use table::Object;
 
 /// "Room and document 01's pairs are counted in fours."

@@ -2,12 +2,12 @@
 
 use super::blocks::{Block, Blocks, MOST_BLOCKS};
 use super::header::{self, Kind};
-use super::refusal::{Located, Walked};
+use super::refusal::{Located, Site, Walked};
 use super::{dataset, group, superblock};
 
 /// The blocks that a walk of the object at an address enters, from an empty list. What it links to or shares is left.
 pub fn object_alone(image: &[u8], address: u64) -> Walked<Vec<Block>> {
-    let superblock = superblock::read(image).at(0)?;
+    let superblock = superblock::read(image).at(Site::block(0))?;
     let mut blocks = Blocks::empty(&superblock, MOST_BLOCKS);
     let header = header::read(image, &mut blocks, address, |_| Ok(()))?;
     match header.kind {

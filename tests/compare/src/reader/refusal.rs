@@ -43,17 +43,47 @@ pub fn ask(sound: bool, refusal: Refusal) -> Read<()> {
     }
 }
 
+/// Where a fault is met: the block that is being read, by its address, and the place in the image of what is wrong in it.
+#[derive(Clone, Copy, PartialEq, Eq, Debug)]
+pub struct Site {
+    pub block: u64,
+    pub place: u64,
+}
+
+impl Site {
+    /// What is wrong with a block as a whole is met at its first byte.
+    pub fn block(address: u64) -> Site {
+        Site {
+            block: address,
+            place: address,
+        }
+    }
+
+    /// What is wrong at so many bytes from the start of a block.
+    pub fn inside(block: u64, offset: usize) -> Site {
+        Site {
+            block,
+            place: block + offset as u64,
+        }
+    }
+}
+
+/// The site of an answer that is about no byte of the image: to a path, or to what was lent.
+pub const NOWHERE: Site = Site { block: 0, place: 0 };
+
 /// Why a walk stops.
 #[derive(Clone, Copy, PartialEq, Eq, Debug)]
 pub enum Stop {
-    /// The answer to a fault, and the place in the image where it was met.
-    Fault(Refusal, u64),
-    /// 5, 6 and 13: the block that can't be entered, and with 6 the address of the first block entered that it meets.
+    /// The answer to a fault, and where in the image it was met.
+    Fault(Refusal, Site),
+    /// 5, 6 and 13: the block that can't be entered, the object whose walk wants it, and with 6 the address of the first block
+    /// entered that it meets.
     NotEntered {
         refusal: Refusal,
         part: Part,
         address: u64,
         length: u64,
+        owner: u64,
         met: u64,
     },
 }
@@ -76,7 +106,7 @@ impl Stop {
     /// The place of the fault, or the address of the block that can't be entered.
     pub fn place(self) -> u64 {
         match self {
-            Stop::Fault(_, place) => place,
+            Stop::Fault(_, site) => site.place,
             Stop::NotEntered { address, .. } => address,
         }
     }
@@ -95,19 +125,16 @@ pub enum Part {
     Data = 8,
 }
 
-/// The place of an answer that is about no byte of the image: to a path, or to what was lent.
-pub const NO_PLACE: u64 = 0;
-
 /// What a step of a walk gives.
 pub type Walked<T> = Result<T, Stop>;
 
 /// A part's answer becomes a fault where the part stands.
 pub trait Located<T> {
-    fn at(self, place: u64) -> Walked<T>;
+    fn at(self, site: Site) -> Walked<T>;
 }
 
 impl<T> Located<T> for Read<T> {
-    fn at(self, place: u64) -> Walked<T> {
-        self.map_err(|refusal| Stop::Fault(refusal, place))
+    fn at(self, site: Site) -> Walked<T> {
+        self.map_err(|refusal| Stop::Fault(refusal, site))
     }
 }

@@ -1,0 +1,10 @@
+pub mod ReadWords
+pub mod Fits
+pub mod FitsRun
+pub mod FitsMessages
+pub mod FitsHeader
+pub mod FitsNode
+pub mod FitsGroup
+pub mod LedgerWords
+pub mod FitsDataset
+pub mod AuditFits

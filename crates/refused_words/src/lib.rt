@@ -1,0 +1,1 @@
+// Theorems about the block that an audit can't enter. There is no code here.
