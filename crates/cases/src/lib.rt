@@ -5,6 +5,7 @@ ghost use mathlib.Core.Path.{_≡_};
 ghost use lib.ListN.{length};
 ghost use Rattle.cases.specs.Table.{Case, table};
 ghost use Rattle.cases.specs.Damaged.{damagedTable};
+ghost use Rattle.cases.specs.Reported.{reportTable};
 
 // The number of rows of the table. In every row the definitions give the reply beside it.
 pub fn rows() -> usize
@@ -20,4 +21,12 @@ pub fn damaged_rows() -> usize
     ensures answered { λ r. ⌜ map (λ (c : Case). c .actual) damagedTable ≡ map (λ (c : Case). c .expected) damagedTable ⌝ }
 {
     69
+}
+
+// The number of rows of the table of reports. In every row the definitions give the report beside it.
+pub fn report_rows() -> usize
+    ensures all { λ r. ⌜ r ≡ length reportTable ⌝ }
+    ensures answered { λ r. ⌜ map (λ (c : Case). c .actual) reportTable ≡ map (λ (c : Case). c .expected) reportTable ⌝ }
+{
+    18
 }

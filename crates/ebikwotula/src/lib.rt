@@ -3,6 +3,7 @@
 ghost use mathlib.Core.Path.{_≡_};
 ghost use lib.ListN.{length};
 ghost use Rattle.format.specs.Front.{CReply, CMend, CUndo, cAudit, cLookup, cDescribe, cMend, cUndo};
+ghost use Rattle.format.specs.Report.{cReport};
 ghost use Rattle.ebikwotula.specs.Version.{version};
 
 // The version of the calls, for a program to hold against its header.
@@ -85,4 +86,14 @@ pub extern "C" fn ebikwotula_undo(
         (cUndo (now (image .entry)) (now (log .entry)) (length (now (reply .entry))) entries limit) ⌝ }
 {
     front_undo::undo_bytes(image, log, reply, entries, limit)
+}
+
+// The damage report of an image. `blocks` gets the list of the blocks entered, also those before a fault; `reply` gets the other
+// fields, with the audit's answer first. 0 is returned, or 13 where the reply is too short.
+#[no_mangle]
+pub extern "C" fn ebikwotula_report(image: &[u8], blocks: &mut [u8], reply: &mut [u8]) -> u32
+    ensures { λ r. ⌜ _≡_ {A = CReply} (record { number = r; list = now (blocks .exit); reply = now (reply .exit) })
+        (cReport (now (image .entry)) (length (now (blocks .entry))) (length (now (reply .entry)))) ⌝ }
+{
+    front_report::report_bytes(image, blocks, reply)
 }

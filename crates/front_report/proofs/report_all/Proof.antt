@@ -1,0 +1,24 @@
+-- The list has the words of all blocks.
+use Rattle.format.specs.Limits.{blocksMost}
+use borrow.Author.Needs.{needs}
+use Rattle.front_report.proofs.report_all.Statement.{statement}
+use Rattle.front_report.proofs.report_all.Tie as tie
+
+slice-aggregate-report-with : tie.Need-slice-aggregate-report-with
+slice-aggregate-report-with c = search needs
+
+report-with-requires : tie.Need-report-with-requires
+unfolding blocksMost
+report-with-requires c κs = search needs
+
+same-length : tie.Need-same-length
+same-length c = search needs
+
+same-length-2 : tie.Need-same-length-2
+same-length-2 c = search needs
+
+returns : tie.Need-returns
+returns c = search needs
+
+pub report-all-spec : {M : Type 1} → statement M
+report-all-spec = tie.close (tie.spec slice-aggregate-report-with report-with-requires same-length same-length-2 returns)
