@@ -24,8 +24,8 @@
 extern "C" {
 #endif
 
-/* The version of this header. It is raised with every change of a word, an answer or a limit; ebikwotula_version gives that
- * of the library. */
+/* The version of this header. It is raised with every change of a word, an answer or a limit, and not with a new call;
+ * ebikwotula_version gives that of the library. */
 #define EBIKWOTULA_VERSION 3
 
 /* The limits: the length of an image, in bytes; the objects that are counted; the blocks that one walk enters; the length of
@@ -63,9 +63,10 @@ extern "C" {
 #define EBIKWOTULA_DESCRIBE_STACK_BYTES 49152
 #define EBIKWOTULA_MEND_STACK_BYTES 57344
 #define EBIKWOTULA_UNDO_STACK_BYTES 4096
+#define EBIKWOTULA_REPORT_STACK_BYTES 49152
 
 /* The answers. 12 is given by audit and mending alone, 14 to 17 by lookup and description alone, 18 by mending and undo
- * alone, 19 by undo alone, and 20 by description alone. */
+ * alone, 19 by undo alone, and 20 by description alone. A report returns 0 or 13; it has the audit's answer as a word. */
 enum ebikwotula_answer {
     EBIKWOTULA_DONE = 0,           /* done */
     EBIKWOTULA_IMAGE_LENGTH = 1,   /* the image has under 96 or over 1,048,576 bytes */
@@ -100,13 +101,13 @@ enum ebikwotula_kind {
 };
 
 /* Blocks. A block is a piece of the file that belongs to one structure. Audit and mending list the blocks that they have
- * entered, in the order in which they entered them, the superblock first; a description lists those that it has entered for
- * the dataset. For block i, from 0 on, blocks has
+ * entered, in the order in which they entered them, the superblock first; so does a report, also of a damaged file; a
+ * description lists those that it has entered for the dataset. For block i, from 0 on, blocks has
  *   word 4 * i       its address
  *   word 4 * i + 1   its length, in bytes
  *   word 4 * i + 2   its kind, one of those below
- *   word 4 * i + 3   the number of the object that it was entered for. In the list of an audit or a mending objects are
- *                    numbered in order of discovery, the root 0, as they stand in the audit's reply; in that of a
+ *   word 4 * i + 3   the number of the object that it was entered for. In the list of an audit, a mending or a report objects
+ *                    are numbered in order of discovery, the root 0, as they stand in the audit's reply; in that of a
  *                    description the number is 0. For the superblock it is EBIKWOTULA_SUPERBLOCK_OBJECT in every list.
  * The words behind the last block are 0. No byte of the file is in two blocks of a list.
  *

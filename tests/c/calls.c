@@ -134,7 +134,6 @@ static uint32_t report(struct call *c)
 
 typedef uint32_t function(struct call *);
 
-/* A stack of 0 bytes is one that the header doesn't give. */
 static const struct {
     const char *name;
     function *run;
@@ -146,7 +145,7 @@ static const struct {
     {"describe", describe, EBIKWOTULA_DESCRIBE_REPLY_BYTES, EBIKWOTULA_DESCRIBE_STACK_BYTES},
     {"mend", mend, EBIKWOTULA_MEND_REPLY_BYTES, EBIKWOTULA_MEND_STACK_BYTES},
     {"undo", undo, EBIKWOTULA_UNDO_REPLY_BYTES, EBIKWOTULA_UNDO_STACK_BYTES},
-    {"report", report, EBIKWOTULA_REPORT_REPLY_BYTES, 0},
+    {"report", report, EBIKWOTULA_REPORT_REPLY_BYTES, EBIKWOTULA_REPORT_STACK_BYTES},
 };
 
 #define CALLS (sizeof calls / sizeof calls[0])
@@ -543,10 +542,8 @@ static void stacks(struct file *files, int count)
             free(job.call);
         }
         printf("stack of %s: %zu bytes\n", calls[i].name, most);
-        if (calls[i].stack_bytes > 0) {
-            CHECK(most <= calls[i].stack_bytes);
-            CHECK(most + 8192 > calls[i].stack_bytes);
-        }
+        CHECK(most <= calls[i].stack_bytes);
+        CHECK(most + 8192 > calls[i].stack_bytes);
     }
 }
 

@@ -14,7 +14,7 @@ use Rattle.format.specs.Superblock.{Superblock, Opening, opened, notOpened, ope
 use Rattle.format.specs.Ledger.{Linked}
 use Rattle.format.specs.Audit.{auditWalk, auditRun}
 use Rattle.format.specs.Answers.{auditEnd, audit}
-use Rattle.format.specs.Report.{ReportReply, reportEnd, unopened, reportOpened, report}
+use Rattle.format.specs.Report.{reportEnd, unopened, reportOpened, report}
 use Rattle.laws.specs.Blocks.{Inside}
 use Rattle.laws.proofs.Growth.{Grown, run-grown}
 use Rattle.links.specs.Owners.{OneOwner}

@@ -1,7 +1,7 @@
 -- A report of a block that can't be entered: 5, 6 and 13.
-use Prim.Native.Nat.{ℕ, _+_, _*_, _≤_, _<_}
+use Prim.Native.Nat.{ℕ, _+_, _*_, _<_}
 use mathlib.Core.Bool.{false}
-use mathlib.Core.List.{List, [], _∷_, _++_}
+use mathlib.Core.List.{List, [], _∷_}
 use mathlib.Core.Logic.{⊎-elim, inr}
 use mathlib.Core.Path.{_≡_, refl, ap, sym, _∙_}
 use native.Mathlib.Omega.{arith}
@@ -20,7 +20,7 @@ use Rattle.links.proofs.RefusedFault.{refused-fault}
 use Rattle.links.proofs.AuditMet.{audit-met}
 use Rattle.links.proofs.BlocksBefore.{inside-at, apart-at}
 use Rattle.links.proofs.PlacedAudit.{audit-stopped, audit-placed}
-use Rattle.claims.specs.Reports.{FourApart, FirstOfList, EntryNamed, AtEntry}
+use Rattle.claims.specs.Reports.{FirstOfList, EntryNamed, AtEntry}
 use Rattle.claims.proofs.DamagedBlock.{four-at, four-overlaps}
 use Rattle.claims.proofs.ReportEnds.{outcome, report-opened, blocks-inside, blocks-fit, own-numbers}
 

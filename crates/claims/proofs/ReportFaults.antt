@@ -1,14 +1,13 @@
 -- A report of a fault in a block: the place lies in the block named, which stands in the list, and in no other block of it.
-use Prim.Native.Nat.{ℕ, _+_, _*_, _≤_, _<_}
+use Prim.Native.Nat.{ℕ, _≤_, _<_}
 use mathlib.Core.List.{List}
 use mathlib.Core.Logic.{⊎-elim}
-use mathlib.Core.Path.{_≡_, refl, ap, _∙_}
+use mathlib.Core.Path.{_≡_, refl, ap}
 use native.Mathlib.Omega.{arith}
 use borrow.Author.Tests.{ne-eqb}
 use lib.ListN.{length, getD}
 use Rattle.format.specs.Limits.{imageLeast}
 use Rattle.format.specs.Blocks.{Block, block, noObject, superblockKind, blockList}
-use Rattle.format.specs.declared.Refusal.{Refusal}
 use Rattle.format.specs.declared.Refusal.the-variants.{Fault, NotEntered}
 use Rattle.format.specs.Walk.{Outcome, done, refused}
 use Rattle.format.specs.Superblock.{Superblock, opened, notOpened, openImage}
@@ -18,7 +17,7 @@ use Rattle.links.specs.Owners.{HoldsByte}
 use Rattle.links.proofs.Opened.{opened-end, not-short}
 use Rattle.links.proofs.BlocksBefore.{inside-at}
 use Rattle.links.proofs.PlacedAudit.{audit-stopped, audit-placed}
-use Rattle.claims.specs.Reports.{InFour, InList, FaultNamed, SuperblockNamed, InSomeBlock}
+use Rattle.claims.specs.Reports.{InFour, FaultNamed, SuperblockNamed, InSomeBlock}
 use Rattle.claims.proofs.DamagedBlock.{listedAt, holding-is, four-at}
 use Rattle.claims.proofs.ReportEnds.{outcome, report-opened, report-unopened, blocks-inside, blocks-apart}
 

@@ -16,7 +16,7 @@ use Rattle.format.specs.Walk.{Outcome, done, refused}
 use Rattle.format.specs.Superblock.{Superblock, Opening, opened, notOpened, openImage}
 use Rattle.format.specs.Ledger.{Linked}
 use Rattle.format.specs.Audit.{auditWalk}
-use Rattle.format.specs.Report.{listedBlock, noBlock, reportEnd, unopened, ReportReply, report, reportWords, cReport}
+use Rattle.format.specs.Report.{ListedBlock, listedBlock, noBlock, unopenedBlock, reportEnd, unopened, ReportReply, report, reportWords, cReport}
 use Rattle.walk.proofs.BlockList.{room-most}
 use Rattle.laws.proofs.Growth.{run-grown}
 use Rattle.laws.proofs.ImageLength.{image-small}
@@ -56,26 +56,32 @@ unfolding cReport
 c-lists im l r h = rw (le-leb 8 (r / 8) h) (list-back l (report im (l / 8) .list) (report-fills im (l / 8)))
 
 -- what a caller reads fits its words
+record BlockSmall (b : ListedBlock) : Type 0 where
+  address : b .address < 2 ^ 64
+  size : b .size < 2 ^ 64
+  kind : b .kind < 2 ^ 64
+  object : b .object < 2 ^ 64
+
 record Small (r : ReportReply) : Type 0 where
   answer : r .answer < 2 ^ 64
   blockCount : r .blockCount < 2 ^ 64
   place : r .place < 2 ^ 64
-  address : r .block .address < 2 ^ 64
-  size : r .block .size < 2 ^ 64
-  kind : r .block .kind < 2 ^ 64
-  object : r .block .object < 2 ^ 64
+  block : BlockSmall (r .block)
   met : r .met < 2 ^ 64
 
 eight : (r : ReportReply) → Small r → IsWords (reportWords r)
 eight r h zero = h .answer
 eight r h (suc zero) = h .blockCount
 eight r h (suc (suc zero)) = h .place
-eight r h (suc (suc (suc zero))) = h .address
-eight r h (suc (suc (suc (suc zero)))) = h .size
-eight r h (suc (suc (suc (suc (suc zero))))) = h .kind
-eight r h (suc (suc (suc (suc (suc (suc zero)))))) = h .object
+eight r h (suc (suc (suc zero))) = h .block .address
+eight r h (suc (suc (suc (suc zero)))) = h .block .size
+eight r h (suc (suc (suc (suc (suc zero))))) = h .block .kind
+eight r h (suc (suc (suc (suc (suc (suc zero)))))) = h .block .object
 eight r h (suc (suc (suc (suc (suc (suc (suc zero))))))) = h .met
 eight r h (suc (suc (suc (suc (suc (suc (suc (suc k)))))))) = omega arith
+
+none-small : BlockSmall noBlock
+none-small = record { address = omega arith; size = omega arith; kind = omega arith; object = omega arith }
 
 last-most : (o : ℕ) (bs : List Block) → o ≤ noObject → lastOwner o bs ≤ noObject
 unfolding lastOwner
@@ -106,10 +112,12 @@ module _ (im : List ℕ) (lent : ℕ) (bytes : IsBytes im) (s : Superblock) (p :
         answer = omega (arith, own-numbers im lent s (Fault n at) bs e .4);
         blockCount = count-small lent (length bs) (blocks-fit im lent s (Fault n at) bs e);
         place = omega (arith, named .holds .1, named .inside, image-small (length im) (opened-range im s p));
-        address = rw (← (listed .address)) (words (4 * k));
-        size = rw (← (listed .size)) (words (4 * k + 1));
-        kind = rw (← (listed .kind)) (words (4 * k + 2));
-        object = rw (← (listed .object)) (words (4 * k + 3));
+        block = record {
+          address = rw (← (listed .address)) (words (4 * k));
+          size = rw (← (listed .size)) (words (4 * k + 1));
+          kind = rw (← (listed .kind)) (words (4 * k + 2));
+          object = rw (← (listed .object)) (words (4 * k + 3));
+        };
         met = omega arith;
       }
 
@@ -124,62 +132,38 @@ module _ (im : List ℕ) (lent : ℕ) (bytes : IsBytes im) (s : Superblock) (p :
         answer = ⊎-elim (λ q. omega (arith, q)) (⊎-elim (λ q. omega (arith, q)) (λ q. omega (arith, q))) (entry .numbers);
         blockCount = count-small lent (length bs) (blocks-fit im lent s x bs e);
         place = fits .0;
-        address = fits .0;
-        size = fits .1;
-        kind = omega (arith, fits .2);
-        object = all-ones _ (owner-most _ kind (last-most noObject bs (omega arith)));
+        block = record {
+          address = fits .0;
+          size = fits .1;
+          kind = omega (arith, fits .2);
+          object = all-ones _ (owner-most _ kind (last-most noObject bs (omega arith)));
+        };
         met = met-word im lent n kind a size met bs (gives-met im lent s p x bs e) words;
       }
 
   end-words : (o : Outcome (List Linked)) → outcome im lent s ≡ o → Small (reportEnd im lent o)
   end-words (done os bs) e =
       let fits : length bs ≤ roomOf lent = rw e at (run-grown im (s .endOfFile) (roomOf lent) (auditWalk s) [] (omega arith) .fits) in
-      record {
-        answer = omega arith;
-        blockCount = count-small lent (length bs) fits;
-        place = omega arith;
-        address = omega arith;
-        size = omega arith;
-        kind = omega arith;
-        object = omega arith;
-        met = omega arith;
-      }
+      record { answer = omega arith; blockCount = count-small lent (length bs) fits; place = omega arith; block = none-small; met = omega arith }
   end-words (refused (Fault n at) bs) e = fault-small n at bs e
   end-words (refused (NotEntered n kind a size met) bs) e = entry-small n kind a size met bs e
 
-unopened-words : (im : List ℕ) (lent n : ℕ) → openImage im ≡ notOpened n → Small (unopened lent n)
+unopened-small : (n : ℕ) → BlockSmall (unopenedBlock n)
 unfolding imageLeast undefinedAddress
-unopened-words im lent n p = go (eqb n 1)
+unopened-small n = go (eqb n 1)
   where
-    go : (t : Bool) → Small (record {
-      answer = n;
-      blockCount = 0;
-      place = 0;
-      block = if t then noBlock else listedBlock 0 imageLeast superblockKind noObject;
-      met = 0;
-      objects = [];
-      list = blockList lent [];
-    })
-    go true = record {
-      answer = omega (arith, not-opened-number im n p .1);
-      blockCount = omega arith;
-      place = omega arith;
-      address = omega arith;
-      size = omega arith;
-      kind = omega arith;
-      object = omega arith;
-      met = omega arith;
-    }
-    go false = record {
-      answer = omega (arith, not-opened-number im n p .1);
-      blockCount = omega arith;
-      place = omega arith;
-      address = omega arith;
-      size = omega arith;
-      kind = omega arith;
-      object = omega arith;
-      met = omega arith;
-    }
+    go : (t : Bool) → BlockSmall (if t then noBlock else listedBlock 0 imageLeast superblockKind noObject)
+    go true = none-small
+    go false = record { address = omega arith; size = omega arith; kind = omega arith; object = omega arith }
+
+unopened-words : (im : List ℕ) (lent n : ℕ) → openImage im ≡ notOpened n → Small (unopened lent n)
+unopened-words im lent n p = record {
+  answer = omega (arith, not-opened-number im n p .1);
+  blockCount = omega arith;
+  place = omega arith;
+  block = unopened-small n;
+  met = omega arith;
+}
 
 report-small : (im : List ℕ) (lent : ℕ) → IsBytes im → Small (report im lent)
 report-small im lent bytes = go (openImage im) refl

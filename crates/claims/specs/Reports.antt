@@ -8,7 +8,7 @@ use mathlib.Core.Path.{_≡_}
 use lib.ListN.{length, getD}
 use Rattle.format.specs.Bytes.{toWords, padded}
 use Rattle.format.specs.Blocks.{block, overlaps, roomOf, blockList}
-use Rattle.format.specs.Superblock.{Superblock, Opening, opened, notOpened, openImage}
+use Rattle.format.specs.Superblock.{Superblock, opened, notOpened, openImage}
 use Rattle.format.specs.Audit.{Counted, auditWalk}
 use Rattle.format.specs.Answers.{audit}
 use Rattle.format.specs.Report.{ListedBlock, noBlock, unopenedBlock, ReportReply, report, reportWords, cReport}

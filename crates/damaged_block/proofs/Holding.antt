@@ -1,17 +1,16 @@
 -- The block that holds a byte, found in the words of a list.
 use Prim.Native.Nat.{ℕ, zero, suc, _+_, _*_, _≤_, _<_}
-use mathlib.Core.Bool.{Bool, true, false, and-false}
+use mathlib.Core.Bool.{true, false, and-false}
 use mathlib.Core.List.{List, [], _∷_}
 use mathlib.Core.Path.{_≡_, refl, ap, sym, _∙_}
 use native.Mathlib.Omega.{arith}
 use native.Mathlib.Numerals.{add-one}
 use borrow.Author.Tests.{lt-ltb, le-ltb, le-leb, lt-leb}
-use lib.ListN.{length, getD, take, drop, drop-of-length-le}
+use lib.ListN.{getD, take, drop, drop-of-length-le}
 use Rattle.format.specs.Blocks.{Block, block, noObject, ownerAfter, lastOwner, blockWords}
-use Rattle.format.specs.Report.{ListedBlock, listedBlock, noBlock, holdsByte, holding}
+use Rattle.format.specs.Report.{ListedBlock, noBlock, holdsByte, holding}
 use Rattle.walk.specs.Lent.{blocksOf}
 use Rattle.walk.proofs.BlockList.{length-blocksOf, blockAt, blocks-next}
-use Rattle.links.specs.Fours.{numberAt}
 use Rattle.damaged_block.specs.Block.{fourAt}
 use Rattle.damaged_block.proofs.Filled.{four-of}
 

@@ -1,13 +1,11 @@
 -- An image opens the same where it differs only behind the superblock.
 use Prim.Native.Nat.{ℕ, _+_, _≤_, _<_}
-use mathlib.Core.Bool.{Bool, true, false}
 use mathlib.Core.List.{List}
 use mathlib.Core.Logic.{inr}
 use mathlib.Core.Path.{_≡_, ap, _∙_}
 use native.Mathlib.Omega.{arith}
 use lib.ListN.{getD}
-use lib.Dec.{eqb}
-use Rattle.format.specs.Bytes.{if_then_else_, part, u8}
+use Rattle.format.specs.Bytes.{part}
 use Rattle.format.specs.Walk.{superblockBlock, shown}
 use Rattle.format.specs.Superblock.{versionShift, versionsRead}
 use Rattle.format.specs.Superblock.{sizesRead, addressesRead, superblockRead, superblockSound, superblockFields, openImage}

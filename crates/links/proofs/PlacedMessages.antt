@@ -9,7 +9,7 @@ use lib.Dec.{eqb}
 use lib.ListN.{length, drop, length-drop}
 use Rattle.format.specs.Bytes.{if_then_else_, withFirst, u16}
 use Rattle.format.specs.Blocks.{Block}
-use Rattle.format.specs.Result.{Result, value, answer, check, _>>=_}
+use Rattle.format.specs.Result.{Result, value, _>>=_}
 use Rattle.format.specs.Walk as walks
 use Rattle.format.specs.Message.{Message, readMessage, ofType, theMessage}
 use Rattle.format.specs.Header.{messages}

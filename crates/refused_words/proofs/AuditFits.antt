@@ -1,13 +1,11 @@
 -- The block that an audit can't enter has an address and a length of 64 bits, on every image of bytes.
 use Prim.Native.Nat.{ℕ, zero, suc, _+_, _^_, _≤_, _<_}
-use mathlib.Core.Bool.{Bool, true, false}
 use mathlib.Core.List.{List, [], _∷_}
 use mathlib.Core.Path.{_≡_}
 use native.Mathlib.Omega.{arith}
-use lib.Dec.{eqb}
 use lib.ListN.{drop}
 use Rattle.format.specs.Limits.{objectsMost}
-use Rattle.format.specs.Bytes.{if_then_else_, withFirst, u8}
+use Rattle.format.specs.Bytes.{withFirst}
 use Rattle.format.specs.Blocks.{Block, roomOf}
 use Rattle.format.specs.declared.Refusal.the-variants.{NotEntered}
 use Rattle.format.specs.Walk.{ret, refused, run, superblockBlock, _>>=_}

@@ -1,5 +1,5 @@
 -- From the walk of an image, in a list that was filled before it, to the report.
-use Prim.Native.Nat.{ℕ, _-_, _*_, _≤_, _<_}
+use Prim.Native.Nat.{ℕ, _-_, _*_, _≤_}
 use mathlib.Core.List.{List, [], _++_}
 use mathlib.Core.Path.{_≡_, refl, ap, sym, _∙_}
 use native.Mathlib.Omega.{arith}
@@ -12,10 +12,9 @@ use Rattle.format.specs.Walk.{Outcome, done, refused, run}
 use Rattle.format.specs.Superblock.{opened, notOpened, openImage}
 use Rattle.format.specs.Ledger.{Linked}
 use Rattle.format.specs.Audit.{auditWalk}
-use Rattle.format.specs.Report.{noBlock, reportEnd, unopened, report}
+use Rattle.format.specs.Report.{noBlock, report}
 use Rattle.walk.specs.Lent.{blocksOf, stopped, Walked}
 use Rattle.walk.proofs.BlockList.{lent-none, length-blocksOf, words-blocks}
-use Rattle.laws.specs.Blocks.{Inside}
 use Rattle.laws.proofs.Growth.{Grown, run-grown}
 use Rattle.laws.proofs.Simulation.{walked-refused}
 use Rattle.ledger.specs.Report.{countedPlaces, StoredRead}

@@ -3,7 +3,6 @@ use denote.Ref.{now}
 use mathlib.Core.Path.{refl, _∙_}
 use Rattle.walk.specs.Lent.{blocksOf}
 use Rattle.walk.proofs.BlockList.{list-cleared}
-use native.Mathlib.Omega.{arith}
 use borrow.Author.Needs.{needs}
 use Rattle.report.proofs.refused.Statement.{statement}
 use Rattle.report.proofs.refused.Tie as tie

@@ -1,5 +1,4 @@
 -- Opened or not, the laws of Replied.antt.
-use mathlib.Core.List.{List}
 use mathlib.Core.Path.{_≡_}
 use lib.ListN.{length}
 use denote.Ref.{now}
@@ -8,7 +7,6 @@ use Rattle.superblock.specs.Superblock.{superblockOf}
 use Rattle.superblock.specs.declared.Superblock.{Superblock}
 use Rattle.object.specs.Object.{Bounded}
 use Rattle.report.proofs.Replied.{unopened-is, opened-is}
-use native.Mathlib.Omega.{arith}
 use borrow.Author.Needs.{needs}
 use Rattle.report.proofs.report_into.Statement.{statement}
 use Rattle.report.proofs.report_into.Tie as tie

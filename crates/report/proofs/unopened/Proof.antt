@@ -2,7 +2,6 @@
 use denote.Ref.{now}
 use mathlib.Core.Path.{refl}
 use Rattle.walk.proofs.BlockList.{all-cleared}
-use native.Mathlib.Omega.{arith}
 use borrow.Author.Needs.{needs}
 use Rattle.report.proofs.unopened.Statement.{statement}
 use Rattle.report.proofs.unopened.Tie as tie

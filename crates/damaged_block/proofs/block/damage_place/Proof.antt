@@ -1,5 +1,4 @@
 -- A fault has its place; the other case the block's address.
-use native.Mathlib.Omega.{arith}
 use borrow.Author.Needs.{needs}
 use Rattle.damaged_block.proofs.block.damage_place.Statement.{statement}
 use Rattle.damaged_block.proofs.block.damage_place.Tie as tie

@@ -1,5 +1,4 @@
 -- A fault lies in a block of the list; a block that can't be entered is named as it is pointed to.
-use native.Mathlib.Omega.{arith}
 use borrow.Author.Needs.{needs}
 use Rattle.damaged_block.proofs.block.damaged.Statement.{statement}
 use Rattle.damaged_block.proofs.block.damaged.Tie as tie

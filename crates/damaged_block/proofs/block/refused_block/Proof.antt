@@ -1,5 +1,4 @@
 -- The number behind that of the last block.
-use native.Mathlib.Omega.{arith}
 use mathlib.Core.Path.{refl}
 use borrow.Author.Needs.{needs}
 use Rattle.damaged_block.proofs.block.refused_block.Statement.{statement}

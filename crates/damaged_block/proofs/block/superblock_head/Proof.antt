@@ -2,7 +2,6 @@
 use borrow.Author.Tests.{eq-eqb, ne-eqb}
 use Rattle.format.specs.Limits.{imageLeast}
 use Rattle.format.specs.Bytes.{undefinedAddress}
-use native.Mathlib.Omega.{arith}
 use borrow.Author.Needs.{needs}
 use Rattle.damaged_block.proofs.block.superblock_head.Statement.{statement}
 use Rattle.damaged_block.proofs.block.superblock_head.Tie as tie
