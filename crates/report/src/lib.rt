@@ -39,33 +39,33 @@ pub struct Reported {
 }
 
 // The report of an image that can't be opened.
-fn unopened(list: &mut [u64], answer: u8) -> Reported
-    ensures { λ r. ⌜ fieldsOf r ≡ unopenedFields answer ⌝ }
+fn unopened(list: &mut [u64], number: u8) -> Reported
+    ensures { λ r. ⌜ fieldsOf r ≡ unopenedFields number ⌝ }
     ensures { λ _. ⌜ now (list .exit) ≡ replicate (length (now (list .entry))) 0 ⌝ }
 {
     blocks::clear_from(list, 0);
     Reported {
-        answer,
+        answer: number,
         block_count: 0,
         place: 0,
-        block: superblock_head(answer),
+        block: superblock_head(number),
         met: 0,
         objects: 0,
     }
 }
 
 // The report of a file whose walk is refused: the blocks that were entered before stay in the list.
-fn refused(list: &mut [u64], count: usize, refusal: Refusal) -> Reported
-    requires { ⌜ 4 * count ≤ length (now list) ⌝ }
-    requires { ⌜ take (4 * count) (now list) ≡ blockWords noObject (blocksOf count (now list)) ⌝ }
-    ensures { λ r. ⌜ fieldsOf r ≡ refusedFields count (blocksOf count (now (list .entry))) refusal ⌝ }
-    ensures { λ _. ⌜ now (list .exit) ≡ blockList (length (now (list .entry))) (blocksOf count (now (list .entry))) ⌝ }
+fn refused(list: &mut [u64], entered: usize, refusal: Refusal) -> Reported
+    requires { ⌜ 4 * entered ≤ length (now list) ⌝ }
+    requires { ⌜ take (4 * entered) (now list) ≡ blockWords noObject (blocksOf entered (now list)) ⌝ }
+    ensures { λ r. ⌜ fieldsOf r ≡ refusedFields entered (blocksOf entered (now (list .entry))) refusal ⌝ }
+    ensures { λ _. ⌜ now (list .exit) ≡ blockList (length (now (list .entry))) (blocksOf entered (now (list .entry))) ⌝ }
 {
-    let block = damaged(list, count, refusal);
-    blocks::clear_from(list, 4 * count);
+    let block = damaged(list, entered, refusal);
+    blocks::clear_from(list, 4 * entered);
     Reported {
         answer: number_of(refusal),
-        block_count: count,
+        block_count: entered,
         place: damage_place(refusal),
         block,
         met: met_of(refusal),

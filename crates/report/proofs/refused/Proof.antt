@@ -37,7 +37,7 @@ returns c =
     let start = at-damaged .before .before .before in
     let a = start .args in (
       rw (at-number .number-of .ensures, at-place .damage-place .ensures, c .met-of .ensures, at-damaged .damaged .ensures) refl,
-      at-clear .clear-from .ensures ∙ list-cleared (a .count) (blocksOf (a .count) (now (a .list))) (now (a .list)) (start .pre .0) (start .pre .1),
+      at-clear .clear-from .ensures ∙ list-cleared (a .entered) (blocksOf (a .entered) (now (a .list))) (now (a .list)) (start .pre .0) (start .pre .1),
     )
 
 pub refused-spec : {M : Type 1} → statement M
