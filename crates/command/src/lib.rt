@@ -9,8 +9,6 @@ use format::COMMAND_BLOCKS;
 use format::INPUT_MOST;
 use format::OBJECTS_MOST;
 use input::Input;
-use libc::STDERR_FILENO;
-use libc::STDIN_FILENO;
 use libc::STDOUT_FILENO;
 use output::FIRST_LINE;
 use output::OBJECT_LINE;
@@ -64,7 +62,7 @@ fn run(fd: i32, name: &[u8]) {
     let mut buffer = [0u8; BUFFER];
     let mut out = [0u8; OUTPUT_MOST];
     match respond(fd, &mut buffer, &mut out) {
-        Response::Failed => os::fail(name),
+        Response::Failed => source::fail(name),
         Response::Text(n) => {
             if !io::write_all(STDOUT_FILENO, &out[..n]) {
                 os::fail(b"standard output");
@@ -73,32 +71,15 @@ fn run(fd: i32, name: &[u8]) {
     }
 }
 
-fn run_file() {
-    let mut path = io::buffer();
-    let n = os::arg(1, &mut path);
-    if os::errno() != 0 {
-        os::fail(b"the argument");
-        return;
-    }
-    let fd = os::open_read(&path[..n]);
-    if fd < 0 {
-        os::fail(&path[..n]);
-        return;
-    }
-    run(fd, &path[..n]);
-    libc::close(fd);
-}
-
 // The command: audits the file that its one argument names, or standard input.
 pub fn start() {
-    let words = os::arg_count();
-    if words < 2 {
-        run(STDIN_FILENO, b"standard input");
+    let mut path = io::buffer();
+    let source = source::open(&mut path, b"usage: h5audit [FILE]\n");
+    let fd = source.fd;
+    if fd < 0 {
         return;
     }
-    if 2 < words {
-        io::write_all(STDERR_FILENO, b"usage: h5audit [FILE]\n");
-        return;
-    }
-    run_file();
+    let named = source.named;
+    run(fd, &path[..named]);
+    libc::close(fd);
 }

@@ -4,61 +4,24 @@
 //! `list WORD VALUE` or `reply WORD VALUE` for each word that isn't zero. `h_lookup_*_c.txt` and `h_describe_*_c.txt` are
 //! the same of lookups and descriptions in H, `c_describe_d_c.txt` of one in C.
 
+mod command;
+
+use command::{
+    assert_message, assert_stored, built, folder, package, root, run, run_with_input,
+    run_with_name, stored,
+};
 use compare::generate::small::{self, DATASET, ROOT};
 use compare::library;
 use compare::reader::front::{BLOCK_BYTES, DESCRIBE_WORDS, LOOKUP_WORDS, REPLY_WORDS};
 use std::collections::BTreeSet;
-use std::ffi::OsStr;
 use std::fs;
-use std::io::{ErrorKind, Write};
-use std::path::{Path, PathBuf};
-use std::process::{Command, Output, Stdio};
+use std::path::PathBuf;
+use std::process::{Command, Output};
 use std::thread;
 use std::time::Duration;
 
-fn package() -> &'static Path {
-    Path::new(env!("CARGO_MANIFEST_DIR"))
-}
-
-fn root() -> PathBuf {
-    let root = package().join("../..");
-    fs::canonicalize(root).expect("the repository's root")
-}
-
 fn program() -> PathBuf {
-    let program = root().join("target/bin/h5audit");
-    assert!(
-        program.exists(),
-        "{} is missing: run `rt check h5audit` in the repository's root first",
-        program.display()
-    );
-    program
-}
-
-/// A folder of a test's own, without what an earlier run left in it.
-fn folder(test: &str) -> PathBuf {
-    let folder = Path::new(env!("CARGO_TARGET_TMPDIR"))
-        .join("small_run")
-        .join(test);
-    if folder.exists() {
-        fs::remove_dir_all(&folder).expect("the folder of an earlier run");
-    }
-    fs::create_dir_all(&folder).expect("a new folder");
-    folder
-}
-
-fn stored(name: &str) -> String {
-    let path = package().join("expected").join(name).with_extension("txt");
-    fs::read_to_string(&path).unwrap_or_else(|error| panic!("{}: {error}", path.display()))
-}
-
-/// Names the first line that differs: some texts have hundreds.
-fn assert_stored(text: &str, name: &str) {
-    let stored = stored(name);
-    for (number, (line, expected)) in text.lines().zip(stored.lines()).enumerate() {
-        assert_eq!(line, expected, "{name}, line {}", number + 1);
-    }
-    assert!(text == stored, "{name}: {text:?} and {stored:?}");
+    built("h5audit")
 }
 
 const A_AND_B: [(&[u8], u64); 2] = [(b"a", DATASET), (b"b", DATASET)];
@@ -105,52 +68,12 @@ fn files() -> Vec<(&'static str, Vec<u8>)> {
     ]
 }
 
-/// Runs a command to its end. Its output is shorter than what a pipe holds, so it is read after the input is written.
-fn run<'a>(command: &mut Command, input: impl Iterator<Item = &'a [u8]>) -> Output {
-    let mut child = command
-        .stdin(Stdio::piped())
-        .stdout(Stdio::piped())
-        .stderr(Stdio::piped())
-        .spawn()
-        .expect("a command that starts");
-    let mut stdin = child.stdin.take().expect("a pipe");
-    for part in input {
-        match stdin.write_all(part) {
-            // The command reads no more than it answers for.
-            Err(error) if error.kind() == ErrorKind::BrokenPipe => break,
-            result => result.expect("an input that is taken"),
-        }
-    }
-    drop(stdin);
-    child.wait_with_output().expect("a command that ends")
-}
-
-fn run_with_name(program: &Path, folder: &Path, name: impl AsRef<OsStr>) -> Output {
-    let mut command = Command::new(program);
-    run(
-        command.current_dir(folder).arg(name),
-        std::iter::empty::<&[u8]>(),
-    )
-}
-
-fn run_with_input(program: &Path, image: &[u8]) -> Output {
-    run(&mut Command::new(program), [image].into_iter())
-}
-
 /// An audit's text on standard output, nothing else, and status 0.
 fn assert_audit(output: &Output, name: &str) {
     let text = String::from_utf8_lossy(&output.stdout);
     assert_stored(&text, name);
     assert_eq!(String::from_utf8_lossy(&output.stderr), "", "{name}");
     assert_eq!(output.status.code(), Some(0), "{name}");
-}
-
-/// Nothing on standard output and a message that has this in it.
-fn assert_message(output: &Output, part: &str) {
-    assert_eq!(String::from_utf8_lossy(&output.stdout), "");
-    let message = String::from_utf8_lossy(&output.stderr);
-    assert!(message.contains(part), "{part:?} is not in {message:?}");
-    assert!(output.status.code().is_some(), "{}", output.status);
 }
 
 #[test]
@@ -324,7 +247,9 @@ fn several_first_calls_build_once() {
     fs::create_dir_all(folder.join("crates")).expect("a new folder");
     fs::create_dir_all(folder.join("tools")).expect("a new folder");
     fs::write(folder.join("crates.txt"), "").expect("a file");
-    fs::copy(root().join("h5audit"), folder.join("h5audit")).expect("a copy");
+    for name in ["h5audit", "ebikwotula-command.sh"] {
+        fs::copy(root().join(name), folder.join(name)).expect("a copy");
+    }
     let rt = format!(
         "#!/bin/sh\necho built >> built\nsleep 1\nmkdir -p target/bin\ncp {} target/bin/h5audit\n",
         program().display()
@@ -490,6 +415,8 @@ fn every_text_is_used() {
         .expect("the folder of texts")
         .map(|entry| entry.expect("a text").file_name())
         .map(|name| name.to_string_lossy().into_owned())
+        // Those of the other command are in another test.
+        .filter(|name| !name.starts_with("h5report_"))
         .collect();
     texts.sort();
     assert_eq!(texts, used);
