@@ -45,7 +45,8 @@ holding-only o (b ∷ bs) x (suc k) l h only =
     go false e rest = rest
 
 -- no byte has two owners, so that the block named is the one that holds the byte
-pub holding-is : (bs : List Block) (x k : ℕ) → OneOwner bs → k < length bs → HoldsByte (getD bs k (block 0 0)) x → holding noObject bs x ≡ listedAt noObject bs k
+pub holding-is : (bs : List Block) (x k : ℕ) → OneOwner bs → k < length bs → HoldsByte (getD bs k (block 0 0)) x →
+    holding noObject bs x ≡ listedAt noObject bs k
 holding-is bs x k one l h = holding-only noObject bs x k l h (λ j q. one j k x q h)
 
 -- the four words of the k-th block

@@ -42,7 +42,8 @@ module _ (im : List ℕ) (lent n kind a size met : ℕ) (bs : List Block) where
       let counted : k < length bs = omega (arith, count) in
       let before : (j : ℕ) → j < k → getD bs j (block 0 0) ≡ getD (f .before) j (block 0 0) =
       λ j l. ap (λ (q : List Block). getD q j (block 0 0)) (f .all) ∙ List·getD-append (f .before) (f .block ∷ f .after) (block 0 0) j l in
-      let none : (j : ℕ) → j < k → overlaps (getD bs j (block 0 0)) a size ≡ false = λ j l. rw (before j l, at, long) (apart-at (f .before) _ _ j (f .first) l) in
+      let none : (j : ℕ) → j < k → overlaps (getD bs j (block 0 0)) a size ≡ false =
+      λ j l. rw (before j l, at, long) (apart-at (f .before) _ _ j (f .first) l) in
       record {
         number = k;
         counted = counted;

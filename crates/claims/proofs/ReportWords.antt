@@ -94,7 +94,8 @@ unfolding blocksMost
 count-small lent n h = omega (arith, h, room-most lent)
 
 -- the block met is one of the list, or 0
-met-word : (im : List ℕ) (lent n kind a size met : ℕ) (bs : List Block) → GivesMet (NotEntered n kind a size met) bs → IsWords (blockList lent bs) → met < 2 ^ 64
+met-word : (im : List ℕ) (lent n kind a size met : ℕ) (bs : List Block) → GivesMet (NotEntered n kind a size met) bs → IsWords (blockList lent bs) →
+    met < 2 ^ 64
 met-word im lent n kind a size met bs g words = go (eqb n 6) refl
   where
     go : (t : Bool) → eqb n 6 ≡ t → met < 2 ^ 64

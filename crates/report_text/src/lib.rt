@@ -1,15 +1,13 @@
 // The text of a damage report, for a person to read. It is tested and not proved: the functions here are proved to be safe and to end.
-mod refused;
 mod sound;
-mod words;
 
 ghost use Rattle.io.specs.Counts.{Counts};
 use format::COMMAND_BLOCKS;
 use format::OBJECTS_MOST;
 use format::answers;
-use refused::Damage;
-use refused::put_refusal;
-use refused::put_refused;
+use refused_text::Damage;
+use refused_text::put_refusal;
+use refused_text::put_refused;
 use sound::put_sound;
 
 // The most bytes of a sound file's first line, and of an object's line. A refused file has at most 9 lines, which are fewer bytes.

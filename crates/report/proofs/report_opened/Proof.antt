@@ -79,7 +79,9 @@ fill-undefined-requires : tie.Need-fill-undefined-requires
 fill-undefined-requires c κs = search needs
 
 walk-image-requires : tie.Need-walk-image-requires
-walk-image-requires c κs = let s = c .before .before .before .before .before .before .before .before .before .before .before .before in (s .pre .0, lists-table _ _ _ (s .pre .1))
+walk-image-requires c κs =
+    let s = c .before .before .before .before .before .before .before .before .before .before .before .before in
+    (s .pre .0, lists-table _ _ _ (s .pre .1))
 
 enum-known-x : tie.Need-enum-known-x
 enum-known-x c = search needs

@@ -55,7 +55,8 @@ returns c =
     let start = at-holds .before .before .before .before .before .before in
     let a = start .args in
     c .listed .ensures
-    ∙ found-here (a .count) (l .i) (now (a .list)) (a .place) _ (start .pre .1) (omega arith) (l .inv .1) (sym (c .before .if1 .taken) ∙ at-holds .holds-byte .ensures)
+    ∙ found-here (a .count) (l .i) (now (a .list)) (a .place) _ (start .pre .1) (omega arith) (l .inv .1)
+    (sym (c .before .if1 .taken) ∙ at-holds .holds-byte .ensures)
 
 add-i : tie.Need-add-i Inv-loop μ-loop
 add-i c = search needs

@@ -23,7 +23,8 @@ room-requires c κs = search needs
 
 loop-holds : tie.Need-loop-holds Inv-loop μ-loop
 loop-holds c =
-    let room : 4 * c .room .result ≤ length (now (c .before .before .args .list)) = rw (c .room .ensures) (lent-none (now (c .before .before .args .list)) .lent) in
+    let list = now (c .before .before .args .list) in
+    let room : 4 * c .room .result ≤ length list = rw (c .room .ensures) (lent-none list .lent) in
     (room, omega arith, λ k h. absurd (omega arith))
 
 mul-if1 : tie.Need-mul-if1 Inv-loop μ-loop

@@ -1,6 +1,6 @@
 // The lines of a file that the audit refuses.
-use crate::words::put_answer;
-use crate::words::put_kind;
+use answer_text::put_answer;
+use answer_text::put_kind;
 use damaged_block::block::ListedBlock;
 use format::answers;
 use text_line::dump::put_rows;
