@@ -1,11 +1,10 @@
 -- The block that holds a byte, by its place in the list.
 use Prim.Native.Nat.{ℕ, zero, suc, _+_, _*_, _<_}
-use mathlib.Core.Bool.{Bool, true, false, _&&_}
+use mathlib.Core.Bool.{Bool, true, false}
 use mathlib.Core.List.{List, [], _∷_}
 use mathlib.Core.Path.{_≡_, refl}
 use native.Mathlib.Omega.{arith}
-use borrow.Author.Tests.{le-leb, lt-ltb, leb-true, ltb-true}
-use lib.Dec.{leb, ltb}
+use borrow.Author.Tests.{le-leb, lt-ltb}
 use lib.ListN.{length, getD, take}
 use Rattle.format.specs.Bytes.{if_then_else_}
 use Rattle.format.specs.Blocks.{Block, block, noObject, ownerAfter, lastOwner, overlaps, blockList}
@@ -13,19 +12,11 @@ use Rattle.format.specs.Report.{ListedBlock, listedBlock, holdsByte, holding}
 use Rattle.links.specs.Owners.{HoldsByte, OneOwner}
 use Rattle.links.specs.Fours.{Four, numberAt}
 use Rattle.links.proofs.BlockWords.{list-holds}
+use Rattle.links.proofs.StoppedDamaged.{holds-true}
 
 held-test : (b : Block) (x : ℕ) → HoldsByte b x → holdsByte b x ≡ true
 unfolding holdsByte
 held-test b x h = simp (le-leb (b .at) x (h .0), lt-ltb x (b .at + b .size) (h .1))
-
-test-held : (b : Block) (x : ℕ) → holdsByte b x ≡ true → HoldsByte b x
-unfolding holdsByte
-test-held b x = go (leb (b .at) x) (ltb x (b .at + b .size)) refl refl
-  where
-    go : (t u : Bool) → leb (b .at) x ≡ t → ltb x (b .at + b .size) ≡ u → (t && u) ≡ true → HoldsByte b x
-    go true true p q e = (leb-true _ _ p, ltb-true _ _ q)
-    go true false p q e = let z : _≡_ {A = ℕ} 0 1 = cc in absurd (omega arith)
-    go false u p q e = let z : _≡_ {A = ℕ} 0 1 = cc in absurd (omega arith)
 
 -- the k-th block as the list has it, where o is the number of the block before them
 abbrev pub listedAt : ℕ → List Block → ℕ → ListedBlock
@@ -41,7 +32,7 @@ holding-only o (b ∷ bs) x (suc k) l h only =
   where
     go : (t : Bool) → holdsByte b x ≡ t → holding (ownerAfter o (b .kind)) bs x ≡ listedAt (ownerAfter o (b .kind)) bs k →
         (if t then listedBlock (b .at) (b .size) (b .kind) (ownerAfter o (b .kind)) else holding (ownerAfter o (b .kind)) bs x) ≡ listedAt o (b ∷ bs) (suc k)
-    go true e rest = absurd (omega (arith, only 0 (test-held b x e)))
+    go true e rest = absurd (omega (arith, only 0 (holds-true b x e)))
     go false e rest = rest
 
 -- no byte has two owners, so that the block named is the one that holds the byte

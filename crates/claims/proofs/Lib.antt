@@ -23,6 +23,7 @@ pub mod ReportEnds
 pub mod ReportFaults
 pub mod ReportEntries
 pub mod ReportSame
+pub mod ReportObjects
 pub mod ReportWords
 pub mod Reports
 pub mod Demand3Due

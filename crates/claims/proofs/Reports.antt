@@ -17,6 +17,7 @@ use Rattle.claims.proofs.ReportEnds.{outcome, report-opened, report-uno
 use Rattle.claims.proofs.ReportFaults.{faults, unopened-named}
 use Rattle.claims.proofs.ReportEntries.{entries}
 use Rattle.claims.proofs.ReportSame.{agree}
+use Rattle.claims.proofs.ReportObjects.{objects}
 use Rattle.claims.proofs.ReportWords.{c-lists, c-words}
 
 -- 1 is the answer to an image's length alone
@@ -51,6 +52,7 @@ all-reports = record {
   faults = faults;
   unopened = unopened-named;
   entries = entries;
+  objects = objects;
   agree = agree;
   cNumbers = λ im l r h. rw (le-leb 8 (r / 8) h);
   cShort = λ im l r h. rw (lt-leb 8 (r / 8) h);

@@ -7,12 +7,16 @@ use mathlib.Core.Logic.{_⊎_}
 use mathlib.Core.Path.{_≡_}
 use lib.ListN.{length, getD}
 use Rattle.format.specs.Bytes.{toWords, padded}
-use Rattle.format.specs.Blocks.{block, overlaps, roomOf, blockList}
+use Rattle.format.specs.Blocks.{Block, block, noObject, overlaps, roomOf, blockList}
+use Rattle.format.specs.declared.Refusal.{Refusal}
+use Rattle.format.specs.Walk.{refused, run}
 use Rattle.format.specs.Superblock.{Superblock, opened, notOpened, openImage}
 use Rattle.format.specs.Audit.{Counted, auditWalk}
 use Rattle.format.specs.Answers.{audit}
 use Rattle.format.specs.Report.{ListedBlock, noBlock, unopenedBlock, ReportReply, report, reportWords, cReport}
 use Rattle.laws.specs.Shown.{shownBy, AllSame}
+use Rattle.links.specs.Fours.{ListHolds}
+use Rattle.links.specs.Stopped.{StoppedSuperblock, StoppedObject}
 use Rattle.demand.specs.Bytes.{IsBytes}
 use Rattle.claims.specs.Zeros.{cZeros}
 
@@ -75,6 +79,18 @@ pub record EntryNamed (s : Superblock) (lent : ℕ) (r : ReportReply) : Type 0 w
   pub full : r .answer ≡ 13 → r .blockCount ≡ roomOf lent
   pub apart : r .answer ≡ 13 → (k : ℕ) → k < r .blockCount → FourApart (r .list) k (r .block)
 
+-- whose block is named, of a report whose answer isn't 0
+pub record ObjectNamed (im : List ℕ) (lent : ℕ) (s : Superblock) : Type 0 where
+  -- the refusal of the audit's walk and the blocks before it, which the list holds
+  pub refusal : Refusal
+  pub blocks : List Block
+  pub walked : run im (s .endOfFile) (roomOf lent) (auditWalk s) [] ≡ refused refusal blocks
+  pub count : report im lent .blockCount ≡ length blocks
+  pub list : ListHolds blocks (report im lent .list)
+  -- the superblock can't be entered, and has no object; or the walk of an object is refused, and the block named has its number
+  pub object : (StoppedSuperblock s refusal blocks × (report im lent .block .object ≡ noObject)) ⊎
+      ((w : StoppedObject im (roomOf lent) s refusal blocks) × (report im lent .block .object ≡ w .number))
+
 -- the answers to a fault in a block: none of 0, 1, 5, 6 and 13
 abbrev pub InSomeBlock : ℕ → Type 0
 InSomeBlock n = (n ≡ 0 → ⊥) × (n ≡ 1 → ⊥) × (n ≡ 5 → ⊥) × (n ≡ 6 → ⊥) × (n ≡ 13 → ⊥)
@@ -131,6 +147,7 @@ pub record Reports : Type 0 where
   pub unopened : (im : List ℕ) (lent n : ℕ) → openImage im ≡ notOpened n → InSomeBlock n → SuperblockNamed im n (report im lent)
   pub entries : (im : List ℕ) (lent : ℕ) (s : Superblock) → openImage im ≡ opened s → AtEntry (report im lent .answer) →
       EntryNamed s lent (report im lent)
+  pub objects : (im : List ℕ) (lent : ℕ) (s : Superblock) → openImage im ≡ opened s → (audit im lent .number ≡ 0 → ⊥) → ObjectNamed im lent s
   pub agree : (im im′ : List ℕ) (lent : ℕ) → ShowSame im im′ lent → withoutStored (report im lent) ≡ withoutStored (report im′ lent)
   -- in C: always made where the reply has its eight words, else 13 and zeros
   pub cNumbers : (im : List ℕ) (l r : ℕ) → 8 ≤ r / 8 → cReport im l r .number ≡ 0

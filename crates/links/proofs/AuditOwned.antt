@@ -37,7 +37,7 @@ superblock-entered im eof room s x cs e =
     sym same
 
 -- as many objects as there can be have numbers below all ones
-most-objects : (n : ℕ) → n ≤ objectsMost → n ≤ noObject
+pub most-objects : (n : ℕ) → n ≤ objectsMost → n ≤ noObject
 unfolding objectsMost undefinedAddress
 most-objects n h = omega arith
 

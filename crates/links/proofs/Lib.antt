@@ -48,3 +48,9 @@ pub mod PlacedNode
 pub mod PlacedGroup
 pub mod PlacedDataset
 pub mod PlacedAudit
+pub mod StoppedWalk
+pub mod StoppedRun
+pub mod StoppedOwners
+pub mod StoppedParts
+pub mod StoppedAudit
+pub mod StoppedDamaged

@@ -36,7 +36,8 @@ module _ (im : List ℕ) (room : ℕ) (s : Superblock) where
   ObjectEnters i at bs = WalkEnters im room s i at bs × ObjectBlocks at bs
 
   -- the object whose turn it is, behind the blocks bs
-  taken-enters : (i : ℕ) (f g : Found) (bs cs : List Block) (o : Linked) (rest : List Linked) → Fits f → length bs ≤ room → drop i (f .objects) ≡ o ∷ rest →
+  pub taken-enters : (i : ℕ) (f g : Found) (bs cs : List Block) (o : Linked) (rest : List Linked) → Fits f → length bs ≤ room →
+      drop i (f .objects) ≡ o ∷ rest →
       run im eof room (objectWalk s i (o .address) f) bs ≡ done g cs →
       (cs ≡ bs ++ blocks (plan im eof (objectWalk s i (o .address) f))) × ObjectEnters i (o .address) (blocks (plan im eof (objectWalk s i (o .address) f)))
   taken-enters i f g bs cs o rest h l d e =

@@ -27,7 +27,7 @@ abbrev pub Inner : ℕ → Type 0
 Inner v = (eqb v superblockKind ≡ false) × (eqb v headerKind ≡ false)
 
 -- the length of a header's block
-abbrev headerLength : Length
+abbrev pub headerLength : Length
 headerLength = stored 16 (λ p. u32 p 8)
 
 -- the walk enters the header at this address first, and behind it only blocks of a kind of which K holds

@@ -23,7 +23,7 @@ unfolding ownerAfter
 owner-inner o v h = rw (h .0, h .1)
 
 -- a header is of the next object
-owner-header : (i : ℕ) → i < noObject → ownerAfter (numberBefore i) headerKind ≡ i
+pub owner-header : (i : ℕ) → i < noObject → ownerAfter (numberBefore i) headerKind ≡ i
 unfolding ownerAfter
 owner-header zero h = rw (eq-eqb noObject noObject refl)
 owner-header (suc i) h = let other : eqb i noObject ≡ false = ne-eqb i noObject (λ e. omega (arith, e, h)) in rw other (add-one i)

@@ -24,9 +24,9 @@ Not13 n = n ≡ 13 → ⊥
 pub not-13 : (n : ℕ) → eqb n 13 ≡ false → Not13 n
 not-13 n e = eqb-false n 13 e
 
--- the place of a fault is held by the blocks entered; with the number 13 these are more than any room. No walk refuses a block by itself
+-- the place of a fault is held by the blocks entered, or its number is 13 and these are more than any room. No walk refuses a block by itself
 abbrev pub Met : List Block → Refusal → Type 0
-Met bs (Fault n at) = HeldBy bs at × (n ≡ 13 → blocksMost < length bs)
+Met bs (Fault n at) = (Not13 n → HeldBy bs at) × (n ≡ 13 → blocksMost < length bs)
 Met bs (NotEntered n kind a size met) = ⊥
 
 -- a block of m bytes can have the length l
@@ -60,9 +60,14 @@ module _ {A : Type 0} (P : List Block → A → Type 0) (bs : List Block) where
   unfolding Placed
   placed-ret a h = h
 
-  pub placed-refuse : (n at : ℕ) → HeldBy bs at → (n ≡ 13 → blocksMost < length bs) → Placed P bs (refuse (fault n at))
+  pub placed-refuse : (n at : ℕ) → eqb n 13 ≡ false → HeldBy bs at → Placed P bs (refuse (fault n at))
   unfolding Placed
-  placed-refuse n at h m = (h, m)
+  placed-refuse n at m h = ((λ _. h), λ e. absurd (not-13 n m e))
+
+  -- more blocks than any room
+  pub placed-full : (at : ℕ) → blocksMost < length bs → Placed P bs (refuse (fault 13 at))
+  unfolding Placed
+  placed-full at l = ((λ m. absurd (m refl)), λ _. l)
 
   -- a block, and what follows
   pub placed-enter : (v : Kind) (a : ℕ) (l : Length) (k : List ℕ → Walk A) →
@@ -81,7 +86,7 @@ module _ {A : Type 0} (P : List Block → A → Type 0) (bs : List Block) where
       Placed P bs (check t (fault n at) >>= λ _. w)
   unfolding Placed _>>=_
   placed-check true n at w m h c = c refl
-  placed-check false n at w m h c = (h, λ e. absurd (not-13 n m e))
+  placed-check false n at w m h c = ((λ _. h), λ e. absurd (not-13 n m e))
 
   pub placed-if : (t : Bool) (x y : Walk A) → (t ≡ true → Placed P bs x) → (t ≡ false → Placed P bs y) → Placed P bs (if t then x else y)
   placed-if true x y h k = h refl
@@ -92,4 +97,4 @@ module _ {A : Type 0} (P : List Block → A → Type 0) (bs : List Block) where
       ((b : B) → r ≡ value b → Placed P bs (f b)) → Placed P bs (located at r >>= f)
   unfolding Placed _>>=_ Answered
   placed-located at (value b) f m h c = c b refl
-  placed-located at (answer n) f m h c = (h, λ e. absurd (m e))
+  placed-located at (answer n) f m h c = ((λ _. h), λ e. absurd (m e))

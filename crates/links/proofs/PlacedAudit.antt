@@ -20,10 +20,11 @@ use Rattle.walk.proofs.BlockList.{room-most}
 use Rattle.laws.proofs.Growth.{run-grown}
 use Rattle.links.specs.Placed.{HeldBy}
 use Rattle.links.proofs.NumberedSharing.{discover-answered, sharing-answered, known-answered}
-use Rattle.links.proofs.Opened.{opened-end, opened-size}
+use Rattle.links.proofs.Opened.{opened-end}
 use Rattle.links.proofs.RefusedFault.{refused-fault}
 use Rattle.links.proofs.Placed.{Not13, not-13, Placed, Whatever, placed-bind, placed-ret, placed-block, placed-located}
-use Rattle.links.proofs.PlacedRun.{Stopped, fault-placed}
+use Rattle.links.proofs.KindsEntered.{enters-known}
+use Rattle.links.proofs.PlacedRun.{Stopped, stopped-held, fault-placed}
 use Rattle.links.proofs.PlacedHeader.{ObjectHeld, HeadedEnd, header-placed}
 use Rattle.links.proofs.PlacedGroup.{group-placed}
 use Rattle.links.proofs.PlacedDataset.{dataset-placed}
@@ -47,32 +48,32 @@ content-placed bs s (group tree heap) f h =
 content-placed bs s (dataset space type layout) f h = dataset-placed bs space type layout f (h .0) (h .1) (h .2)
 content-placed bs s committed f h = placed-ret _ bs f tt
 
-object-placed : (bs : List Block) (s : Superblock) (i at : ℕ) (f : Found) → HeldBy bs 0 → Placed Whatever bs (objectWalk s i at f)
+pub object-placed : (bs : List Block) (s : Superblock) (i at : ℕ) (f : Found) → Placed Whatever bs (objectWalk s i at f)
 unfolding objectWalk
-object-placed bs s i at f z =
-    placed-bind (HeadedEnd at) _ bs _ _ (header-placed discoverSharing (sharing-answered Not13 three ten twelve) bs at f z) λ cs h _ p.
+object-placed bs s i at f =
+    placed-bind (HeadedEnd at) _ bs _ _ (header-placed discoverSharing (sharing-answered Not13 three ten twelve) bs at f) λ cs h _ p.
     placed-located _ cs at (known i (h .object) (h .found)) _ (known-answered Not13 three ten twelve i (h .object) (h .found)) (p .0) λ g _.
     content-placed cs s (h .object) g (p .1)
 
-objects-placed : (s : Superblock) (fuel i : ℕ) (f : Found) (bs : List Block) → HeldBy bs 0 → Placed Whatever bs (objectsWalk s fuel i f)
+objects-placed : (s : Superblock) (fuel i : ℕ) (f : Found) (bs : List Block) → Placed Whatever bs (objectsWalk s fuel i f)
 unfolding objectsWalk
-objects-placed s zero i f bs z = placed-ret _ bs f tt
-objects-placed s (suc fuel) i f bs z = go (drop i (f .objects)) (objects-placed s fuel (i + 1))
+objects-placed s zero i f bs = placed-ret _ bs f tt
+objects-placed s (suc fuel) i f bs = go (drop i (f .objects)) (objects-placed s fuel (i + 1))
   where
-    go : (later : List Linked) → ((g : Found) (cs : List Block) → HeldBy cs 0 → Placed Whatever cs (objectsWalk s fuel (i + 1) g)) →
+    go : (later : List Linked) → ((g : Found) (cs : List Block) → Placed Whatever cs (objectsWalk s fuel (i + 1) g)) →
         Placed Whatever bs (withFirst later (ret f) (λ o. objectWalk s i (o .address) f >>= λ g. objectsWalk s fuel (i + 1) g))
     go [] rest = placed-ret _ bs f tt
-    go (o ∷ later) rest = placed-bind Whatever _ bs _ _ (object-placed bs s i (o .address) f z) λ cs g k _. rest g cs (k .held 0 z)
+    go (o ∷ later) rest = placed-bind Whatever _ bs _ _ (object-placed bs s i (o .address) f) λ cs g _ _. rest g cs
 
-superblock-placed : (s : Superblock) → 1 ≤ s .size → Placed (λ bs _. HeldBy bs 0) [] (superblockWalk s)
+superblock-placed : (s : Superblock) → Placed Whatever [] (superblockWalk s)
 unfolding superblockWalk
-superblock-placed s l = placed-block _ [] superblockBlock 0 (s .size) _ λ b bs _ more. placed-ret _ bs tt (more .held 0 (omega arith) (omega (arith, l)))
+superblock-placed s = placed-block _ [] superblockBlock 0 (s .size) _ λ b bs _ _. placed-ret _ bs tt tt
 
-walk-placed : (s : Superblock) → 1 ≤ s .size → Placed Whatever [] (auditWalk s)
+walk-placed : (s : Superblock) → Placed Whatever [] (auditWalk s)
 unfolding auditWalk
-walk-placed s l =
-    placed-bind (λ bs _. HeldBy bs 0) _ [] _ _ (superblock-placed s l) λ bs _ _ z.
-    placed-bind Whatever _ bs _ _ (objects-placed s objectsMost 0 (rootFound s) bs z) λ cs f _ _.
+walk-placed s =
+    placed-bind Whatever _ [] _ _ (superblock-placed s) λ bs _ _ _.
+    placed-bind Whatever _ bs _ _ (objects-placed s objectsMost 0 (rootFound s) bs) λ cs f _ _.
     placed-ret _ cs _ tt
 
 -- an audit that is refused
@@ -80,8 +81,13 @@ module _ (im : List ℕ) (lent : ℕ) (s : Superblock) (p : openImage im ≡ ope
   pub audit-stopped : (r : Refusal) (bs : List Block) → run im (s .endOfFile) (roomOf lent) (auditWalk s) [] ≡ refused r bs →
       Stopped (s .endOfFile) (roomOf lent) bs r
   audit-stopped r bs e =
-      fault-placed im (s .endOfFile) (roomOf lent) (opened-end im s p) Whatever
-      (refused-fault im (s .endOfFile) (roomOf lent) (auditWalk s) [] r bs e) (walk-placed s (omega (arith, opened-size im s p)))
+      let eof = s .endOfFile in
+      let room = roomOf lent in
+      let known : ℕ → Type 0 = λ v. v ≤ 8 in
+      let fits : length bs ≤ room = rw e at (run-grown im eof room (auditWalk s) [] (omega arith) .fits) in
+      let fault = refused-fault im eof room (auditWalk s) [] r bs e in
+      let w = fault-placed im eof room (opened-end im s p) Whatever known [] [] fault refl (enters-known (auditWalk s)) (walk-placed s) in
+      stopped-held known eof room bs r (omega (arith, fits, room-most lent)) (rw (← w .all) at (w .stopped))
 
   pub audit-placed : (n at : ℕ) (bs : List Block) → run im (s .endOfFile) (roomOf lent) (auditWalk s) [] ≡ refused (Fault n at) bs →
       HeldBy bs at × (n ≡ 13 → ⊥)

@@ -4,7 +4,7 @@ use mathlib.Core.Bool.{Bool, true, false}
 use mathlib.Core.List.{List, [], _∷_, _++_}
 use mathlib.Core.Path.{_≡_, refl}
 use native.Mathlib.Omega.{arith}
-use borrow.Author.Tests.{eqb-false}
+use borrow.Author.Tests.{eqb-true, eqb-false}
 use lib.Dec.{eqb}
 use lib.ListN.{length, drop, length-drop}
 use Rattle.format.specs.Bytes.{if_then_else_, withFirst, u16}
@@ -43,14 +43,15 @@ heads-type bs t (m ∷ ms) h = go (eqb (m .type) t) (heads-type bs t ms (h .1))
     go true rest = (h .0, rest)
     go false rest = rest
 
--- the first message of a type; where there is none, the place is the image's first byte
-pub heads-of : (bs : List Block) (ms : List Message) → HeldBy bs 0 → HeadsHeld bs ms → (t : ℕ) → HeldBy bs (headAt (theMessage t ms))
+-- the message of a type, where there is one
+pub heads-of : (bs : List Block) (ms : List Message) → HeadsHeld bs ms → (t : ℕ) → eqb (length (ofType t ms)) 1 ≡ true → HeldBy bs (headAt (theMessage t ms))
 unfolding theMessage
-heads-of bs ms z h t = go (ofType t ms) (heads-type bs t ms h)
+heads-of bs ms h t e = go (ofType t ms) (eqb-true (length (ofType t ms)) 1 e) (heads-type bs t ms h)
   where
-    go : (ns : List Message) → HeadsHeld bs ns → HeldBy bs (headAt (withFirst ns (record { type = t; flags = 0; body = []; place = 0 }) (λ m. m)))
-    go [] k = z
-    go (n ∷ ns) k = k .0
+    go : (ns : List Message) → length ns ≡ 1 → HeadsHeld bs ns →
+        HeldBy bs (headAt (withFirst ns (record { type = t; flags = 0; body = []; place = 0 }) (λ m. m)))
+    go [] l k = absurd (omega (arith, l))
+    go (n ∷ ns) l k = k .0
 
 -- a message begins where its bytes do
 message-gives : (place : ℕ) (m : List ℕ) → Gives (λ here. headAt here ≡ place) (readMessage place m)

@@ -13,7 +13,7 @@ use Rattle.format.specs.Ledger.{Linked}
 use Rattle.format.specs.Audit.{auditWalk, auditRun}
 use Rattle.links.specs.Fault.{Fault, here, atEntry, later, AuditFault}
 
-entered-refused : {A : Type 0} (g : ℕ) (f : ℕ → Refusal) (o : Outcome A) (bs : List Block) (r : Refusal) (ms : List Block) →
+pub entered-refused : {A : Type 0} (g : ℕ) (f : ℕ → Refusal) (o : Outcome A) (bs : List Block) (r : Refusal) (ms : List Block) →
     ifEntered g o (λ m. refused (f m) bs) ≡ refused r ms →
     ((f g ≡ r) × (g ≡ 0 → ⊥) × (bs ≡ ms)) ⊎ ((g ≡ 0) × (o ≡ refused r ms))
 entered-refused zero f o bs r ms e = inr (refl, e)

@@ -6,3 +6,4 @@ pub mod FirstMet
 pub mod Owners
 pub mod Fours
 pub mod Placed
+pub mod Stopped
