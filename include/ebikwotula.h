@@ -24,9 +24,9 @@
 extern "C" {
 #endif
 
-/* The version of this header. It is raised with every change of a word, an answer or a limit, and not with a new call;
- * ebikwotula_version gives that of the library. */
-#define EBIKWOTULA_VERSION 3
+/* The version of this header. It is raised with every change of a word, an answer, a limit or the stack, and not with a new
+ * call; ebikwotula_version gives that of the library. */
+#define EBIKWOTULA_VERSION 4
 
 /* The limits: the length of an image, in bytes; the objects that are counted; the blocks that one walk enters; the length of
  * a path and of a component, in bytes; the dimensions of a dataset. */
@@ -58,12 +58,12 @@ extern "C" {
 #define EBIKWOTULA_LOG_BYTES 4096
 
 /* The stack that a call takes in all, in bytes, as measured and rounded up. */
-#define EBIKWOTULA_AUDIT_STACK_BYTES 49152
-#define EBIKWOTULA_LOOKUP_STACK_BYTES 49152
-#define EBIKWOTULA_DESCRIBE_STACK_BYTES 49152
-#define EBIKWOTULA_MEND_STACK_BYTES 57344
+#define EBIKWOTULA_AUDIT_STACK_BYTES 57344
+#define EBIKWOTULA_LOOKUP_STACK_BYTES 57344
+#define EBIKWOTULA_DESCRIBE_STACK_BYTES 57344
+#define EBIKWOTULA_MEND_STACK_BYTES 65536
 #define EBIKWOTULA_UNDO_STACK_BYTES 4096
-#define EBIKWOTULA_REPORT_STACK_BYTES 49152
+#define EBIKWOTULA_REPORT_STACK_BYTES 57344
 
 /* The answers. 12 is given by audit and mending alone, 14 to 17 by lookup and description alone, 18 by mending and undo
  * alone, 19 by undo alone, and 20 by description alone. A report returns 0 or 13; it has the audit's answer as a word. */

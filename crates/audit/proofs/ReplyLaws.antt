@@ -1,10 +1,11 @@
 -- From the walk of an image to the reply.
-use Prim.Native.Nat.{ℕ, zero, suc, _-_, _*_, _≤_, _<_}
-use mathlib.Core.List.{List, [], _∷_, _++_}
-use mathlib.Core.Path.{_≡_, refl, _∙_}
+use Prim.Native.Nat.{ℕ, zero, suc, _≤_, _<_}
+use mathlib.Core.List.{List, [], _∷_}
+use mathlib.Core.Path.{_≡_, refl, ap, _∙_}
 use native.Mathlib.Omega.{arith}
-use lib.ListN.{length, getD, take, drop, replicate, length-replicate}
+use lib.ListN.{length, getD, drop, replicate, length-replicate}
 use Rattle.format.specs.Limits.{objectsMost}
+use Rattle.format.specs.Bytes.{padded}
 use Rattle.format.specs.Blocks.{Block, roomOf, blockList}
 use Rattle.format.specs.declared.Refusal.{Refusal}
 use Rattle.format.specs.Walk.{fault, done, refused, run}
@@ -13,8 +14,8 @@ use Rattle.format.specs.Superblock.{opened, notOpened, openImage}
 use Rattle.format.specs.Ledger.{Linked}
 use Rattle.format.specs.Audit.{auditWalk, auditRun}
 use Rattle.format.specs.Answers.{audit}
-use Rattle.walk.specs.Lent.{blocksOf}
-use Rattle.walk.proofs.BlockList.{list-cleared, length-blocksOf}
+use Rattle.walk.specs.Lent.{blocksOf, placesOf, handed}
+use Rattle.walk.proofs.BlockList.{length-blocksOf}
 use Rattle.laws.proofs.Simulation.{walked-done, walked-refused}
 use Rattle.ledger.specs.Links.{addressesOf}
 use Rattle.ledger.specs.Table.{linkedOf, Table}
@@ -29,27 +30,29 @@ use Rattle.object.specs.declared.object.ObjectRead.the-variants.{Done, Stopped}
 use Rattle.links.proofs.HeadersInside.{headers-inside}
 use Rattle.audit.specs.Audit.{refusedWith, Lists, ImageWalked, AuditedIs, AuditIs}
 use Rattle.audit.specs.declared.Audited.{Audited}
+use Rattle.walk.proofs.Handed.{handed-none}
 
 -- the audit's run, by what opening the image gave
 run-not-opened : (im : List ℕ) (lent n : ℕ) → notOpened n ≡ openImage im → auditRun im lent ≡ refused (fault n 0) []
 unfolding auditRun
 run-not-opened im lent n e = rw (← e)
 
-run-opened : (im : List ℕ) (lent : ℕ) (s : definitions.Superblock) → opened s ≡ openImage im →
-    auditRun im lent ≡ run im (s .endOfFile) (roomOf lent) (auditWalk s) []
+run-opened : (im : List ℕ) (lent room : ℕ) (s : definitions.Superblock) → roomOf lent ≡ room → opened s ≡ openImage im →
+    auditRun im lent ≡ run im (s .endOfFile) room (auditWalk s) []
 unfolding auditRun
-run-opened im lent s e = rw (← e)
+run-opened im lent room s fit e = rw (← e, fit)
 
 -- of no object there is nothing to read
 none-readable : (im addresses : List ℕ) → Readable im addresses 0
 none-readable im addresses = record { listed = omega arith; inside = λ k h. absurd (omega arith) }
 
--- a refusal
-module _ (im : List ℕ) (lent : ℕ) (ws addresses stored counts : List ℕ) (zeros : ws ≡ replicate lent 0) where
-  refused-is : (r : Refusal) (bs : List Block) → auditRun im lent ≡ refused r bs → AuditedIs im lent ws addresses stored counts (refusedWith r)
+-- A refusal: whatever the working list ws has, none of it is handed over.
+module _ (im : List ℕ) (lent : ℕ) (ws addresses stored counts : List ℕ) where
+  refused-is : (r : Refusal) (bs : List Block) → auditRun im lent ≡ refused r bs →
+      AuditedIs im lent (handed lent 0 ws) addresses stored counts (refusedWith r)
   unfolding audit countedPlaces
   refused-is r bs e = record {
-    reply = rw (e, zeros);
+    reply = rw (e, handed-none lent ws);
     fits = omega arith;
     readable = none-readable im addresses;
     addressesRest = λ h. absurd (omega arith);
@@ -58,16 +61,16 @@ module _ (im : List ℕ) (lent : ℕ) (ws addresses stored counts : List ℕ) (z
   }
 
   -- the image can't be opened
-  pub not-opened-is : (n : ℕ) → notOpened n ≡ openImage im → AuditedIs im lent ws addresses stored counts (refusedWith (fault n 0))
+  pub not-opened-is : (n : ℕ) → notOpened n ≡ openImage im → AuditedIs im lent (handed lent 0 ws) addresses stored counts (refusedWith (fault n 0))
   not-opened-is n e = refused-is (fault n 0) [] (run-not-opened im lent n e)
 
 -- the walk was refused
-pub stopped-is : (im ws : List ℕ) (s : Superblock) (x : Refusal) (ws₁ addresses₁ counts₁ ws₂ addresses stored counts : List ℕ) →
-    opened (superblockOf s) ≡ openImage im → ImageWalked im ws s ws₁ addresses₁ counts₁ (Stopped x) → ws₂ ≡ replicate (length ws) 0 →
-    AuditedIs im (length ws) ws₂ addresses stored counts (refusedWith x)
-stopped-is im ws s x ws₁ addresses₁ counts₁ ws₂ addresses stored counts e w zeros =
+pub stopped-is : (im ws : List ℕ) (s : Superblock) (x : Refusal) (ws₁ addresses counts stored : List ℕ) → opened (superblockOf s) ≡ openImage im →
+    ImageWalked im ws s ws₁ addresses counts (Stopped x) → (lent : ℕ) → roomOf lent ≡ placesOf (length ws) →
+    AuditedIs im lent (handed lent 0 ws₁) addresses stored counts (refusedWith x)
+stopped-is im ws s x ws₁ addresses counts stored e w lent fit =
     let o = walked-refused ws ws₁ x _ (w .walked) in
-    refused-is im (length ws) ws₂ addresses stored counts zeros x (o .0) (run-opened im (length ws) (superblockOf s) e ∙ o .1)
+    refused-is im lent ws₁ addresses stored counts x (o .0) (run-opened im lent _ (superblockOf s) fit e ∙ o .1)
 
 getD-addresses : (n k : ℕ) (xs ts : List ℕ) → k < n → getD (addressesOf (linkedOf n xs ts)) k 0 ≡ getD xs k 0
 unfolding addressesOf linkedOf
@@ -82,12 +85,12 @@ getD-zeros (suc n) zero = refl
 getD-zeros (suc n) (suc k) = getD-zeros n k
 
 -- the walk is done
-module _ (im ws : List ℕ) (s : Superblock) (count objects : ℕ) (ws₁ addresses counts : List ℕ) (same : length ws₁ ≡ length ws)
+module _ (im ws : List ℕ) (s : Superblock) (count objects : ℕ) (ws₁ addresses counts : List ℕ)
     (w : ImageWalked im ws s ws₁ addresses counts (Done count objects)) where
   abbrev os : List Linked
   os = linkedOf objects addresses counts
 
-  pub ran : run im (s .«end_of_file») (roomOf (length ws)) (auditWalk (superblockOf s)) [] ≡ done os (blocksOf count ws₁)
+  pub ran : run im (s .«end_of_file») (placesOf (length ws)) (auditWalk (superblockOf s)) [] ≡ done os (blocksOf count ws₁)
   ran = walked-done ws ws₁ os count _ (w .walked)
 
   -- the stored counts lie inside the image
@@ -95,25 +98,25 @@ module _ (im ws : List ℕ) (s : Superblock) (count objects : ℕ) (ws₁ addres
   readable b = record {
     listed = omega (arith, w .ready .table .fits, w .ready .table .addressesLong);
     inside = λ k h.
-        let i = headers-inside im (roomOf (length ws)) (superblockOf s) os (blocksOf count ws₁) ran k (rw length-linkedOf h) in
+        let i = headers-inside im (placesOf (length ws)) (superblockOf s) os (blocksOf count ws₁) ran k (rw length-linkedOf h) in
         omega (arith, rw (getD-addresses objects k addresses counts h) at i, b .2);
   }
 
-  pub count-fits : 4 * count ≤ length ws₁
-  count-fits = omega (arith, w .ready .lent .counted, w .ready .lent .lent)
+  pub count-fits : count ≤ placesOf (length ws)
+  count-fits = w .ready .lent .counted
 
-  pub list-is : take (4 * count) ws₁ ++ replicate (length ws₁ - 4 * count) 0 ≡ blockList (length ws) (blocksOf count ws₁)
-  list-is = rw (list-cleared count (blocksOf count ws₁) ws₁ count-fits (w .ready .lent .numbered), same)
+  -- the blocks handed over, to a list of any length
+  pub list-is : (lent : ℕ) → handed lent count ws₁ ≡ blockList lent (blocksOf count ws₁)
+  list-is lent = ap (padded lent) (w .ready .lent .numbered)
 
   pub done-is : opened (superblockOf s) ≡ openImage im → Bounded im s → (stored₀ stored : List ℕ) → stored₀ ≡ replicate objectsMost 0 →
-      StoredRead im addresses objects stored₀ stored → (ws₂ : List ℕ) →
-      ws₂ ≡ take (4 * count) ws₁ ++ replicate (length ws₁ - 4 * count) 0 →
-      AuditedIs im (length ws) ws₂ addresses stored counts (record { number = 0; met = 0; «block_count» = count; objects = objects })
+      StoredRead im addresses objects stored₀ stored → (lent : ℕ) → roomOf lent ≡ placesOf (length ws) →
+      AuditedIs im lent (handed lent count ws₁) addresses stored counts (record { number = 0; met = 0; «block_count» = count; objects = objects })
   unfolding audit
-  done-is e b stored₀ stored z r ws₂ l =
-      let o = run-opened im (length ws) (superblockOf s) e ∙ ran in
+  done-is e b stored₀ stored z r lent fit =
+      let o = run-opened im lent _ (superblockOf s) fit e ∙ ran in
       record {
-        reply = rw (o, length-blocksOf, counted-law im objects addresses stored counts (r .read), l, list-is);
+        reply = rw (o, length-blocksOf, counted-law im objects addresses stored counts (r .read), list-is lent);
         fits = w .ready .table .fits;
         readable = readable b;
         addressesRest = λ h k m. w .ready .table .addressesZero k m;

@@ -5,13 +5,13 @@ use mathlib.Core.Path.{_≡_, ap, _∙_}
 use native.Mathlib.Omega.{arith}
 use lib.ListN.{length, replicate, length-replicate}
 use Rattle.format.specs.Limits.{objectsMost}
-use Rattle.format.specs.Blocks.{Block, blockOf, roomOf, entryAnswer}
+use Rattle.format.specs.Blocks.{Block, blockOf, entryAnswer}
 use Rattle.format.specs.declared.Refusal.{Refusal}
 use Rattle.format.specs.Walk.{Walk, ret, _>>=_, _>>_, Outcome, done, refused, ifEntered, run}
 use Rattle.format.specs.Superblock.{superblockWalk}
 use Rattle.format.specs.Ledger.{Linked}
 use Rattle.format.specs.Audit.{objectsWalk, rootFound, auditWalk}
-use Rattle.walk.specs.Lent.{blocksOf, lengthSum, Lent, ended, stopped, Walked}
+use Rattle.walk.specs.Lent.{blocksOf, lengthSum, placesOf, Lent, ended, stopped, Walked}
 use Rattle.laws.proofs.SumOfLengths.{grown-apart, grown-inside}
 use Rattle.laws.proofs.Simulation.{Simulation, start, returned, walked-done, callee-done, callee-stopped}
 use Rattle.ledger.specs.Links.{linkSum}
@@ -32,7 +32,7 @@ one-entered : (answer : ℕ) (f : ℕ → Refusal) (b : Block) (bs : List Block)
 one-entered zero f b bs e = cc
 one-entered (suc answer) f b bs e = let z : _≡_ {A = ℕ} 0 1 = cc in absurd (omega arith)
 
-module _ (im ws : List ℕ) (s : Superblock) (room : ℕ) (is : room ≡ roomOf (length ws)) (ws₁ : List ℕ) where
+module _ (im ws : List ℕ) (s : Superblock) (room : ℕ) (is : room ≡ placesOf (length ws)) (ws₁ : List ℕ) where
   abbrev eof : ℕ
   eof = s .«end_of_file»
 

@@ -4,13 +4,12 @@ use mathlib.Core.List.{List, []}
 use mathlib.Core.Path.{_≡_}
 use lib.ListN.{length, getD, replicate}
 use Rattle.format.specs.Limits.{objectsMost}
-use Rattle.format.specs.Blocks.{roomOf}
 use Rattle.format.specs.declared.Refusal.{Refusal}
 use Rattle.format.specs.Walk.{answerOf, metOf, run}
 use Rattle.format.specs.Ledger.{Linked}
 use Rattle.format.specs.Audit.{auditWalk}
 use Rattle.format.specs.Answers.{AuditReply, audit}
-use Rattle.walk.specs.Lent.{Ended, ended, stopped, Walked}
+use Rattle.walk.specs.Lent.{placesOf, Ended, ended, stopped, Walked}
 use Rattle.superblock.specs.Superblock.{superblockOf}
 use Rattle.superblock.specs.declared.Superblock.{Superblock}
 use Rattle.ledger.specs.Table.{linkedOf}
@@ -36,8 +35,8 @@ ReadyIf ws addresses counts eof room (Stopped r) = Unit {0}
 
 -- the walk of an opened image was walked, in the whole of the list lent
 pub record ImageWalked (im ws : List ℕ) (s : Superblock) (ws′ addresses′ counts′ : List ℕ) (r : ObjectRead) : Type 0 where
-  pub walked : Walked ws ws′ (ledgerEnd addresses′ counts′ r) (run im (s .«end_of_file») (roomOf (length ws)) (auditWalk (superblockOf s)) [])
-  pub ready : ReadyIf ws′ addresses′ counts′ (s .«end_of_file») (roomOf (length ws)) r
+  pub walked : Walked ws ws′ (ledgerEnd addresses′ counts′ r) (run im (s .«end_of_file») (placesOf (length ws)) (auditWalk (superblockOf s)) [])
+  pub ready : ReadyIf ws′ addresses′ counts′ (s .«end_of_file») (placesOf (length ws)) r
 
 -- "kept in a table of 256 places that starts empty"
 pub record Lists (addresses stored counts : List ℕ) : Type 0 where

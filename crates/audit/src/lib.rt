@@ -13,8 +13,12 @@ use superblock::Opening;
 use superblock::Superblock;
 use walk::blocks;
 use walk::blocks::Entry;
+use walk::blocks::WORK_WORDS;
 ghost use mathlib.Core.Path.{_≡_};
-ghost use lib.ListN.{length, replicate};
+ghost use Prim.Native.Nat.{ℕ, _≤_};
+ghost use lib.ListN.{length};
+ghost use Rattle.format.specs.Blocks.{roomOf};
+ghost use Rattle.walk.specs.Lent.{placesOf, handed};
 ghost use Rattle.ledger.specs.Table.{Table};
 ghost use Rattle.object.specs.Object.{Bounded};
 ghost use Rattle.audit.specs.Audit.{refusedWith, ImageWalked, Lists, AuditedIs, AuditIs};
@@ -27,11 +31,10 @@ pub struct Audited {
     pub objects: usize,
 }
 
-// A refusal: the list is all zeros, and so are the numbers but for the answer and the block met.
-fn refused(list: &mut [u64], refusal: Refusal) -> Audited
-    ensures { λ r. ⌜ (r ≡ refusedWith refusal) × (now (list .exit) ≡ replicate (length (now (list .entry))) 0) ⌝ }
+// A refusal: the numbers are zeros but for the answer and the block met.
+fn refused(refusal: Refusal) -> Audited
+    ensures { λ r. ⌜ r ≡ refusedWith refusal ⌝ }
 {
-    blocks::clear_from(list, 0);
     Audited {
         number: number_of(refusal),
         met: met_of(refusal),
@@ -54,7 +57,7 @@ pub fn walk_image(
     ensures { λ r.
         ⌜ ImageWalked (now (image .entry)) (now (list .entry)) superblock (now (list .exit)) (now (addresses .exit)) (now («true_counts» .exit)) r ⌝ }
 {
-    let room = blocks::room(list.len());
+    let room = blocks::places(list.len());
     match superblock::enter_superblock(superblock, list, room) {
         Entry::Refused(x) => ObjectRead::Stopped(x),
         Entry::Entered(n) => {
@@ -76,7 +79,8 @@ pub fn walk_image(
     }
 }
 
-// The audit with the ledger's arrays lent: its objects stand in them. A refusal leaves in the arrays what it came to.
+// The audit in a working list, with the ledger's arrays lent: its objects stand in them, and its blocks at the head of the list. A
+// refusal leaves in both what it came to.
 pub fn audit_into(
     image: &[u8],
     list: &mut [u64],
@@ -85,17 +89,17 @@ pub fn audit_into(
     true_counts: &mut [u32],
 ) -> Audited
     requires { ⌜ Lists (now addresses) (now stored) (now «true_counts») ⌝ }
+    ensures { λ r. ⌜ r .«block_count» ≤ placesOf (length (now (list .entry))) ⌝ }
     ensures { λ r.
-        ⌜ AuditedIs (now (image .entry)) (length (now (list .entry))) (now (list .exit)) (now (addresses .exit)) (now (stored .exit))
-        (now («true_counts» .exit)) r ⌝ }
+        ⌜ ((lent : ℕ) → roomOf lent ≡ placesOf (length (now (list .entry))) → AuditedIs (now (image .entry)) lent
+        (handed lent (r .«block_count») (now (list .exit))) (now (addresses .exit)) (now (stored .exit)) (now («true_counts» .exit)) r) ⌝ }
 {
     match superblock::open(image) {
-        Opening::NotOpened(x) => refused(list, Refusal::Fault(x, 0)),
+        Opening::NotOpened(x) => refused(Refusal::Fault(x, 0)),
         Opening::Opened(s) => match walk_image(image, list, addresses, true_counts, s) {
-            ObjectRead::Stopped(x) => refused(list, x),
+            ObjectRead::Stopped(x) => refused(x),
             ObjectRead::Done { count, objects } => {
                 report::read_stored(image, addresses, stored, objects);
-                blocks::clear_from(list, 4 * count);
                 Audited {
                     number: answers::DONE,
                     met: 0,
@@ -116,9 +120,12 @@ pub struct Reply {
     pub ledger: Ledger,
 }
 
-// The audit of an image. The list is lent for the blocks, four words a block.
-pub fn audit(image: &[u8], list: &mut [u64]) -> Reply
-    ensures { λ r. ⌜ AuditIs (now (image .entry)) (length (now (list .entry))) (now (list .exit)) r ⌝ }
+// The audit of an image in a working list, which has its blocks at its head.
+pub fn audit_in(image: &[u8], list: &mut [u64]) -> Reply
+    ensures { λ r. ⌜ r .«block_count» ≤ placesOf (length (now (list .entry))) ⌝ }
+    ensures { λ r.
+        ⌜ ((lent : ℕ) → roomOf lent ≡ placesOf (length (now (list .entry))) → AuditIs (now (image .entry)) lent
+        (handed lent (r .«block_count») (now (list .exit))) r) ⌝ }
 {
     let mut addresses = [0u64; OBJECTS_MOST];
     let mut stored = [0u32; OBJECTS_MOST];
@@ -147,4 +154,15 @@ pub fn audit(image: &[u8], list: &mut [u64]) -> Reply
             true_counts,
         },
     }
+}
+
+// The audit of an image. The list is lent for the blocks, four words a block.
+pub fn audit(image: &[u8], list: &mut [u64]) -> Reply
+    ensures { λ r. ⌜ AuditIs (now (image .entry)) (length (now (list .entry))) (now (list .exit)) r ⌝ }
+{
+    let mut work = [0u64; WORK_WORDS];
+    let n = blocks::work_words(blocks::room(list.len()));
+    let r = audit_in(image, &mut work[..n]);
+    blocks::hand_over(list, &work, r.block_count);
+    r
 }

@@ -29,3 +29,4 @@ pub mod Reports
 pub mod Demand3Due
 pub mod CDemandThree
 pub mod DemandThree
+pub mod Verdict

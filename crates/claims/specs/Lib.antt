@@ -14,3 +14,4 @@ pub mod Reports
 pub mod Demand3
 pub mod CDemand3
 pub mod DemandThree
+pub mod Verdict

@@ -35,7 +35,7 @@ block-inside eof room v a m n ws c p =
 
 -- A block of so many bytes that was entered: what is found in it can be counted.
 module _ (eof room : ℕ) (v : Kind) (a m n : ℕ) (ws ws₁ : List ℕ) (l : Lent ws n room)
-    (q : ws₁ ≡ entered (entryAnswer eof room (blocksOf n ws) a m) ws n (kindNumber v) a m)
+    (q : entered (entryAnswer eof room (blocksOf n ws) a m) ws n (kindNumber v) a m ws₁)
     (c : ℕ)
     (p : Entered c ≡ entering (entryAnswer eof room (blocksOf n ws) a m) (kindNumber v) a m (blocksOf n ws) n) (auditing : Bool) where
   longer : lengthSum (blocksOf c ws₁) ≡ lengthSum (blocksOf n ws) + m
@@ -94,7 +94,7 @@ module _ (auditing : Bool) (eof : ℕ) (ws : List ℕ) (n : ℕ) (addresses coun
 
 module _ {S : Type 0} (visit : Message → S → Result S) (im : List ℕ) (eof room : ℕ) (ws : List ℕ) (n address size : ℕ) (found : S) (l : Lent ws n room)
     (ws₁ : List ℕ)
-    (q : ws₁ ≡ entered (entryAnswer eof room (blocksOf n ws) address size) ws n 3 address size) where
+    (q : entered (entryAnswer eof room (blocksOf n ws) address size) ws n 3 address size ws₁) where
   at-entry : Simulation im eof room (blockWalk visit address size found) n ws (blockWalk visit address size found) n ws
   at-entry = start im eof room (blockWalk visit address size found) n ws l
 

@@ -10,7 +10,9 @@ use lib.Dec.{ltb, eqb}
 use lib.ListN.{length, getD, take, drop, set, replicate, replicate-append-replicate, getD-replicate, take-append-drop}
 use lib.Seq.{take-suc-set}
 use Rattle.format.specs.Bytes.{undefinedAddress}
-use Rattle.format.specs.Blocks.{Block, block, noObject, blockWords, roomOf}
+use Rattle.format.specs.Blocks.{Block, block, noObject, blockWords}
+use Rattle.block_index.specs.Index.{firstFrom}
+use Rattle.walk.specs.Lent.{placesOf}
 use Rattle.laws.specs.Blocks.{Inside}
 use Rattle.links.specs.Fours.{Four, numberAt}
 use Rattle.links.proofs.BlockWords.{list-holds}
@@ -44,17 +46,18 @@ four-of bs ws e k h =
 
 -- What is known of a list behind a refusal: it was filled before the walk, and its first words are those of the blocks entered.
 module _ (eof : ℕ) (bs : List Block) (ws ws′ : List ℕ) (same : length ws′ ≡ length ws) (filled : ws ≡ replicate (length ws) undefinedAddress)
-    (small : eof < 2 ^ 32) (inside : Inside eof bs) (fits : length bs ≤ roomOf (length ws))
-    (held : take (4 * length bs) ws′ ≡ blockWords noObject bs) (rest : (k : ℕ) → 4 * length bs ≤ k → getD ws′ k 0 ≡ getD ws k 0) where
+    (small : eof < 2 ^ 32) (inside : Inside eof bs) (fits : length bs ≤ placesOf (length ws))
+    (held : take (4 * length bs) ws′ ≡ blockWords noObject bs)
+    (rest : (k : ℕ) → 4 * length bs ≤ k → k < firstFrom (length ws) → getD ws′ k 0 ≡ getD ws k 0) where
   has-address : (k : ℕ) → k < length bs → getD ws′ (4 * k) 0 ≡ undefinedAddress → ⊥
   unfolding undefinedAddress
   has-address k h e = omega (arith, e, four-of bs ws′ held k h .address, inside-at eof bs k inside h)
 
-  has-none : length bs < roomOf (length ws) → getD ws′ (4 * length bs) 0 ≡ undefinedAddress
-  unfolding roomOf
+  has-none : length bs < placesOf (length ws) → getD ws′ (4 * length bs) 0 ≡ undefinedAddress
+  unfolding placesOf
   has-none h =
       let there : 4 * length bs < length ws = omega arith in
-      rest (4 * length bs) (omega arith)
+      rest (4 * length bs) (omega arith) (omega arith)
       ∙ ap (λ (l : List ℕ). getD l (4 * length bs) 0) filled
       ∙ getD-replicate (length ws) (4 * length bs) undefinedAddress 0 there
 
@@ -65,10 +68,10 @@ module _ (eof : ℕ) (bs : List Block) (ws ws′ : List ℕ) (same : length ws�
       go : (t u : Bool) → ltb n (length bs) ≡ t → ltb (length bs) n ≡ u → n ≡ length bs
       go true u p q =
           let h : n < length bs = ltb-true _ _ p in
-          let within : n < roomOf (length ws′) = rw same (omega (arith, fits)) in
+          let within : n < placesOf (length ws′) = rw same (omega (arith, fits)) in
           absurd (has-address n h (l .after within))
       go false true p q =
           let h : length bs < n = ltb-true _ _ q in
-          let room : n ≤ roomOf (length ws) = rw same at (l .within) in
+          let room : n ≤ placesOf (length ws) = rw same at (l .within) in
           absurd (l .before (length bs) h (has-none (omega (arith, room))))
       go false false p q = omega (arith, ltb-false n (length bs) p, ltb-false (length bs) n q)

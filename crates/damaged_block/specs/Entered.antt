@@ -4,10 +4,10 @@ use mathlib.Core.List.{List}
 use mathlib.Core.Path.{_≡_}
 use lib.ListN.{length, getD}
 use Rattle.format.specs.Bytes.{undefinedAddress}
-use Rattle.format.specs.Blocks.{roomOf}
+use Rattle.walk.specs.Lent.{placesOf}
 
 -- the first n blocks have an address, and the next, if there is room for one, has none: so there is one such n
 pub record Leading (ws : List ℕ) (n : ℕ) : Type 0 where
-  pub within : n ≤ roomOf (length ws)
+  pub within : n ≤ placesOf (length ws)
   pub before : (k : ℕ) → k < n → getD ws (4 * k) 0 ≡ undefinedAddress → ⊥
-  pub after : n < roomOf (length ws) → getD ws (4 * n) 0 ≡ undefinedAddress
+  pub after : n < placesOf (length ws) → getD ws (4 * n) 0 ≡ undefinedAddress

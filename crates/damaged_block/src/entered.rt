@@ -22,7 +22,7 @@ pub fn fill_undefined(list: &mut [u64])
 pub fn count_entered(list: &[u64]) -> usize
     ensures { λ r. ⌜ Leading (now (list .entry)) r ⌝ }
 {
-    let room = blocks::room(list.len());
+    let room = blocks::places(list.len());
     let mut count = 0;
     while count < room {
         if list[4 * count] == UNDEFINED_ADDRESS {

@@ -83,7 +83,7 @@ module _ (im : List ℕ) (eof room n : ℕ) (ws : List ℕ) (lent : Lent ws n ro
         empty-data k = nothing-entered (rw e (empty-none a s h k))
 
         pub contiguous-data : 1 ≤ s → (ws₁ : List ℕ) (r : Entry) → r ≡ entering (entryAnswer eof room (blocksOf n ws) a s) 8 a s (blocksOf n ws) n →
-            ws₁ ≡ entered (entryAnswer eof room (blocksOf n ws) a s) ws n 8 a s →
+            entered (entryAnswer eof room (blocksOf n ws) a s) ws n 8 a s ws₁ →
             Walked ws ws₁ (entryEnd r) (run im eof room (dataWalk (layoutOf l)) (blocksOf n ws))
         unfolding dataWalk
         contiguous-data k ws₁ r p q = rw (e, ← (data-some a s h k)) (one-block im eof room dataBlock a s n ws ws₁ r lent p q)

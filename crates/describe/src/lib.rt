@@ -16,10 +16,12 @@ use message::Body;
 use superblock::Opening;
 use superblock::Superblock;
 use walk::blocks;
+use walk::blocks::WORK_WORDS;
 ghost use mathlib.Core.Path.{_≡_};
 ghost use mathlib.Core.List.{List, []};
 ghost use Prim.Native.Nat.{ℕ, _≤_};
 ghost use lib.ListN.{length};
+ghost use Rattle.walk.specs.Lent.{placesOf, handed};
 ghost use Rattle.format.specs.Blocks.{Block, blockList, roomOf};
 ghost use Rattle.format.specs.Walk.{fault, noPlace, done, refused as refusedRun, run};
 ghost use Rattle.format.specs.Lookup.{follow as followRun};
@@ -51,11 +53,11 @@ pub struct Description {
     pub data_size: u64,
 }
 
-// A refusal: the list is all zeros, and so are the fields but for the answer and the block met.
-fn refused(list: &mut [u64], refusal: Refusal) -> Description
-    ensures { λ r. ⌜ ((bs : List Block) → replyOf (now (list .exit)) r ≡ describeEnd (length (now (list .entry))) (refusedRun refusal bs)) ⌝ }
+// A refusal: the fields are zeros but for the answer and the block met.
+fn refused(refusal: Refusal) -> Description
+    ensures { λ r. ⌜ ((lent : ℕ) (ws : List ℕ) (bs : List Block) → replyOf (handed lent (r .«block_count») ws) r ≡ describeEnd lent
+        (refusedRun refusal bs)) ⌝ }
 {
-    blocks::clear_from(list, 0);
     let sizes = [0u64; RANK_MOST];
     let maxima = [0u64; RANK_MOST];
     Description {
@@ -107,23 +109,21 @@ fn described(image: &[u8], space: Body, dataset: Dataset, count: usize) -> Descr
     }
 }
 
-// The description of the object at `at`. The list begins anew, and ends as the dataset's blocks.
+// The description of the object at `at`. The list begins anew, and has the dataset's blocks at its head.
 fn describe_object(image: &[u8], list: &mut [u64], superblock: Superblock, at: u64) -> Description
     requires { ⌜ Bounded (now image) superblock ⌝ }
-    ensures { λ r. ⌜ replyOf (now (list .exit)) r ≡ describeEnd (length (now (list .entry)))
-        (run (now (image .entry)) (superblock .«end_of_file») (roomOf (length (now (list .entry)))) (datasetAtWalk (superblockOf superblock) at) []) ⌝ }
+    ensures { λ r. ⌜ r .«block_count» ≤ placesOf (length (now (list .entry))) ⌝ }
+    ensures { λ r. ⌜ ((lent : ℕ) → replyOf (handed lent (r .«block_count») (now (list .exit))) r ≡ describeEnd lent
+        (run (now (image .entry)) (superblock .«end_of_file») (placesOf (length (now (list .entry)))) (datasetAtWalk (superblockOf superblock) at) [])) ⌝ }
 {
-    let room = blocks::room(list.len());
+    let room = blocks::places(list.len());
     match dataset_at(image, list, superblock, room, at) {
-        DatasetAt::Stopped(x) => refused(list, x),
+        DatasetAt::Stopped(x) => refused(x),
         DatasetAt::Read {
             dataset,
             space,
             count,
-        } => {
-            blocks::clear_from(list, 4 * count);
-            described(image, space, dataset, count)
-        }
+        } => described(image, space, dataset, count),
     }
 }
 
@@ -131,14 +131,30 @@ fn describe_object(image: &[u8], list: &mut [u64], superblock: Superblock, at: u
 fn describe_path(image: &[u8], path: &[u8], list: &mut [u64], superblock: Superblock) -> Description
     requires { ⌜ Bounded (now image) superblock ⌝ }
     requires { ⌜ 1 ≤ length (now path) ⌝ }
-    ensures { λ r. ⌜ replyOf (now (list .exit)) r ≡ describeEnd (length (now (list .entry)))
-        (followRun (now (image .entry)) (superblockOf superblock) (roomOf (length (now (list .entry)))) describeWalk (refusedRun (fault 20 noPlace) [])
-        (componentsOf (now (path .entry))) (superblock .root)) ⌝ }
+    ensures { λ r. ⌜ r .«block_count» ≤ placesOf (length (now (list .entry))) ⌝ }
+    ensures { λ r. ⌜ ((lent : ℕ) → replyOf (handed lent (r .«block_count») (now (list .exit))) r ≡ describeEnd lent
+        (followRun (now (image .entry)) (superblockOf superblock) (placesOf (length (now (list .entry)))) describeWalk (refusedRun (fault 20 noPlace) [])
+        (componentsOf (now (path .entry))) (superblock .root))) ⌝ }
 {
     match follow::find_object(image, path, list, superblock) {
-        Target::Stopped(x) => refused(list, x),
-        Target::Symbolic => refused(list, Refusal::Fault(answers::NOT_A_DATASET, NO_PLACE)),
+        Target::Stopped(x) => refused(x),
+        Target::Symbolic => refused(Refusal::Fault(answers::NOT_A_DATASET, NO_PLACE)),
         Target::Object(a) => describe_object(image, list, superblock, a),
+    }
+}
+
+// The description of the dataset that a path leads to, in a working list, which has its blocks at its head.
+pub fn describe_in(image: &[u8], path: &[u8], list: &mut [u64]) -> Description
+    ensures { λ r. ⌜ r .«block_count» ≤ placesOf (length (now (list .entry))) ⌝ }
+    ensures { λ r. ⌜ ((lent : ℕ) → roomOf lent ≡ placesOf (length (now (list .entry))) → replyOf (handed lent (r .«block_count») (now (list .exit))) r ≡
+        describeReply (now (image .entry)) (now (path .entry)) lent) ⌝ }
+{
+    if !path::is_sound(path) {
+        return refused(Refusal::Fault(answers::BAD_PATH, NO_PLACE));
+    }
+    match superblock::open(image) {
+        Opening::NotOpened(x) => refused(Refusal::Fault(x, 0)),
+        Opening::Opened(s) => describe_path(image, path, list, s),
     }
 }
 
@@ -146,11 +162,9 @@ fn describe_path(image: &[u8], path: &[u8], list: &mut [u64], superblock: Superb
 pub fn describe(image: &[u8], path: &[u8], list: &mut [u64]) -> Description
     ensures { λ r. ⌜ replyOf (now (list .exit)) r ≡ describeReply (now (image .entry)) (now (path .entry)) (length (now (list .entry))) ⌝ }
 {
-    if !path::is_sound(path) {
-        return refused(list, Refusal::Fault(answers::BAD_PATH, NO_PLACE));
-    }
-    match superblock::open(image) {
-        Opening::NotOpened(x) => refused(list, Refusal::Fault(x, 0)),
-        Opening::Opened(s) => describe_path(image, path, list, s),
-    }
+    let mut work = [0u64; WORK_WORDS];
+    let n = blocks::work_words(blocks::room(list.len()));
+    let r = describe_in(image, path, &mut work[..n]);
+    blocks::hand_over(list, &work, r.block_count);
+    r
 }

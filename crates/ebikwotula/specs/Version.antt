@@ -3,4 +3,4 @@ use Prim.Native.Nat.{ℕ}
 
 -- raised with every change of a word, an answer or a limit
 abbrev pub version : ℕ
-version = 3
+version = 4

@@ -13,8 +13,8 @@ use Rattle.format.specs.Walk.{Walk, Outcome, done, refused, run, andThen, _>>_}
 use Rattle.format.specs.Superblock.{Superblock, superblockWalk}
 use Rattle.format.specs.Path.{withByte, pathParts}
 use Rattle.format.specs.Lookup.{Target, object, symbolic, componentWalk, fromTarget, follow}
-use Rattle.format.specs.Blocks.{blockWords}
-use Rattle.walk.specs.Lent.{Lent, blocksOf}
+use Rattle.walk.specs.Lent.{Lent}
+use Rattle.walk.proofs.BlockList.{lent-none}
 use Rattle.path.specs.Form.{EndsAt, componentsOf}
 use Rattle.component.specs.Component.{EndsAs}
 use Rattle.follow.specs.Follow.{targetRun, restOf}
@@ -69,8 +69,8 @@ module _ (path : List ℕ) (start end : ℕ) (h : start ≤ length path) (e : En
 
 -- a list of the same length is lent anew as this one was
 pub lent-same : {ws ws′ : List ℕ} {room : ℕ} → Lent ws 0 room → length ws′ ≡ length ws → Lent ws′ 0 room
-unfolding blocksOf blockWords
-lent-same l e = record { counted = l .counted; lent = omega (arith, l .lent, e); numbered = refl }
+lent-same {ws} {ws′} l e =
+    let none = lent-none ws′ in record { counted = l .counted; lent = omega (arith, l .lent, e); numbered = none .numbered; indexed = none .indexed }
 
 -- one component was looked up
 module _ (im path : List ℕ) (s : Superblock) (room start end at : ℕ) (h : start ≤ length path) (e : EndsAt path start end) where

@@ -4,7 +4,7 @@ use mathlib.Core.List.{List, [], _∷_}
 use lib.ListN.{length, drop}
 use lib.Dec.{leb}
 use Rattle.format.specs.Bytes.{if_then_else_, isEmpty}
-use Rattle.format.specs.Walk.{Outcome, done, refused, run, andThen}
+use Rattle.format.specs.Walk.{Outcome, done, run, andThen}
 use Rattle.format.specs.Superblock.{Superblock}
 use Rattle.format.specs.Path.{pathParts}
 use Rattle.format.specs.Lookup.{Target, object, symbolic, componentWalk, fromTarget}

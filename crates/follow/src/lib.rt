@@ -5,8 +5,7 @@ use superblock::Superblock;
 use walk::blocks;
 ghost use Prim.Native.Nat.{_≤_};
 ghost use lib.ListN.{length};
-ghost use Rattle.format.specs.Blocks.{roomOf};
-ghost use Rattle.walk.specs.Lent.{Lent};
+ghost use Rattle.walk.specs.Lent.{Lent, placesOf};
 ghost use Rattle.ledger.specs.Table.{Table};
 ghost use Rattle.superblock.specs.Superblock.{superblockOf};
 ghost use Rattle.object.specs.Object.{Opened, Bounded};
@@ -64,10 +63,10 @@ fn follow(
 pub fn find_object(image: &[u8], path: &[u8], list: &mut [u64], superblock: Superblock) -> Target
     requires { ⌜ Bounded (now image) superblock ⌝ }
     requires { ⌜ 1 ≤ length (now path) ⌝ }
-    ensures { λ r. ⌜ EndsAs r (targetRun (now (image .entry)) (superblockOf superblock) (roomOf (length (now (list .entry))))
+    ensures { λ r. ⌜ EndsAs r (targetRun (now (image .entry)) (superblockOf superblock) (placesOf (length (now (list .entry))))
         (componentsOf (now (path .entry))) (superblock .root)) ⌝ }
 {
-    let room = blocks::room(list.len());
+    let room = blocks::places(list.len());
     let mut addresses = [0u64; OBJECTS_MOST];
     let mut counts = [0u32; OBJECTS_MOST];
     follow(

@@ -13,7 +13,7 @@ use Rattle.format.specs.Bytes.{if_then_else_, allHold, u64, undefinedAddress}
 use Rattle.format.specs.Blocks.{Block, block, overlapsAny}
 use Rattle.format.specs.Result.{Result, value, answer, check, _>>=_, _>>_}
 use Rattle.format.specs.FreeList.{freeBlocks, freeList}
-use Rattle.walk.proofs.BlockList.{overlaps-hit, overlaps-not-below, overlaps-not-above}
+use Rattle.block_index.proofs.Overlaps.{overlaps-hit, overlaps-not-below, overlaps-not-above}
 use Rattle.free_list.specs.FreeBlocks.{chain, Chained, blockSound, ListRead}
 use Rattle.free_list.specs.declared.FreeList.{FreeList}
 

@@ -2,11 +2,9 @@
 use Prim.Native.Nat.{ℕ, _*_, _/_, _≤_}
 use mathlib.Core.Path.{_≡_, refl, ap, sym, _∙_}
 use mathlib.Core.Bool.{Bool, true, false}
-use mathlib.Core.List.{List}
 use native.Mathlib.Omega.{arith}
 use borrow.Author.Tests.{eqb-true, eqb-false}
-use lib.ListN.{length, take}
-use lib.Seq.{length-take-le}
+use lib.ListN.{length}
 use lib.Dec.{eqb}
 use Rattle.format.specs.Blocks.{roomOf}
 use Rattle.format.specs.Walk.{Outcome}
@@ -52,10 +50,6 @@ module _ {l : ℕ} {A C : Type 0} (call : Call l A C) where
       go false q =
           let had = call .told (4 * m) (call .run (4 * m)) (eqb-false _ _ q) in
           run-same (4 * m) inside (sym (call .more (4 * m) (l / 8) (less-room m (l / 8) (omega arith)) had))
-
--- a part of a list was lent
-pub of-part : {C : Type 0} (reply : ℕ → C) (x : C) (zs : List ℕ) (n : ℕ) → n ≤ length zs → x ≡ reply (length (take n zs)) → x ≡ reply n
-of-part reply x zs n h e = e ∙ ap reply (length-take-le n zs h)
 
 -- slices that came back with the same lengths
 pub of-slices : {C : Type 0} (reply : ℕ → ℕ → C) (x : C) (l r l′ r′ : ℕ) → l′ ≡ l → r′ ≡ r → x ≡ reply l′ r′ → x ≡ reply l r

@@ -40,10 +40,6 @@ Ends lent (refused m bs) n count list = (n ≡ answerOf m) × (count ≡ 0) × (
 
 -- A reply with so many words lent, no more than those of a slice of l bytes.
 module _ {A : Type 0} (l lent n count : ℕ) (list : List ℕ) (h : lent ≤ l / 8) where
-  pub count-fits : (o : Outcome A) → length (left o) ≤ roomOf lent → Ends lent o n count list → 4 * count ≤ lent
-  count-fits (done a bs) f e = omega (arith, e .1, room-lent lent)
-  count-fits (refused m bs) f e = omega (arith, e .1)
-
   -- the words of the blocks are the whole list's bytes
   pub list-used : (o : Outcome A) → length (left o) ≤ roomOf lent → Ends lent o n count list → paddedBytes l (take (4 * count) list) ≡ paddedBytes l list
   list-used (done a bs) f e = rw (e .1, e .2) (used-bytes l lent bs (omega (arith, room-lent lent)) h)

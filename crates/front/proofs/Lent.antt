@@ -4,7 +4,7 @@ use mathlib.Core.Path.{_≡_, sym}
 use mathlib.Core.List.{List}
 use native.Mathlib.Omega.{arith}
 use lib.ListN.{length, take, replicate}
-use lib.Seq.{take-at, length-take-le}
+use lib.Seq.{take-at}
 use Rattle.format.specs.Limits.{blocksMost}
 use Rattle.format.specs.Blocks.{Block, roomOf, noObject, blockWords, blockList}
 use Rattle.format.specs.Front.{paddedBytes}
@@ -30,10 +30,6 @@ room-within m room k e h = (omega (arith, room-most k), omega (arith, room-lent 
 pub less-room : (m k : ℕ) → m ≤ roomOf k → roomOf (4 * m) ≤ roomOf k
 unfolding roomOf
 less-room m k h = omega arith
-
--- a part of a list that is lent
-pub part-lent : (zs : List ℕ) (n k : ℕ) → n ≤ length zs → n ≤ k → length (take n zs) ≤ k
-part-lent zs n k h l = omega (arith, length-take-le n zs h)
 
 -- Block lists in so many words lent, as the bytes of a slice of l: what matters are the blocks.
 module _ (l lent : ℕ) (bs : List Block) (fits : 4 * length bs ≤ lent) (h : lent ≤ l / 8) where

@@ -5,3 +5,4 @@ pub mod Follow
 pub mod AuditRoom
 pub mod Call
 pub mod Part
+pub mod Working

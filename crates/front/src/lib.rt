@@ -15,6 +15,8 @@ const SMALL_IMAGE: usize = 16384;
 
 pub const FEW_BLOCKS: usize = 64;
 
+pub const FEW_WORDS: usize = 5 * FEW_BLOCKS + 128;
+
 // The room that a call is tried with first, of the room that it has. Which it is shows in no reply.
 pub fn first_room(image: usize, room: usize) -> usize
     ensures { λ r. ⌜ r ≤ room ⌝ }

@@ -21,7 +21,7 @@ use Rattle.audit.specs.declared.Audited.{Audited}
 use Rattle.front.proofs.Reply.{length-places}
 use Rattle.front.proofs.Lent.{list-bytes}
 use Rattle.front.proofs.AuditRoom.{run-room, run-fits}
-use Rattle.front.proofs.Ended.{refusal-words, too-short, long-enough, Ends, count-fits, list-used, list-zero}
+use Rattle.front.proofs.Ended.{refusal-words, too-short, long-enough, Ends, list-used, list-zero}
 use Rattle.front.proofs.Call.{Call, enough}
 
 -- the number, the block count and the list of a reply
@@ -44,9 +44,6 @@ module _ (im : List ℕ) (l r : ℕ) where
   module _ (lent : ℕ) (h : lent ≤ l / 8) (ws xs ss ts : List ℕ) (a : Audited) (d : AuditedIs im lent ws xs ss ts a) where
     at-end : Ends lent (auditRun im lent) (a .number) (a .«block_count») ws
     at-end = audit-ends im lent (replyOf ws xs ss ts a) (d .reply)
-
-    pub used-fit : 4 * a .«block_count» ≤ lent
-    used-fit = count-fits l lent (a .number) (a .«block_count») ws h (auditRun im lent) (run-fits im lent) at-end
 
     pub done-reply : (list reply : List ℕ) → a .number ≡ 0 → list ≡ paddedBytes l (take (4 * a .«block_count») ws) →
         reply ≡ paddedBytes r (a .«block_count» ∷ a .objects ∷ objectWords (countedPlaces (a .objects) xs ss ts)) →

@@ -1,8 +1,10 @@
 // The audit on byte slices.
-use format::BLOCKS_MOST;
 use format::OBJECTS_MOST;
 use format::answers;
 use front::FEW_BLOCKS;
+use front::FEW_WORDS;
+use walk::blocks::WORK_WORDS;
+use walk::blocks::work_words;
 ghost use mathlib.Core.Path.{_≡_};
 ghost use mathlib.Core.List.{[], _∷_};
 ghost use Prim.Native.Nat.{_+_, _*_, _/_, _≤_};
@@ -14,6 +16,7 @@ ghost use Rattle.ledger.specs.Report.{countedPlaces};
 ghost use Rattle.front_audit.specs.Room.{Roomy};
 ghost use Rattle.front_audit.specs.With.{AuditsWith};
 ghost use Rattle.front.specs.Few.{fewBlocks};
+ghost use Rattle.walk.specs.Lent.{workWords};
 
 // Writes the words of one object.
 fn put_object(reply: &mut [u8], at: usize, address: u64, stored: u32, true_count: u32)
@@ -56,7 +59,7 @@ fn audit_with(
     reply: &mut [u8],
     room: usize,
 ) -> u32
-    requires { ⌜ 4 * room ≤ length (now list) ⌝ }
+    requires { ⌜ workWords room ≤ length (now list) ⌝ }
     requires { ⌜ 4 * room ≤ length (now blocks) / 8 ⌝ }
     requires { ⌜ 2 + 3 * objectsMost ≤ length (now reply) / 8 ⌝ }
     ensures { λ r. ⌜ AuditsWith (now (image .entry)) (length (now (blocks .entry))) (length (now (reply .entry))) room
@@ -65,7 +68,7 @@ fn audit_with(
     let mut addresses = [0u64; OBJECTS_MOST];
     let mut stored = [0u32; OBJECTS_MOST];
     let mut true_counts = [0u32; OBJECTS_MOST];
-    let n = 4 * room;
+    let n = work_words(room);
     let r = audit::audit_into(
         image,
         &mut list[..n],
@@ -97,7 +100,7 @@ fn audit_few(image: &[u8], blocks: &mut [u8], reply: &mut [u8], room: usize) -> 
     ensures { λ r. ⌜ AuditsWith (now (image .entry)) (length (now (blocks .entry))) (length (now (reply .entry))) room
         (record { number = r; list = now (blocks .exit); reply = now (reply .exit) }) ⌝ }
 {
-    let mut list = [0u64; 4 * FEW_BLOCKS];
+    let mut list = [0u64; FEW_WORDS];
     audit_with(image, &mut list, blocks, reply, room)
 }
 
@@ -108,7 +111,7 @@ fn audit_all(image: &[u8], blocks: &mut [u8], reply: &mut [u8], room: usize) -> 
     ensures { λ r. ⌜ AuditsWith (now (image .entry)) (length (now (blocks .entry))) (length (now (reply .entry))) room
         (record { number = r; list = now (blocks .exit); reply = now (reply .exit) }) ⌝ }
 {
-    let mut list = [0u64; 4 * BLOCKS_MOST];
+    let mut list = [0u64; WORK_WORDS];
     audit_with(image, &mut list, blocks, reply, room)
 }
 

@@ -20,7 +20,7 @@ use Rattle.describe.specs.Describe.{replyOf}
 use Rattle.describe.specs.declared.Description.{Description}
 use Rattle.front.proofs.Lent.{list-bytes}
 use Rattle.front.proofs.Follow.{path-room, path-fits}
-use Rattle.front.proofs.Ended.{refusal-words, too-short, long-enough, Ends, count-fits, list-used, list-zero}
+use Rattle.front.proofs.Ended.{refusal-words, too-short, long-enough, Ends, list-used, list-zero}
 use Rattle.front.proofs.Call.{Call, enough}
 
 run-fits : (im path : List ℕ) (k : ℕ) → length (left (describeRun im path k)) ≤ roomOf k
@@ -48,9 +48,6 @@ module _ (im path : List ℕ) (l r : ℕ) where
   module _ (lent : ℕ) (h : lent ≤ l / 8) (ws : List ℕ) (a : Description) (d : replyOf ws a ≡ describe im path lent) where
     at-end : Ends lent (describeRun im path lent) (a .number) (a .«block_count») ws
     at-end = describe-ends im path lent (replyOf ws a) d
-
-    pub used-fit : 4 * a .«block_count» ≤ lent
-    used-fit = count-fits l lent (a .number) (a .«block_count») ws h (describeRun im path lent) (run-fits im path lent) at-end
 
     pub done-reply : (list reply : List ℕ) → a .number ≡ 0 → list ≡ paddedBytes l (take (4 * a .«block_count») ws) →
         reply ≡ paddedBytes r (descriptionWords (replyOf [] a)) →

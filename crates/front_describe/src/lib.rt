@@ -1,8 +1,10 @@
 // The description of a dataset on byte slices.
 use describe::Description;
-use format::BLOCKS_MOST;
 use format::answers;
 use front::FEW_BLOCKS;
+use front::FEW_WORDS;
+use walk::blocks::WORK_WORDS;
+use walk::blocks::work_words;
 ghost use mathlib.Core.Path.{_≡_};
 ghost use mathlib.Core.List.{[]};
 ghost use Prim.Native.Nat.{_+_, _*_, _/_, _≤_};
@@ -13,6 +15,7 @@ ghost use Rattle.format.specs.Front.{wordBytes, paddedBytes, descriptionWords, 
 ghost use Rattle.describe.specs.Describe.{replyOf};
 ghost use Rattle.front.specs.Few.{fewBlocks};
 ghost use Rattle.front_describe.specs.With.{DescribesWith};
+ghost use Rattle.walk.specs.Lent.{workWords};
 
 // Writes words one after the other.
 fn put_words(reply: &mut [u8], at: usize, words: &[u64])
@@ -60,14 +63,14 @@ fn describe_with(
     reply: &mut [u8],
     room: usize,
 ) -> u32
-    requires { ⌜ 4 * room ≤ length (now list) ⌝ }
+    requires { ⌜ workWords room ≤ length (now list) ⌝ }
     requires { ⌜ 4 * room ≤ length (now blocks) / 8 ⌝ }
     requires { ⌜ 10 + 2 * rankMost ≤ length (now reply) / 8 ⌝ }
     ensures { λ r. ⌜ DescribesWith (now (image .entry)) (now (path .entry)) (length (now (blocks .entry))) (length (now (reply .entry))) room
         (record { number = r; list = now (blocks .exit); reply = now (reply .exit) }) ⌝ }
 {
-    let n = 4 * room;
-    let r = describe::describe(image, path, &mut list[..n]);
+    let n = work_words(room);
+    let r = describe::describe_in(image, path, &mut list[..n]);
     if r.number != answers::DONE {
         return front::refuse(blocks, reply, r.number, r.met);
     }
@@ -85,7 +88,7 @@ fn describe_few(image: &[u8], path: &[u8], blocks: &mut [u8], reply: &mut [u8], 
     ensures { λ r. ⌜ DescribesWith (now (image .entry)) (now (path .entry)) (length (now (blocks .entry))) (length (now (reply .entry))) room
         (record { number = r; list = now (blocks .exit); reply = now (reply .exit) }) ⌝ }
 {
-    let mut list = [0u64; 4 * FEW_BLOCKS];
+    let mut list = [0u64; FEW_WORDS];
     describe_with(image, path, &mut list, blocks, reply, room)
 }
 
@@ -96,7 +99,7 @@ fn describe_all(image: &[u8], path: &[u8], blocks: &mut [u8], reply: &mut [u8], 
     ensures { λ r. ⌜ DescribesWith (now (image .entry)) (now (path .entry)) (length (now (blocks .entry))) (length (now (reply .entry))) room
         (record { number = r; list = now (blocks .exit); reply = now (reply .exit) }) ⌝ }
 {
-    let mut list = [0u64; 4 * BLOCKS_MOST];
+    let mut list = [0u64; WORK_WORDS];
     describe_with(image, path, &mut list, blocks, reply, room)
 }
 

@@ -1,7 +1,9 @@
 // Path lookup on byte slices.
-use format::BLOCKS_MOST;
 use format::answers;
 use front::FEW_BLOCKS;
+use front::FEW_WORDS;
+use walk::blocks::WORK_WORDS;
+use walk::blocks::work_words;
 ghost use mathlib.Core.Path.{_≡_};
 ghost use Prim.Native.Nat.{_*_, _/_, _≤_};
 ghost use lib.ListN.{length};
@@ -9,6 +11,7 @@ ghost use Rattle.format.specs.Limits.{blocksMost};
 ghost use Rattle.format.specs.Front.{CReply, cLookup};
 ghost use Rattle.front.specs.Few.{fewBlocks};
 ghost use Rattle.front_lookup.specs.With.{LooksUpWith};
+ghost use Rattle.walk.specs.Lent.{workWords};
 
 // The words of the reply: block count, kind, address.
 const REPLY_WORDS: usize = 3;
@@ -22,14 +25,14 @@ fn lookup_with(
     reply: &mut [u8],
     room: usize,
 ) -> u32
-    requires { ⌜ 4 * room ≤ length (now list) ⌝ }
+    requires { ⌜ workWords room ≤ length (now list) ⌝ }
     requires { ⌜ 4 * room ≤ length (now blocks) / 8 ⌝ }
     requires { ⌜ 3 ≤ length (now reply) / 8 ⌝ }
     ensures { λ r. ⌜ LooksUpWith (now (image .entry)) (now (path .entry)) (length (now (blocks .entry))) (length (now (reply .entry))) room
         (record { number = r; list = now (blocks .exit); reply = now (reply .exit) }) ⌝ }
 {
-    let n = 4 * room;
-    let r = lookup::lookup::lookup(image, path, &mut list[..n]);
+    let n = work_words(room);
+    let r = lookup::lookup::lookup_in(image, path, &mut list[..n]);
     if r.number != answers::DONE {
         return front::refuse(blocks, reply, r.number, r.met);
     }
@@ -48,7 +51,7 @@ fn lookup_few(image: &[u8], path: &[u8], blocks: &mut [u8], reply: &mut [u8], ro
     ensures { λ r. ⌜ LooksUpWith (now (image .entry)) (now (path .entry)) (length (now (blocks .entry))) (length (now (reply .entry))) room
         (record { number = r; list = now (blocks .exit); reply = now (reply .exit) }) ⌝ }
 {
-    let mut list = [0u64; 4 * FEW_BLOCKS];
+    let mut list = [0u64; FEW_WORDS];
     lookup_with(image, path, &mut list, blocks, reply, room)
 }
 
@@ -59,7 +62,7 @@ fn lookup_all(image: &[u8], path: &[u8], blocks: &mut [u8], reply: &mut [u8], ro
     ensures { λ r. ⌜ LooksUpWith (now (image .entry)) (now (path .entry)) (length (now (blocks .entry))) (length (now (reply .entry))) room
         (record { number = r; list = now (blocks .exit); reply = now (reply .exit) }) ⌝ }
 {
-    let mut list = [0u64; 4 * BLOCKS_MOST];
+    let mut list = [0u64; WORK_WORDS];
     lookup_with(image, path, &mut list, blocks, reply, room)
 }
 

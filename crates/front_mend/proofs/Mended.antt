@@ -54,9 +54,8 @@ used l g r x = record {
   image = x .image;
 }
 
--- the used words of a reply x with so many words lent fit, none are used with a refusal, and they are the bytes of the reply y
-pub record Taken (l g r lent : ℕ) (x y : MendReply) : Type 0 where
-  pub blocksFit : 4 * x .blockCount ≤ lent
+-- the entries of a reply x fit, no words are used with a refusal, and those used are the bytes of the reply y
+pub record Taken (l g r : ℕ) (x y : MendReply) : Type 0 where
   pub entriesFit : 2 * x .entries ≤ logRoom (g / 8)
   pub noBlocks : (x .number ≡ 0 → ⊥) → x .blockCount ≡ 0
   pub noEntries : (x .number ≡ 0 → ⊥) → x .entries ≡ 0
@@ -87,24 +86,22 @@ module _ (im : List ℕ) (l g r n : ℕ) where
 
   -- With so many words lent, and with a log of as many words as its room: the log's own words are the same bytes.
   module _ (lent : ℕ) (h : lent ≤ l / 8) where
-    not-mended : (number met : ℕ) → Taken l g r lent (notMended im lent (logRoom (g / 8)) (suc number) met) (notMended im lent (g / 8) (suc number) met)
+    not-mended : (number met : ℕ) → Taken l g r (notMended im lent (logRoom (g / 8)) (suc number) met) (notMended im lent (g / 8) (suc number) met)
     not-mended number met = record {
-      blocksFit = omega arith;
       entriesFit = omega arith;
       noBlocks = λ _. refl;
       noEntries = λ _. refl;
       bytes = rw (no-words l lent h, no-words g (g / 8) (omega arith));
     }
 
-    module _ (met count : ℕ) (os : List Counted) (list : List ℕ) (fits : 4 * count ≤ lent) (same : paddedBytes l (take (4 * count) list) ≡ paddedBytes l list)
+    module _ (met count : ℕ) (os : List Counted) (list : List ℕ) (same : paddedBytes l (take (4 * count) list) ≡ paddedBytes l list)
         (most : length (corrections os) ≤ objectsMost) where
       abbrev wrong : List Change
       wrong = corrections os
 
       ends-alike : (number : ℕ) (t : Bool) → (t ≡ true → 2 * length wrong ≤ logRoom (g / 8)) →
-          Taken l g r lent (ending lent (logRoom (g / 8)) t (auditWith met count os number list)) (ending lent (g / 8) t (auditWith met count os number list))
+          Taken l g r (ending lent (logRoom (g / 8)) t (auditWith met count os number list)) (ending lent (g / 8) t (auditWith met count os number list))
       ends-alike number true k = record {
-        blocksFit = fits;
         entriesFit = k refl;
         noBlocks = λ z. absurd (z refl);
         noEntries = λ z. absurd (z refl);
@@ -121,7 +118,7 @@ module _ (im : List ℕ) (l g r n : ℕ) where
           go false e = lt-leb (2 * length wrong) (g / 8) (omega (arith, leb-false (2 * length wrong) (logRoom (g / 8)) e))
 
       after-alike : (number given : ℕ) →
-          Taken l g r lent (mendAfter im lent (logRoom (g / 8)) n number (auditWith met count os given list))
+          Taken l g r (mendAfter im lent (logRoom (g / 8)) n number (auditWith met count os given list))
           (mendAfter im lent (g / 8) n number (auditWith met count os given list))
       after-alike zero given = rw tests-alike (ends-alike given (leb (2 * length wrong) (logRoom (g / 8))) (leb-true _ _))
       after-alike (suc number) given = not-mended number met
@@ -135,21 +132,21 @@ module _ (im : List ℕ) (l g r n : ℕ) where
   Most a = a .number ≡ 0 → length (corrections (a .objects)) ≤ objectsMost
 
   end-taken : (lent : ℕ) → lent ≤ l / 8 → (o : Outcome (List Linked)) → Most (auditEnd im lent o) → length (left o) ≤ roomOf lent →
-      Taken l g r lent (mendEnd lent (logRoom (g / 8)) o) (mendEnd lent (g / 8) o)
+      Taken l g r (mendEnd lent (logRoom (g / 8)) o) (mendEnd lent (g / 8) o)
   unfolding corrections
   end-taken lent h (done os bs) m f =
       let fits : 4 * length bs ≤ lent = omega (arith, room-lent lent) in
-      after-alike lent h 0 (length bs) (countedIn im os) (blockList lent bs) fits (used-bytes l lent bs fits h) (m refl) 0 0
+      after-alike lent h 0 (length bs) (countedIn im os) (blockList lent bs) (used-bytes l lent bs fits h) (m refl) 0 0
   end-taken lent h (refused x bs) m f =
-      after-alike lent h (metOf x) 0 [] (replicate lent 0) (omega arith) (no-words l lent h) (omega arith) (answerOf x) (answerOf x)
+      after-alike lent h (metOf x) 0 [] (replicate lent 0) (no-words l lent h) (omega arith) (answerOf x) (answerOf x)
 
   -- what the mending returned and left, with these words lent
   pub taken : (lent logLent : ℕ) (x : MendReply) → lent ≤ l / 8 → logLent ≡ logRoom (g / 8) → x ≡ mend im lent logLent n → Most (audit im lent) →
-      Taken l g r lent x (mend im lent (g / 8) n)
+      Taken l g r x (mend im lent (g / 8) n)
   unfolding mend audit
   taken lent logLent x h q e m = rw (e, q) (end-taken lent h (auditRun im lent) m (run-fits im lent))
 
-  module _ (lent : ℕ) (x : MendReply) (t : Taken l g r lent x (mend im lent (g / 8) n)) where
+  module _ (lent : ℕ) (x : MendReply) (t : Taken l g r x (mend im lent (g / 8) n)) where
     pub done-reply : (list log reply : List ℕ) → x .number ≡ 0 → list ≡ paddedBytes l (take (4 * x .blockCount) (x .list)) →
         log ≡ paddedBytes g (take (2 * x .entries) (x .log)) →
         reply ≡ paddedBytes r (x .blockCount ∷ x .entries ∷ x .writes ∷ []) →

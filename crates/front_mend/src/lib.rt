@@ -1,8 +1,10 @@
 // Mending on byte slices.
-use format::BLOCKS_MOST;
 use format::OBJECTS_MOST;
 use format::answers;
 use front::FEW_BLOCKS;
+use front::FEW_WORDS;
+use walk::blocks::WORK_WORDS;
+use walk::blocks::work_words;
 ghost use mathlib.Core.Path.{_≡_};
 ghost use Prim.Native.Nat.{_*_, _/_, _≤_, min};
 ghost use lib.ListN.{length, replicate};
@@ -10,6 +12,7 @@ ghost use Rattle.format.specs.Limits.{objectsMost, blocksMost};
 ghost use Rattle.format.specs.Front.{paddedBytes, refusalWords, CMend, cMend};
 ghost use Rattle.front.specs.Few.{fewBlocks};
 ghost use Rattle.front_mend.specs.With.{MendsWith};
+ghost use Rattle.walk.specs.Lent.{workWords};
 
 // The words of the reply: block count, entries, writes.
 const REPLY_WORDS: usize = 3;
@@ -57,7 +60,7 @@ fn mend_with(
     limit: u64,
     room: usize,
 ) -> u32
-    requires { ⌜ 4 * room ≤ length (now list) ⌝ }
+    requires { ⌜ workWords room ≤ length (now list) ⌝ }
     requires { ⌜ 4 * room ≤ length (now blocks) / 8 ⌝ }
     requires { ⌜ 3 ≤ length (now reply) / 8 ⌝ }
     ensures { λ r.
@@ -66,8 +69,8 @@ fn mend_with(
 {
     let mut entries = [0u64; 2 * OBJECTS_MOST];
     let m = log_room(log.len() / 8);
-    let n = 4 * room;
-    let r = mend::mend(image, &mut list[..n], &mut entries[..m], limit);
+    let n = work_words(room);
+    let r = mend::mend_in(image, &mut list[..n], &mut entries[..m], limit);
     if r.number != answers::DONE {
         return refuse(blocks, log, reply, r.number, r.met);
     }
@@ -96,7 +99,7 @@ fn mend_few(
         ⌜ MendsWith (now (image .entry)) (length (now (blocks .entry))) (length (now (log .entry))) (length (now (reply .entry))) limit room
         (record { number = r; list = now (blocks .exit); log = now (log .exit); reply = now (reply .exit); image = now (image .exit) }) ⌝ }
 {
-    let mut list = [0u64; 4 * FEW_BLOCKS];
+    let mut list = [0u64; FEW_WORDS];
     mend_with(image, &mut list, blocks, log, reply, limit, room)
 }
 
@@ -115,7 +118,7 @@ fn mend_all(
         ⌜ MendsWith (now (image .entry)) (length (now (blocks .entry))) (length (now (log .entry))) (length (now (reply .entry))) limit room
         (record { number = r; list = now (blocks .exit); log = now (log .exit); reply = now (reply .exit); image = now (image .exit) }) ⌝ }
 {
-    let mut list = [0u64; 4 * BLOCKS_MOST];
+    let mut list = [0u64; WORK_WORDS];
     mend_with(image, &mut list, blocks, log, reply, limit, room)
 }
 

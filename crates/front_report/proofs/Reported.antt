@@ -70,9 +70,6 @@ module _ (im : List ℕ) (l r : ℕ) where
     keeps : Keeps lent (replyOf ws xs ss ts (fieldsOf a))
     keeps = report-keeps im lent (replyOf ws xs ss ts (fieldsOf a)) (d .reply)
 
-    pub used-fit : 4 * a .«block_count» ≤ lent
-    used-fit = omega (arith, keeps .fits, keeps .count)
-
     pub reply-written : (list reply : List ℕ) → list ≡ paddedBytes l (take (4 * a .«block_count») ws) → reply ≡ paddedBytes r (wordsOf a) →
         _≡_ {A = Written} (record { answer = a .answer; list = list; reply = reply }) (written l r (report im lent))
     reply-written list reply e f =

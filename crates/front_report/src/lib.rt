@@ -1,8 +1,10 @@
 // The damage report on byte slices.
-use format::BLOCKS_MOST;
 use format::OBJECTS_MOST;
 use front::FEW_BLOCKS;
+use front::FEW_WORDS;
 use report::Reported;
+use walk::blocks::WORK_WORDS;
+use walk::blocks::work_words;
 ghost use mathlib.Core.Path.{_≡_};
 ghost use Prim.Native.Nat.{_*_, _/_, _≤_};
 ghost use lib.ListN.{length};
@@ -11,6 +13,7 @@ ghost use Rattle.format.specs.Front.{paddedBytes, CReply};
 ghost use Rattle.format.specs.Report.{cReport};
 ghost use Rattle.front.specs.Few.{fewBlocks};
 ghost use Rattle.front_report.specs.With.{wordsOf, ReportsWith};
+ghost use Rattle.walk.specs.Lent.{workWords};
 
 // The words of the reply: answer, block count, place, the four words of the damaged block, the block met.
 const REPLY_WORDS: usize = 8;
@@ -44,7 +47,7 @@ fn report_with(
     reply: &mut [u8],
     room: usize,
 ) -> u32
-    requires { ⌜ 4 * room ≤ length (now list) ⌝ }
+    requires { ⌜ workWords room ≤ length (now list) ⌝ }
     requires { ⌜ 4 * room ≤ length (now blocks) / 8 ⌝ }
     requires { ⌜ 8 ≤ length (now reply) / 8 ⌝ }
     ensures { λ r. ⌜ ReportsWith (now (image .entry)) (length (now (blocks .entry))) (length (now (reply .entry))) room
@@ -53,7 +56,7 @@ fn report_with(
     let mut addresses = [0u64; OBJECTS_MOST];
     let mut stored = [0u32; OBJECTS_MOST];
     let mut true_counts = [0u32; OBJECTS_MOST];
-    let n = 4 * room;
+    let n = work_words(room);
     let r = report::report_into(
         image,
         &mut list[..n],
@@ -75,7 +78,7 @@ fn report_few(image: &[u8], blocks: &mut [u8], reply: &mut [u8], room: usize) ->
     ensures { λ r. ⌜ ReportsWith (now (image .entry)) (length (now (blocks .entry))) (length (now (reply .entry))) room
         (record { answer = r; list = now (blocks .exit); reply = now (reply .exit) }) ⌝ }
 {
-    let mut list = [0u64; 4 * FEW_BLOCKS];
+    let mut list = [0u64; FEW_WORDS];
     report_with(image, &mut list, blocks, reply, room)
 }
 
@@ -86,7 +89,7 @@ fn report_all(image: &[u8], blocks: &mut [u8], reply: &mut [u8], room: usize) ->
     ensures { λ r. ⌜ ReportsWith (now (image .entry)) (length (now (blocks .entry))) (length (now (reply .entry))) room
         (record { answer = r; list = now (blocks .exit); reply = now (reply .exit) }) ⌝ }
 {
-    let mut list = [0u64; 4 * BLOCKS_MOST];
+    let mut list = [0u64; WORK_WORDS];
     report_with(image, &mut list, blocks, reply, room)
 }
 

@@ -43,7 +43,7 @@ module _ {S : Type 0} (visit : Message → S → Result S) (im : List ℕ) (eof 
   header-outside h = outside h at-start
 
   module _ (size : ℕ) (n : Number im (at + 8) 4 size) (h : at + 16 ≤ length im) (k : at + 16 ≤ eof) (ws₁ : List ℕ)
-      (q : ws₁ ≡ entered (entryAnswer eof room (blocksOf count ws) at (16 + size)) ws count 2 at (16 + size)) where
+      (q : entered (entryAnswer eof room (blocksOf count ws) at (16 + size)) ws count 2 at (16 + size) ws₁) where
     pub header-refused : (x : Refusal) → Refused x ≡ entering (entryAnswer eof room (blocksOf count ws) at (16 + size)) 2 at (16 + size) (blocksOf count ws)
         count →
         Walked ws ws₁ (stopped x) (run im eof room (headerMessages visit at found) (blocksOf count ws))

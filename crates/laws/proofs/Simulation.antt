@@ -4,20 +4,21 @@ use mathlib.Core.Bool.{Bool, true, false}
 use mathlib.Core.List.{List, [], _∷_, _++_}
 use Prim.Native.Nat.{ℕ, suc, _+_, _*_, _≤_, _<_}
 use native.Mathlib.Omega.{arith}
-use lib.ListN.{length, getD, length-append, length-set}
+use lib.ListN.{length, getD, length-append}
 use borrow.Author.Tests.{lt-leb}
 use Rattle.format.specs.Bytes.{if_then_else_, part}
 use Rattle.format.specs.Blocks.{Block, blockOf, noObject, overlapsAny, entryAnswer}
 use Rattle.format.specs.declared.Refusal.{Refusal}
 use Rattle.format.specs.Walk.{Kind, kindNumber, notEntered, shown, Length, stored, lengthIn, knownLength, Walk, ret, refuse}
 use Rattle.format.specs.Walk.{enter, enterBlock, check, _>>=_, _>>_, Outcome, done, refused, ifEntered, run, andThen}
-use Rattle.walk.specs.Lent.{blocksOf, Lent, Ended, ended, stopped, left, Walked, appended, entering, entered, entryEnd}
+use Rattle.block_index.specs.Index.{firstFrom}
+use Rattle.walk.specs.Lent.{blocksOf, Lent, Ended, ended, stopped, left, Walked, Added, entering, entered, entryEnd}
 use Rattle.walk.specs.declared.blocks.Entry.{Entry}
 use Rattle.walk.specs.declared.blocks.Entry.the-variants.{Entered, Refused}
 use Rattle.laws.proofs.Bind.{run-bind}
 use Rattle.laws.proofs.Growth.{Grown, unchanged, grown-on, run-grown}
 use Rattle.walk.proofs.BlockList.{length-blocksOf, words-blocks, entered-zero, refused-suc, entryAnswer-zero, entryAnswer-outside}
-use Rattle.walk.proofs.Owners.{four-other, appended-blocks, appended-lent}
+use Rattle.walk.proofs.Owners.{added-blocks, added-lent, added-rest}
 
 -- The walk w₀, begun with n₀ blocks in the list ws₀, has come to w, with n blocks in ws.
 pub record Simulation (im : List ℕ) (eof room : ℕ) {A : Type 0} (w₀ : Walk A) (n₀ : ℕ) (ws₀ : List ℕ) (w : Walk A) (n : ℕ) (ws : List ℕ) : Type 0 where
@@ -26,7 +27,7 @@ pub record Simulation (im : List ℕ) (eof room : ℕ) {A : Type 0} (w₀ : Walk
   pub grown : n₀ ≤ n
   pub blocks : Grown eof room (blocksOf n₀ ws₀) (blocksOf n ws)
   pub sameRun : run im eof room w₀ (blocksOf n₀ ws₀) ≡ run im eof room w (blocksOf n ws)
-  pub rest : (k : ℕ) → 4 * n ≤ k → getD ws k 0 ≡ getD ws₀ k 0
+  pub rest : (k : ℕ) → 4 * n ≤ k → k < firstFrom (length ws₀) → getD ws k 0 ≡ getD ws₀ k 0
 
 pub start : (im : List ℕ) (eof room : ℕ) {A : Type 0} (w : Walk A) (n : ℕ) (ws : List ℕ) → Lent ws n room → Simulation im eof room w n ws w n ws
 start im eof room w n ws l = record {
@@ -35,7 +36,7 @@ start im eof room w n ws l = record {
   grown = omega arith;
   blocks = unchanged eof room (blocksOf n ws) (rw length-blocksOf (l .counted));
   sameRun = refl;
-  rest = λ k h. refl;
+  rest = λ k h u. refl;
 }
 
 -- a function that returned a value and a count: the outcome is that value with the blocks that the list holds
@@ -55,7 +56,7 @@ walked-refused ws ws′ r (refused q bs) w = let e : q ≡ r = cc (w .answer) in
 walked-stopped : {A B : Type 0} (ws ws′ : List ℕ) (r : Refusal) (o : Outcome A) (f : A → List Block → Outcome B) → Walked ws ws′ (stopped r) o →
     Walked ws ws′ (stopped r) (andThen o f)
 walked-stopped ws ws′ r (done b bs) f w = let z : _≡_ {A = ℕ} 0 1 = cc (w .answer) in absurd (omega arith)
-walked-stopped ws ws′ r (refused q bs) f w = let e : r ≡ q = cc (w .answer) in record { answer = ap stopped e; held = w .held; rest = w .rest }
+walked-stopped ws ws′ r (refused q bs) f w = let e : r ≡ q = cc (w .answer) in record { answer = ap stopped e; held = w .held; rest = w .rest; indexed = w .indexed }
 
 -- one stretch of the walk behind another
 pub come-from : {im : List ℕ} {eof room : ℕ} {A : Type 0} {w₀ w₁ w₂ : Walk A} {n₀ n₁ n₂ : ℕ} {ws₀ ws₁ ws₂ : List ℕ} →
@@ -66,12 +67,12 @@ come-from s u = record {
   grown = omega (arith, s .grown, u .grown);
   blocks = grown-on (s .blocks) (u .blocks);
   sameRun = s .sameRun ∙ u .sameRun;
-  rest = λ k h. u .rest k h ∙ s .rest k (omega (arith, u .grown));
+  rest = λ k h f. u .rest k h (rw (s .sameLength) f) ∙ s .rest k (omega (arith, u .grown)) f;
 }
 
 -- the function `enter`, where it entered a block of m bytes
 module _ (eof room : ℕ) (v : Kind) (a m n : ℕ) (ws ws₁ : List ℕ) (l : Lent ws n room)
-    (q : ws₁ ≡ entered (entryAnswer eof room (blocksOf n ws) a m) ws n (kindNumber v) a m) (c : ℕ)
+    (q : entered (entryAnswer eof room (blocksOf n ws) a m) ws n (kindNumber v) a m ws₁) (c : ℕ)
     (p : Entered c ≡ entering (entryAnswer eof room (blocksOf n ws) a m) (kindNumber v) a m (blocksOf n ws) n) where
   zero-answer : (entryAnswer eof room (blocksOf n ws) a m ≡ 0) × (c ≡ n + 1)
   zero-answer = entered-zero (kindNumber v) a m (blocksOf n ws) (entryAnswer eof room (blocksOf n ws) a m) n c p
@@ -83,8 +84,8 @@ module _ (eof room : ℕ) (v : Kind) (a m n : ℕ) (ws ws₁ : List ℕ) (l : Le
   pub entered-blocks : blocksOf c ws₁ ≡ blocksOf n ws ++ (blockOf (kindNumber v) a m ∷ [])
   entered-blocks =
       let y : n < room = rw length-blocksOf at (allowed .2) in
-      let w : ws₁ ≡ appended ws n (kindNumber v) a m = rw (zero-answer .0) at q in
-      rw (w, zero-answer .1) (appended-blocks ws n room (kindNumber v) a m l y)
+      let w : Added ws n (kindNumber v) a m ws₁ = rw (zero-answer .0) at q in
+      rw (zero-answer .1) (added-blocks ws ws₁ n room (kindNumber v) a m l y w)
 
   pub entered-grown : Grown eof room (blocksOf n ws) (blocksOf c ws₁)
   entered-grown =
@@ -115,12 +116,13 @@ module _ {im : List ℕ} {eof room : ℕ} {A : Type 0} {w₀ : Walk A} {n₀ : �
   returned {a} s = rw (s .sameRun) (record {
     answer = ap (ended a) (sym (length-blocksOf n ws));
     held = rw length-blocksOf (s .lent .numbered);
-    rest = λ k h. s .rest k (rw length-blocksOf at h);
+    rest = λ k h f. s .rest k (rw length-blocksOf at h) f;
+    indexed = rw length-blocksOf (s .lent .indexed);
   })
 
   pub refusal : {r : Refusal} → Simulation im eof room w₀ n₀ ws₀ (refuse r) n ws → Walked ws₀ ws (stopped r) (run im eof room w₀ (blocksOf n₀ ws₀))
   unfolding run
-  refusal s = rw (s .sameRun) (record { answer = refl; held = rw length-blocksOf (s .lent .numbered); rest = λ k h. s .rest k (rw length-blocksOf at h) })
+  refusal s = rw (s .sameRun) (record { answer = refl; held = rw length-blocksOf (s .lent .numbered); rest = λ k h f. s .rest k (rw length-blocksOf at h) f; indexed = rw length-blocksOf (s .lent .indexed) })
 
   -- a test that passed, and one that failed
   pub passed : (t : Bool) (r : Refusal) (f : Unit {0} → Walk A) → t ≡ true → Simulation im eof room w₀ n₀ ws₀ (check t r >>= f) n ws →
@@ -156,11 +158,11 @@ module _ {im : List ℕ} {eof room : ℕ} {A : Type 0} {w₀ : Walk A} {n₀ : �
   outside {v} {a} {p} {rest} {k} h s =
       let e : run im eof room w₀ (blocksOf n₀ ws₀) ≡ refused (notEntered 5 (kindNumber v) a p []) (blocksOf n ws) =
       s .sameRun ∙ rw (entryAnswer-outside eof room (blocksOf n ws) a (lengthIn im v a (stored p rest)) (omega arith), lt-leb (a + p) eof h) in
-      rw e (record { answer = refl; held = rw length-blocksOf (s .lent .numbered); rest = λ k h. s .rest k (rw length-blocksOf at h) })
+      rw e (record { answer = refl; held = rw length-blocksOf (s .lent .numbered); rest = λ k h f. s .rest k (rw length-blocksOf at h) f; indexed = rw length-blocksOf (s .lent .indexed) })
 
   -- the function `enter`, called for a block of m bytes
   module _ {v : Kind} {a : ℕ} {l : Length} {k : List ℕ → Walk A} (m : ℕ) (sized : m ≡ lengthIn im v a l) (known : knownLength im eof v a l ≡ m) (ws₁ : List ℕ)
-      (s : Simulation im eof room w₀ n₀ ws₀ (enter v a l k) n ws) (q : ws₁ ≡ entered (entryAnswer eof room (blocksOf n ws) a m) ws n (kindNumber v) a m) where
+      (s : Simulation im eof room w₀ n₀ ws₀ (enter v a l k) n ws) (q : entered (entryAnswer eof room (blocksOf n ws) a m) ws n (kindNumber v) a m ws₁) where
     abbrev answer : ℕ
     answer = entryAnswer eof room (blocksOf n ws) a m
 
@@ -173,16 +175,16 @@ module _ {im : List ℕ} {eof room : ℕ} {A : Type 0} {w₀ : Walk A} {n₀ : �
     block-entered c p =
         let z = entered-zero (kindNumber v) a m (blocksOf n ws) answer n c p in
         let y : n < room = rw length-blocksOf at (entryAnswer-zero eof room (blocksOf n ws) a m (z .0) .2) in
-        let w : ws₁ ≡ appended ws n (kindNumber v) a m = rw (z .0) at q in
+        let w : Added ws n (kindNumber v) a m ws₁ = rw (z .0) at q in
         let b = entered-blocks eof room v a m n ws ws₁ (s .lent) q c p in
         record {
-          lent = rw (w, z .1) (appended-lent ws n room (kindNumber v) a m (s .lent) y);
-          sameLength = rw w (simp length-set (s .sameLength));
+          lent = rw (z .1) (added-lent ws ws₁ n room (kindNumber v) a m (s .lent) y w);
+          sameLength = w .long ∙ s .sameLength;
           grown = omega (arith, s .grown, z .1);
           blocks = grown-on (s .blocks) (entered-grown eof room v a m n ws ws₁ (s .lent) q c p);
           sameRun = s .sameRun ∙ rw (← sized, z .0, b);
-          rest = λ i h.
-              rw w (four-other ws (4 * n) i a m (kindNumber v) _ (omega (arith, z .1)) ∙ s .rest i (omega (arith, z .1)));
+          rest = λ i h f.
+              added-rest ws ws₁ n room (kindNumber v) a m (s .lent) y w i (omega (arith, z .1)) (rw (s .sameLength) f) ∙ s .rest i (omega (arith, z .1)) f;
         }
 
     pub block-refused : (r : Refusal) → Refused r ≡ entering answer (kindNumber v) a m (blocksOf n ws) n →
@@ -199,7 +201,8 @@ module _ {im : List ℕ} {eof room : ℕ} {A : Type 0} {w₀ : Walk A} {n₀ : �
         rw (e, w) (record {
           answer = ap stopped (z .2 ∙ ap (λ (y : ℕ). notEntered (suc (z .0)) (kindNumber v) a y (blocksOf n ws)) (sym known));
           held = rw length-blocksOf (s .lent .numbered);
-          rest = λ k h. s .rest k (rw length-blocksOf at h);
+          rest = λ k h f. s .rest k (rw length-blocksOf at h) f;
+          indexed = rw length-blocksOf (s .lent .indexed);
         })
 
   -- a callee that walks w and leaves the list ws₁
@@ -210,7 +213,7 @@ module _ {im : List ℕ} {eof room : ℕ} {A : Type 0} {w₀ : Walk A} {n₀ : �
     callee-last {w} {r} s h =
         let d = run-grown im eof room w (blocksOf n ws) (rw length-blocksOf (s .lent .counted)) in
         let m : n ≤ length (left (run im eof room w (blocksOf n ws))) = omega (arith, simp (length-append, length-blocksOf) at (ap length (d .all))) in
-        rw (s .sameRun) (record { answer = h .answer; held = h .held; rest = λ i b. h .rest i b ∙ s .rest i (omega (arith, m)) })
+        rw (s .sameRun) (record { answer = h .answer; held = h .held; rest = λ i b f. h .rest i b (rw (s .sameLength) f) ∙ s .rest i (omega (arith, m)) f; indexed = h .indexed })
 
     module _ {B : Type 0} (w : Walk B) (f : B → Walk A) (s : Simulation im eof room w₀ n₀ ws₀ (w >>= f) n ws) where
       -- it stopped, and so does the function
@@ -227,18 +230,18 @@ module _ {im : List ℕ} {eof room : ℕ} {A : Type 0} {w₀ : Walk A} {n₀ : �
           let m : length (left (run im eof room w (blocksOf n ws))) ≡ c = rw o (length-blocksOf c ws₁) in
           let m2 : n ≤ length (left (run im eof room w (blocksOf n ws))) = omega (arith, simp (length-append, length-blocksOf) at (ap length (d .all))) in
           record {
-            lent = record { counted = omega (arith, d .fits, m); lent = omega (arith, s .lent .lent, e); numbered = rw (o, length-blocksOf) at (h .held) };
+            lent = record { counted = omega (arith, d .fits, m); lent = omega (arith, s .lent .lent, e); numbered = rw (o, length-blocksOf) at (h .held); indexed = rw (o, length-blocksOf) at (h .indexed) };
             sameLength = e ∙ s .sameLength;
             grown = omega (arith, m, m2, s .grown);
             blocks = grown-on (s .blocks) (rw o at d);
             sameRun = s .sameRun ∙ run-bind im eof room w f (blocksOf n ws) ∙ rw o;
-            rest = λ i k. h .rest i (omega (arith, m)) ∙ s .rest i (omega (arith, m, m2));
+            rest = λ i k f. h .rest i (omega (arith, m)) (rw (s .sameLength) f) ∙ s .rest i (omega (arith, m, m2)) f;
           }
 
 -- a function that only enters a block of m bytes
 pub one-block : (im : List ℕ) (eof room : ℕ) (v : Kind) (a m n : ℕ) (ws ws₁ : List ℕ) (r : Entry) → Lent ws n room →
     r ≡ entering (entryAnswer eof room (blocksOf n ws) a m) (kindNumber v) a m (blocksOf n ws) n →
-    ws₁ ≡ entered (entryAnswer eof room (blocksOf n ws) a m) ws n (kindNumber v) a m →
+    entered (entryAnswer eof room (blocksOf n ws) a m) ws n (kindNumber v) a m ws₁ →
     Walked ws ws₁ (entryEnd r) (run im eof room (enterBlock v a m >> ret tt) (blocksOf n ws))
 unfolding _>>=_
 one-block im eof room v a m n ws ws₁ (Entered c) l e q = returned (block-entered m refl refl ws₁ (start im eof room (enterBlock v a m >> ret tt) n ws l) q c e)

@@ -4,7 +4,7 @@ use mathlib.Core.List.{List, []}
 use mathlib.Core.Path.{_≡_}
 use lib.ListN.{replicate}
 use Rattle.format.specs.Blocks.{roomOf}
-use Rattle.format.specs.Walk.{Outcome, done}
+use Rattle.format.specs.Walk.{done}
 use Rattle.format.specs.Lookup.{follow, locateWalk}
 use Rattle.format.specs.Answers.{LookupReply, lookupEnd}
 use Rattle.superblock.specs.Superblock.{superblockOf}

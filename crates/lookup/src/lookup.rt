@@ -11,9 +11,12 @@ use last_object::Kind;
 use superblock::Opening;
 use superblock::Superblock;
 use walk::blocks;
+use walk::blocks::WORK_WORDS;
 ghost use mathlib.Core.Path.{_≡_};
-ghost use Prim.Native.Nat.{_≤_};
+ghost use Prim.Native.Nat.{ℕ, _≤_};
 ghost use lib.ListN.{length, replicate};
+ghost use Rattle.format.specs.Blocks.{roomOf};
+ghost use Rattle.walk.specs.Lent.{placesOf};
 ghost use Rattle.format.specs.Walk.{answerOf, metOf};
 ghost use Rattle.format.specs.Answers.{lookup as lookupReply};
 ghost use Rattle.object.specs.Object.{Bounded};
@@ -45,7 +48,8 @@ fn refused(refusal: Refusal) -> Located
 fn locate(image: &[u8], path: &[u8], list: &mut [u64], superblock: Superblock) -> Located
     requires { ⌜ Bounded (now image) superblock ⌝ }
     requires { ⌜ 1 ≤ length (now path) ⌝ }
-    ensures { λ r. ⌜ LocatedIs (now (image .entry)) (now (path .entry)) (length (now (list .entry))) superblock r ⌝ }
+    ensures { λ r. ⌜ ((lent : ℕ) → roomOf lent ≡ placesOf (length (now (list .entry))) →
+        LocatedIs (now (image .entry)) (now (path .entry)) lent superblock r) ⌝ }
 {
     match follow::find_object(image, path, list, superblock) {
         Target::Stopped(x) => refused(x),
@@ -56,7 +60,7 @@ fn locate(image: &[u8], path: &[u8], list: &mut [u64], superblock: Superblock) -
             address: 0,
         },
         Target::Object(a) => {
-            let room = blocks::room(list.len());
+            let room = blocks::places(list.len());
             match last_object::kind_at(image, list, superblock, room, a) {
                 Kind::Stopped(x) => refused(x),
                 Kind::Known(k) => Located {
@@ -70,27 +74,27 @@ fn locate(image: &[u8], path: &[u8], list: &mut [u64], superblock: Superblock) -
     }
 }
 
-// The reply, with the list all zeros.
-fn finish(list: &mut [u64], located: Located) -> Located
-    ensures { λ r. ⌜ r ≡ located ⌝ }
-    ensures { λ _. ⌜ now (list .exit) ≡ replicate (length (now (list .entry))) 0 ⌝ }
+// Looks a path up in a working list, which still holds the blocks of the last walk at the end.
+pub fn lookup_in(image: &[u8], path: &[u8], list: &mut [u64]) -> Located
+    ensures { λ r. ⌜ ((lent : ℕ) → roomOf lent ≡ placesOf (length (now (list .entry))) → replyOf (replicate lent 0) r ≡
+        lookupReply (now (image .entry)) (now (path .entry)) lent) ⌝ }
 {
-    blocks::clear_from(list, 0);
-    located
+    if !path::is_sound(path) {
+        return refused(Refusal::Fault(answers::BAD_PATH, NO_PLACE));
+    }
+    match superblock::open(image) {
+        Opening::NotOpened(x) => refused(Refusal::Fault(x, 0)),
+        Opening::Opened(s) => locate(image, path, list, s),
+    }
 }
 
 // Looks a path up. The list is lent for the blocks of each walk and is all zeros at the end.
 pub fn lookup(image: &[u8], path: &[u8], list: &mut [u64]) -> Located
     ensures { λ r. ⌜ replyOf (now (list .exit)) r ≡ lookupReply (now (image .entry)) (now (path .entry)) (length (now (list .entry))) ⌝ }
 {
-    if !path::is_sound(path) {
-        return finish(list, refused(Refusal::Fault(answers::BAD_PATH, NO_PLACE)));
-    }
-    match superblock::open(image) {
-        Opening::NotOpened(x) => finish(list, refused(Refusal::Fault(x, 0))),
-        Opening::Opened(s) => {
-            let r = locate(image, path, list, s);
-            finish(list, r)
-        }
-    }
+    let mut work = [0u64; WORK_WORDS];
+    let n = blocks::work_words(blocks::room(list.len()));
+    let r = lookup_in(image, path, &mut work[..n]);
+    blocks::clear_from(list, 0);
+    r
 }

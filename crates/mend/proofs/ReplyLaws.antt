@@ -11,12 +11,13 @@ use Rattle.format.specs.Log.{Change, logWords, changes, written}
 use Rattle.format.specs.Mend.{corrections}
 use Rattle.format.specs.Answers.{AuditReply, audit, mend, mendAfter, mendedBy, notMended}
 use Rattle.ledger.specs.Report.{countedOf}
+use Rattle.walk.specs.Lent.{handed}
 use Rattle.audit.specs.Audit.{AuditIs}
 use Rattle.audit.specs.declared.Reply.{Reply}
+use Rattle.walk.proofs.Handed.{handed-none}
 use Rattle.undo_log.specs.Entries.{WrongCounts, NewsFit}
 use Rattle.undo_log.proofs.WrittenLaws.{changes-written}
 use Rattle.mend.specs.Mended.{refusedWith, replyOf, MendIs}
-use Rattle.mend.specs.declared.Mended.{Mended}
 
 -- What mending gives after an audit with this reply.
 module _ (im : List ℕ) (lent logLent n : ℕ) (a : AuditReply) where
@@ -35,9 +36,10 @@ module _ (im : List ℕ) (lent logLent n : ℕ) (a : AuditReply) where
       mendAfter im lent logLent n m a ≡ mendedBy im logLent a (corrections (a .objects)) (min n (length (corrections (a .objects))))
   after-done m z h = rw (z, le-leb (2 * length (corrections (a .objects))) logLent h)
 
-refused-is : (im : List ℕ) (lent logLent m met : ℕ) (list log : List ℕ) (r : Mended) → r ≡ refusedWith m met → list ≡ replicate lent 0 →
-    log ≡ replicate logLent 0 → replyOf list log im r ≡ notMended im lent logLent m met
-refused-is im lent logLent m met list log r e f g = rw (e, f, g)
+-- whatever the working list has, none of it is handed over with a refusal
+refused-is : (im : List ℕ) (lent logLent m met : ℕ) (list log : List ℕ) → log ≡ replicate logLent 0 →
+    replyOf (handed lent 0 list) log im (refusedWith m met) ≡ notMended im lent logLent m met
+refused-is im lent logLent m met list log e = rw (handed-none lent list, e)
 
 -- The reply, by what the audit gave.
 module _ (im : List ℕ) (lent logLent n : ℕ) (ws : List ℕ) (a : Reply) (is : AuditIs im lent ws a) where
@@ -47,10 +49,10 @@ module _ (im : List ℕ) (lent logLent n : ℕ) (ws : List ℕ) (a : Reply) (is 
   abbrev wrongs : List Change
   wrongs = corrections (countedOf (a .ledger))
 
-  pub audit-refused : (a .number ≡ 0 → ⊥) → (list log : List ℕ) (r : Mended) → r ≡ refusedWith (a .number) (a .met) → list ≡ replicate lent 0 →
-      log ≡ replicate logLent 0 → MendIs im lent logLent n list log im r
-  audit-refused h list log r e f g = record {
-    reply = refused-is im lent logLent (a .number) (a .met) list log r e f g
+  pub audit-refused : (a .number ≡ 0 → ⊥) → (list log : List ℕ) → log ≡ replicate logLent 0 →
+      MendIs im lent logLent n (handed lent 0 list) log im (refusedWith (a .number) (a .met))
+  audit-refused h list log e = record {
+    reply = refused-is im lent logLent (a .number) (a .met) list log e
         ∙ sym (after-refused im lent logLent n audited (a .number) h) ∙ after-is im lent logLent n audited (is .reply);
     most = λ z. absurd (h (ap (λ (p : AuditReply). p .number) (is .reply) ∙ z));
   }
@@ -60,10 +62,10 @@ module _ (im : List ℕ) (lent logLent n : ℕ) (ws : List ℕ) (a : Reply) (is 
     entries-most : length (corrections (audit im lent .objects)) ≤ objectsMost
     entries-most = omega (arith, ap (λ (p : AuditReply). length (corrections (p .objects))) (is .reply), is .fits)
 
-    pub log-short : a .number ≡ 0 → logLent < 2 * e → (list log : List ℕ) (r : Mended) → r ≡ refusedWith 18 0 → list ≡ replicate lent 0 →
-        log ≡ replicate logLent 0 → MendIs im lent logLent n list log im r
-    log-short z h list log r p f g = record {
-      reply = refused-is im lent logLent 18 0 list log r p f g
+    pub log-short : a .number ≡ 0 → logLent < 2 * e → (list log : List ℕ) → log ≡ replicate logLent 0 →
+        MendIs im lent logLent n (handed lent 0 list) log im (refusedWith 18 0)
+    log-short z h list log f = record {
+      reply = refused-is im lent logLent 18 0 list log f
           ∙ sym (after-short im lent logLent n audited (a .number) z (omega arith)) ∙ after-is im lent logLent n audited (is .reply);
       most = λ _. entries-most;
     }

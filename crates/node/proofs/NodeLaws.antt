@@ -32,7 +32,7 @@ module _ (im : List ℕ) (eof room : ℕ) (ws : List ℕ) (count at k : ℕ) (l 
   begun : Simulation im eof room (nodeWalk k at) count ws (nodeWalk k at) count ws
   begun = start im eof room (nodeWalk k at) count ws l
 
-  module _ (ws₁ : List ℕ) (q : ws₁ ≡ entered (entryAnswer eof room (blocksOf count ws) at size) ws count 6 at size) where
+  module _ (ws₁ : List ℕ) (q : entered (entryAnswer eof room (blocksOf count ws) at size) ws count 6 at size ws₁) where
     pub node-refused : (x : Refusal) → Refused x ≡ entering (entryAnswer eof room (blocksOf count ws) at size) 6 at size (blocksOf count ws) count →
         Walked ws ws₁ (stopped x) (run im eof room (nodeWalk k at) (blocksOf count ws))
     unfolding nodeWalk _>>=_

@@ -5,7 +5,6 @@ use mathlib.Core.List.{List}
 use mathlib.Core.Path.{_≡_, refl, ap, sym, _∙_}
 use native.Mathlib.Omega.{arith}
 use lib.ListN.{length}
-use Rattle.format.specs.Blocks.{roomOf}
 use Rattle.format.specs.declared.Refusal.{Refusal}
 use Rattle.format.specs.Result.{Result, value, answer}
 use Rattle.format.specs.Walk.{Walk, ret, refuse, fault, located, _>>=_, _>>_, Outcome, done, refused, run}
@@ -18,8 +17,8 @@ use Rattle.format.specs.Ledger.{Linked, discover}
 use Rattle.format.specs.Lookup as lookup
 use Rattle.format.specs.Sharing.{Found, shareEach, sharedBy, known, notCommitted}
 use Rattle.format.specs.Object.{sharingDataset, contentWalk, objectWalk}
-use Rattle.walk.specs.Lent.{blocksOf, Lent, Ended, ended, stopped, Walked}
-use Rattle.walk.proofs.BlockList.{room-most, lent-none}
+use Rattle.walk.specs.Lent.{blocksOf, placesOf, Lent, Ended, ended, stopped, Walked}
+use Rattle.walk.proofs.BlockList.{places-most, lent-none}
 use Rattle.laws.proofs.Growth.{Grown}
 use Rattle.laws.proofs.SumOfLengths.{grown-apart, grown-inside, grown-lengths}
 use Rattle.laws.proofs.Follows.{Ran}
@@ -41,11 +40,11 @@ use Rattle.object.specs.declared.object.ObjectRead.{ObjectRead}
 use Rattle.object.specs.declared.object.ObjectRead.the-variants.{Done, Stopped}
 
 -- an image that was opened, with the room that a list of so many words gives
-pub opened : (im : List ℕ) (s : superblocks.Superblock) (room lent : ℕ) → room ≡ roomOf lent → Bounded im s → Opened im s room
-opened im s room lent is b = record { file = b .2; small = b .3; most = rw is (room-most lent); leaf = b .0; internal = b .1 }
+pub opened : (im : List ℕ) (s : superblocks.Superblock) (room lent : ℕ) → room ≡ placesOf lent → Bounded im s → Opened im s room
+opened im s room lent is b = record { file = b .2; small = b .3; most = rw is (places-most lent); leaf = b .0; internal = b .1 }
 
 -- the whole list is lent, with no block entered
-pub room-lent : (ws : List ℕ) (room : ℕ) → room ≡ roomOf (length ws) → Lent ws 0 room
+pub room-lent : (ws : List ℕ) (room : ℕ) → room ≡ placesOf (length ws) → Lent ws 0 room
 room-lent ws room is = rw is (lent-none ws)
 
 -- What lists keep: with more blocks, with other marks, with a link more, with less to spare.
@@ -148,7 +147,7 @@ audit-ended ws ws′ addresses counts l (steps.the-variants.Done s) (done x bs) 
     let e : bothOf addresses counts (s .objects) (s .link) ≡ n .0 = cc (u .answer) in
     let f : s .count ≡ length bs = cc (u .answer) in
     let g : linkedOf (s .objects) addresses counts ≡ x = ap (λ (b : Both). b .ledger) (e ∙ n .2 .1) in
-    record { answer = rw (f, g) refl; held = u .held; rest = u .rest }
+    record { answer = rw (f, g) refl; held = u .held; rest = u .rest; indexed = u .indexed }
 audit-ended ws ws′ addresses counts l (steps.the-variants.Stopped m) (done x bs) o′ n w =
     let u : Walked ws ws′ (stopped m) (done (n .0) bs) = rw (n .1) at w in
     let z : _≡_ {A = ℕ} 0 1 = cc (u .answer) in
@@ -160,7 +159,7 @@ audit-ended ws ws′ addresses counts l (steps.the-variants.Done s) (refused m b
 audit-ended ws ws′ addresses counts l (steps.the-variants.Stopped k) (refused m bs) o′ n w =
     let u : Walked ws ws′ (stopped k) (refused m bs) = rw n at w in
     let e : k ≡ m = cc (u .answer) in
-    record { answer = ap stopped e; held = u .held; rest = u .rest }
+    record { answer = ap stopped e; held = u .held; rest = u .rest; indexed = u .indexed }
 
 module _ (im : List ℕ) (s : superblocks.Superblock) (room : ℕ) (ws addresses counts marks : List ℕ) (count objects : ℕ) where
   abbrev eof : ℕ

@@ -15,6 +15,11 @@ use Rattle.report.specs.declared.Reply.{Reply}
 abbrev withLedger : Reported → Ledger → Reply
 withLedger r l = record { answer = r .answer; «block_count» = r .«block_count»; place = r .place; block = r .block; met = r .met; ledger = l }
 
+-- the list handed over is the one of which the report is known
+pub same-list : (im : List ℕ) (lent : ℕ) (ws ws′ addresses stored counts : List ℕ) (r : Reported) → ws′ ≡ ws →
+    ReportedIs im lent ws addresses stored counts r → ReportedIs im lent ws′ addresses stored counts r
+same-list im lent ws ws′ addresses stored counts r e h = rw e h
+
 module _ (im : List ℕ) (lent : ℕ) (ws addresses stored counts : List ℕ) (r : Reported) (h : ReportedIs im lent ws addresses stored counts r) where
   pub empty-reply : (l : Ledger) → r .objects ≡ 0 → Empty l → ReportIs im lent ws (withLedger r l)
   unfolding countedPlaces

@@ -1,11 +1,11 @@
 -- From the walk of an image, in a list that was filled before it, to the report.
-use Prim.Native.Nat.{ℕ, _-_, _*_, _≤_}
-use mathlib.Core.List.{List, [], _++_}
+use Prim.Native.Nat.{ℕ, _*_, _≤_}
+use mathlib.Core.List.{List, []}
 use mathlib.Core.Path.{_≡_, refl, ap, sym, _∙_}
 use native.Mathlib.Omega.{arith}
 use lib.ListN.{length, take, replicate}
 use Rattle.format.specs.Limits.{objectsMost}
-use Rattle.format.specs.Bytes.{undefinedAddress}
+use Rattle.format.specs.Bytes.{undefinedAddress, padded}
 use Rattle.format.specs.Blocks.{Block, noObject, blockWords, blockList, roomOf}
 use Rattle.format.specs.declared.Refusal.{Refusal}
 use Rattle.format.specs.Walk.{Outcome, done, refused, run}
@@ -13,7 +13,7 @@ use Rattle.format.specs.Superblock.{opened, notOpened, openImage}
 use Rattle.format.specs.Ledger.{Linked}
 use Rattle.format.specs.Audit.{auditWalk}
 use Rattle.format.specs.Report.{noBlock, report}
-use Rattle.walk.specs.Lent.{blocksOf, stopped, Walked}
+use Rattle.walk.specs.Lent.{blocksOf, placesOf, handed, stopped, Walked}
 use Rattle.walk.proofs.BlockList.{lent-none, length-blocksOf, words-blocks}
 use Rattle.laws.proofs.Growth.{Grown, run-grown}
 use Rattle.laws.proofs.Simulation.{walked-refused}
@@ -46,28 +46,34 @@ no-objects r f ws addresses stored counts e z =
     }
 
 -- the image can't be opened
-pub unopened-is : (im : List ℕ) (lent n : ℕ) (r : Reported) (ws addresses stored counts : List ℕ) → notOpened n ≡ openImage im → fieldsOf r ≡ unopenedFields n →
-    ws ≡ replicate lent 0 → ReportedIs im lent ws addresses stored counts r
+pub unopened-is : (im : List ℕ) (n : ℕ) (r : Reported) → notOpened n ≡ openImage im → fieldsOf r ≡ unopenedFields n →
+    (lent : ℕ) (ws addresses stored counts : List ℕ) → ReportedIs im lent (handed lent (r .«block_count») ws) addresses stored counts r
 unfolding report countedPlaces blockWords
-unopened-is im lent n r ws addresses stored counts o e z =
-    let whole : lent - 0 ≡ lent = omega arith in
-    let list : ws ≡ blockList lent [] = rw whole z in
-    rw (← o, ← list) (no-objects r (unopenedFields n) ws addresses stored counts e refl)
+unopened-is im n r o e lent ws addresses stored counts =
+    let none : r .«block_count» ≡ 0 = ap (λ (f : Fields). f .blockCount) e in
+    let list : handed lent (r .«block_count») ws ≡ blockList lent [] = rw none refl in
+    rw (← o, ← list) (no-objects r (unopenedFields n) (handed lent (r .«block_count») ws) addresses stored counts e refl)
 
--- the image can be opened
-pub opened-is : (im : List ℕ) (lent : ℕ) (s : Superblock) (r : Reported) (ws addresses stored counts : List ℕ) → opened (superblockOf s) ≡ openImage im →
-    ReportedOpened im lent s ws addresses stored counts r → ReportedIs im lent ws addresses stored counts r
+-- the image can be opened, and the words lent have room for as many blocks
+pub opened-is : (im : List ℕ) (room lent : ℕ) (s : Superblock) (r : Reported) (ws addresses stored counts : List ℕ) →
+    opened (superblockOf s) ≡ openImage im → roomOf lent ≡ room → ReportedOpened im room lent s ws addresses stored counts r →
+    ReportedIs im lent ws addresses stored counts r
 unfolding report
-opened-is im lent s r ws addresses stored counts o h = rw (← o) h
+opened-is im room lent s r ws addresses stored counts o e h = rw (← o, e) h
 
--- as many words were lent before the list was filled
-pub same-lent : (im : List ℕ) (m n : ℕ) (s : Superblock) (ws addresses stored counts : List ℕ) (r : Reported) → m ≡ n →
-    ReportedOpened im m s ws addresses stored counts r → ReportedOpened im n s ws addresses stored counts r
-same-lent im m n s ws addresses stored counts r e h = rw e at h
+-- the blocks have places, and with any number of words lent for them the report is the definition's
+abbrev Reports : List ℕ → ℕ → Superblock → List ℕ → List ℕ → List ℕ → List ℕ → Reported → Type 0
+Reports im room s ws addresses stored counts r =
+    (r .«block_count» ≤ room) × ((lent : ℕ) → ReportedOpened im room lent s (handed lent (r .«block_count») ws) addresses stored counts r)
+
+-- the list was as long before it was filled
+pub same-long : (im : List ℕ) (m n : ℕ) (s : Superblock) (ws addresses stored counts : List ℕ) (r : Reported) → m ≡ n →
+    Reports im (placesOf m) s ws addresses stored counts r → Reports im (placesOf n) s ws addresses stored counts r
+same-long im m n s ws addresses stored counts r e h = rw e at h
 
 module _ (im ws : List ℕ) (s : Superblock) (b : Bounded im s) where
   abbrev outcome : Outcome (List Linked)
-  outcome = run im (s .«end_of_file») (roomOf (length ws)) (auditWalk (superblockOf s)) []
+  outcome = run im (s .«end_of_file») (placesOf (length ws)) (auditWalk (superblockOf s)) []
 
   -- the walk was refused, and the list holds the blocks before the fault
   module _ (x : Refusal) (ws₁ addresses₁ counts₁ : List ℕ) (same : length ws₁ ≡ length ws) (filled : ws ≡ replicate (length ws) undefinedAddress)
@@ -81,8 +87,8 @@ module _ (im ws : List ℕ) (s : Superblock) (b : Bounded im s) where
     walked : Walked {A = List Linked} ws ws₁ (stopped x) (refused x entered)
     walked = rw (stop .1) at (w .walked)
 
-    grown : Grown (s .«end_of_file») (roomOf (length ws)) [] entered
-    grown = rw (stop .1) at (run-grown im (s .«end_of_file») (roomOf (length ws)) (auditWalk (superblockOf s)) [] (omega arith))
+    grown : Grown (s .«end_of_file») (placesOf (length ws)) [] entered
+    grown = rw (stop .1) at (run-grown im (s .«end_of_file») (placesOf (length ws)) (auditWalk (superblockOf s)) [] (omega arith))
 
     count : n ≡ length entered
     count =
@@ -92,39 +98,49 @@ module _ (im ws : List ℕ) (s : Superblock) (b : Bounded im s) where
     blocks : blocksOf n ws₁ ≡ entered
     blocks = ap (λ (m : ℕ). blocksOf m ws₁) count ∙ words-blocks noObject entered ws₁ (walked .held)
 
+    entered-places : n ≤ placesOf (length ws)
+    entered-places = omega (arith, count, grown .fits)
+
     pub entered-fit : 4 * n ≤ length ws₁
-    entered-fit = omega (arith, count, grown .fits, lent-none ws .lent, same)
+    entered-fit = omega (arith, entered-places, lent-none ws .lent, same)
 
     pub entered-numbered : take (4 * n) ws₁ ≡ blockWords noObject (blocksOf n ws₁)
     entered-numbered = ap (λ (m : ℕ). take (4 * m) ws₁) count ∙ walked .held ∙ ap (blockWords noObject) (sym blocks)
 
-    pub refused-is : (r : Reported) (ws₂ addresses stored counts : List ℕ) → fieldsOf r ≡ refusedFields n (blocksOf n ws₁) x →
-        ws₂ ≡ blockList (length ws₁) (blocksOf n ws₁) → ReportedOpened im (length ws) s ws₂ addresses stored counts r
+    pub refused-is : (r : Reported) (addresses stored counts : List ℕ) → fieldsOf r ≡ refusedFields n (blocksOf n ws₁) x →
+        Reports im (placesOf (length ws)) s ws₁ addresses stored counts r
     unfolding countedPlaces
-    refused-is r ws₂ addresses stored counts e f =
-        let list : ws₂ ≡ blockList (length ws) entered = f ∙ ap (λ (m : ℕ). blockList m (blocksOf n ws₁)) same ∙ ap (blockList (length ws)) blocks in
+    refused-is r addresses stored counts e =
+        let all : r .«block_count» ≡ n = ap (λ (f : Fields). f .blockCount) e in
         let fields : fieldsOf r ≡ refusedFields (length entered) entered x =
-        e ∙ ap (λ (m : ℕ). refusedFields m (blocksOf n ws₁) x) count ∙ ap (λ (bs : List Block). refusedFields (length entered) bs x) blocks in
-        rw (stop .1, ← list) (no-objects r (refusedFields (length entered) entered x) ws₂ addresses stored counts fields refl)
+        e ∙ ap (λ (m : ℕ). refusedFields m (blocksOf n ws₁) x) count ∙ ap (λ (bs : List Block). refusedFields (length entered) bs x) blocks in (
+          omega (arith, all, entered-places),
+          λ lent.
+              let list : handed lent (r .«block_count») ws₁ ≡ blockList lent entered =
+              ap (λ (m : ℕ). handed lent m ws₁) (all ∙ count) ∙ ap (padded lent) (walked .held) in
+              rw (stop .1, ← list) (no-objects r (refusedFields (length entered) entered x) (handed lent (r .«block_count») ws₁) addresses stored counts
+              fields refl),
+        )
 
   -- the walk is done
-  module _ (count objects : ℕ) (ws₁ addresses counts : List ℕ) (same : length ws₁ ≡ length ws)
-      (w : ImageWalked im ws s ws₁ addresses counts (Done count objects)) where
+  module _ (count objects : ℕ) (ws₁ addresses counts : List ℕ) (w : ImageWalked im ws s ws₁ addresses counts (Done count objects)) where
     pub done-is : (stored₀ stored : List ℕ) → stored₀ ≡ replicate objectsMost 0 → StoredRead im addresses objects stored₀ stored →
-        (block : ListedBlock) (ws₂ : List ℕ) → listedOf block ≡ noBlock → ws₂ ≡ take (4 * count) ws₁ ++ replicate (length ws₁ - 4 * count) 0 →
-        ReportedOpened im (length ws) s ws₂ addresses stored counts
+        (block : ListedBlock) → listedOf block ≡ noBlock →
+        Reports im (placesOf (length ws)) s ws₁ addresses stored counts
         (record { answer = 0; «block_count» = count; place = 0; block = block; met = 0; objects = objects })
-    done-is stored₀ stored z q block ws₂ e l = record {
-      reply = rw (
-        ran im ws s count objects ws₁ addresses counts same w,
-        length-blocksOf count ws₁,
-        e,
-        counted-law im objects addresses stored counts (q .read),
-        l,
-        list-is im ws s count objects ws₁ addresses counts same w,
-      ) refl;
-      fits = w .ready .table .fits;
-      addressesRest = λ h k m. w .ready .table .addressesZero k m;
-      storedRest = λ h k m. q .rest k m ∙ rw z (getD-zeros objectsMost k);
-      countsRest = λ h k m. w .ready .table .countsZero k m;
-    }
+    done-is stored₀ stored z q block e = (
+      w .ready .lent .counted,
+      λ lent. record {
+        reply = rw (
+          ran im ws s count objects ws₁ addresses counts w,
+          length-blocksOf count ws₁,
+          e,
+          counted-law im objects addresses stored counts (q .read),
+          list-is im ws s count objects ws₁ addresses counts w lent,
+        ) refl;
+        fits = w .ready .table .fits;
+        addressesRest = λ h k m. w .ready .table .addressesZero k m;
+        storedRest = λ h k m. q .rest k m ∙ rw z (getD-zeros objectsMost k);
+        countsRest = λ h k m. w .ready .table .countsZero k m;
+      },
+    )

@@ -3,7 +3,7 @@ use Prim.Native.Nat.{ℕ, _≤_, _<_}
 use mathlib.Core.List.{List, []}
 use mathlib.Core.Path.{_≡_}
 use Rattle.format.specs.Limits.{objectsMost}
-use Rattle.format.specs.Blocks.{Block, roomOf}
+use Rattle.format.specs.Blocks.{Block}
 use Rattle.format.specs.declared.Refusal.{Refusal}
 use Rattle.format.specs.Walk.{answerOf, metOf, run}
 use Rattle.format.specs.Audit.{auditWalk}
@@ -62,10 +62,10 @@ pub record Replies (expected : ReportReply) (ws addresses stored counts : List �
   pub storedRest : 0 < r .objects → ZerosFrom (r .objects) stored
   pub countsRest : 0 < r .objects → ZerosFrom (r .objects) counts
 
--- of an image with this superblock, and of any image
-abbrev pub ReportedOpened : List ℕ → ℕ → Superblock → List ℕ → List ℕ → List ℕ → List ℕ → Reported → Type 0
-ReportedOpened im lent s ws addresses stored counts r =
-    Replies (reportEnd im lent (run im (s .«end_of_file») (roomOf lent) (auditWalk (superblockOf s)) [])) ws addresses stored counts r
+-- of an image with this superblock and room for so many blocks, and of any image
+abbrev pub ReportedOpened : List ℕ → ℕ → ℕ → Superblock → List ℕ → List ℕ → List ℕ → List ℕ → Reported → Type 0
+ReportedOpened im room lent s ws addresses stored counts r =
+    Replies (reportEnd im lent (run im (s .«end_of_file») room (auditWalk (superblockOf s)) [])) ws addresses stored counts r
 
 abbrev pub ReportedIs : List ℕ → ℕ → List ℕ → List ℕ → List ℕ → List ℕ → Reported → Type 0
 ReportedIs im lent ws addresses stored counts r = Replies (report im lent) ws addresses stored counts r

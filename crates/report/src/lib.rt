@@ -18,11 +18,12 @@ use object::object::ObjectRead;
 use superblock::Opening;
 use superblock::Superblock;
 use walk::blocks;
+use walk::blocks::WORK_WORDS;
 ghost use mathlib.Core.Path.{_≡_};
-ghost use Prim.Native.Nat.{_*_, _≤_};
-ghost use lib.ListN.{length, take, replicate};
-ghost use Rattle.format.specs.Blocks.{noObject, blockWords, blockList};
-ghost use Rattle.walk.specs.Lent.{blocksOf};
+ghost use Prim.Native.Nat.{ℕ, _*_, _≤_};
+ghost use lib.ListN.{length, take};
+ghost use Rattle.format.specs.Blocks.{noObject, blockWords, roomOf};
+ghost use Rattle.walk.specs.Lent.{blocksOf, placesOf, handed};
 ghost use Rattle.object.specs.Object.{Bounded};
 ghost use Rattle.audit.specs.Audit.{Lists};
 ghost use Rattle.report.specs.Report.{fieldsOf, refusedFields, unopenedFields, ReportedOpened, ReportedIs, ReportIs};
@@ -39,11 +40,9 @@ pub struct Reported {
 }
 
 // The report of an image that can't be opened.
-fn unopened(list: &mut [u64], number: u8) -> Reported
+fn unopened(number: u8) -> Reported
     ensures { λ r. ⌜ fieldsOf r ≡ unopenedFields number ⌝ }
-    ensures { λ _. ⌜ now (list .exit) ≡ replicate (length (now (list .entry))) 0 ⌝ }
 {
-    blocks::clear_from(list, 0);
     Reported {
         answer: number,
         block_count: 0,
@@ -54,20 +53,17 @@ fn unopened(list: &mut [u64], number: u8) -> Reported
     }
 }
 
-// The report of a file whose walk is refused: the blocks that were entered before stay in the list.
-fn refused(list: &mut [u64], entered: usize, refusal: Refusal) -> Reported
+// The report of a file whose walk is refused: the blocks that were entered before stand at the head of the list.
+fn refused(list: &[u64], entered: usize, refusal: Refusal) -> Reported
     requires { ⌜ 4 * entered ≤ length (now list) ⌝ }
     requires { ⌜ take (4 * entered) (now list) ≡ blockWords noObject (blocksOf entered (now list)) ⌝ }
     ensures { λ r. ⌜ fieldsOf r ≡ refusedFields entered (blocksOf entered (now (list .entry))) refusal ⌝ }
-    ensures { λ _. ⌜ now (list .exit) ≡ blockList (length (now (list .entry))) (blocksOf entered (now (list .entry))) ⌝ }
 {
-    let block = damaged(list, entered, refusal);
-    blocks::clear_from(list, 4 * entered);
     Reported {
         answer: number_of(refusal),
         block_count: entered,
         place: damage_place(refusal),
-        block,
+        block: damaged(list, entered, refusal),
         met: met_of(refusal),
         objects: 0,
     }
@@ -84,19 +80,16 @@ fn report_opened(
 ) -> Reported
     requires { ⌜ Bounded (now image) superblock ⌝ }
     requires { ⌜ Lists (now addresses) (now stored) (now «true_counts») ⌝ }
+    ensures { λ r. ⌜ r .«block_count» ≤ placesOf (length (now (list .entry))) ⌝ }
     ensures { λ r.
-        ⌜ ReportedOpened (now (image .entry)) (length (now (list .entry))) superblock (now (list .exit)) (now (addresses .exit)) (now (stored .exit))
-        (now («true_counts» .exit)) r ⌝ }
+        ⌜ ((lent : ℕ) → ReportedOpened (now (image .entry)) (placesOf (length (now (list .entry)))) lent superblock
+        (handed lent (r .«block_count») (now (list .exit))) (now (addresses .exit)) (now (stored .exit)) (now («true_counts» .exit)) r) ⌝ }
 {
     fill_undefined(list);
     match audit::walk_image(image, list, addresses, true_counts, superblock) {
-        ObjectRead::Stopped(x) => {
-            let count = count_entered(list);
-            refused(list, count, x)
-        }
+        ObjectRead::Stopped(x) => refused(list, count_entered(list), x),
         ObjectRead::Done { count, objects } => {
             read_stored(image, addresses, stored, objects);
-            blocks::clear_from(list, 4 * count);
             Reported {
                 answer: answers::DONE,
                 block_count: count,
@@ -109,7 +102,8 @@ fn report_opened(
     }
 }
 
-// The report with the ledger's arrays lent, as the audit has them. The list has the blocks entered, also before a fault.
+// The report in a working list, with the ledger's arrays lent, as the audit has them. The list has the blocks entered at its head, also
+// those before a fault.
 pub fn report_into(
     image: &[u8],
     list: &mut [u64],
@@ -118,12 +112,13 @@ pub fn report_into(
     true_counts: &mut [u32],
 ) -> Reported
     requires { ⌜ Lists (now addresses) (now stored) (now «true_counts») ⌝ }
+    ensures { λ r. ⌜ r .«block_count» ≤ placesOf (length (now (list .entry))) ⌝ }
     ensures { λ r.
-        ⌜ ReportedIs (now (image .entry)) (length (now (list .entry))) (now (list .exit)) (now (addresses .exit)) (now (stored .exit))
-        (now («true_counts» .exit)) r ⌝ }
+        ⌜ ((lent : ℕ) → roomOf lent ≡ placesOf (length (now (list .entry))) → ReportedIs (now (image .entry)) lent
+        (handed lent (r .«block_count») (now (list .exit))) (now (addresses .exit)) (now (stored .exit)) (now («true_counts» .exit)) r) ⌝ }
 {
     match superblock::open(image) {
-        Opening::NotOpened(x) => unopened(list, x),
+        Opening::NotOpened(x) => unopened(x),
         Opening::Opened(s) => report_opened(image, list, addresses, stored, true_counts, s),
     }
 }
@@ -145,7 +140,16 @@ pub fn report(image: &[u8], list: &mut [u64]) -> Reply
     let mut addresses = [0u64; OBJECTS_MOST];
     let mut stored = [0u32; OBJECTS_MOST];
     let mut true_counts = [0u32; OBJECTS_MOST];
-    let r = report_into(image, list, &mut addresses, &mut stored, &mut true_counts);
+    let mut work = [0u64; WORK_WORDS];
+    let n = blocks::work_words(blocks::room(list.len()));
+    let r = report_into(
+        image,
+        &mut work[..n],
+        &mut addresses,
+        &mut stored,
+        &mut true_counts,
+    );
+    blocks::hand_over(list, &work, r.block_count);
     let answer = r.answer;
     let block_count = r.block_count;
     let place = r.place;

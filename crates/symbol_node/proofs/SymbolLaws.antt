@@ -39,7 +39,7 @@ module _ (im : List ℕ) (eof room : ℕ) (ws : List ℕ) (count at : ℕ) (l : 
   abbrev b : List ℕ
   b = part im at size
 
-  module _ (ws₁ : List ℕ) (q : ws₁ ≡ entered (entryAnswer eof room (blocksOf count ws) at size) ws count 7 at size) where
+  module _ (ws₁ : List ℕ) (q : entered (entryAnswer eof room (blocksOf count ws) at size) ws count 7 at size ws₁) where
     module _ (m : ℕ) (e : Entered m ≡ entering (entryAnswer eof room (blocksOf count ws) at size) 7 at size (blocksOf count ws) count) where
       pub symbols-grown : Grown eof room (blocksOf count ws) (blocksOf m ws₁)
       symbols-grown = entered-grown eof room symbolBlock at size count ws ws₁ l q m e

@@ -1,23 +1,22 @@
 -- Laws of the lent list of words, of the blocks that it holds, and of entering one.
-use mathlib.Core.Path.{_≡_, refl, ap, sym, _∙_}
-use mathlib.Core.Bool.{Bool, true, false, and-false}
+use mathlib.Core.Path.{_≡_, refl, ap, _∙_}
+use mathlib.Core.Bool.{Bool, true, false}
 use mathlib.Core.List.{List, [], _∷_, _++_, append-assoc}
-use Prim.Native.Nat.{ℕ, suc, zero, _+_, _-_, _*_, _/_, _%_, _^_, _≤_, _<_}
+use Prim.Native.Nat.{ℕ, suc, zero, _+_, _-_, _*_, _/_, _≤_, _<_, min}
 use native.Mathlib.Omega.{arith}
 use native.Mathlib.Numerals.{add-one}
-use borrow.Author.Tests.{lt-ltb, le-ltb, le-leb, lt-leb, ltb-true, leb-true, leb-false}
-use lib.ListN.{length, take, drop, getD, set, replicate, replicate-append-replicate, drop-of-length-le}
-use lib.Seq.{getD-drop, take-suc-set, length-take-le}
+use borrow.Author.Tests.{lt-ltb, le-ltb, le-leb, lt-leb, ltb-true, leb-true}
+use lib.ListN.{length, take, drop, getD, set, replicate, replicate-append-replicate}
+use lib.Seq.{getD-drop, take-suc-set}
 use lib.Dec.{leb, ltb}
 use Rattle.format.specs.Limits.{blocksMost}
 use Rattle.format.specs.Bytes.{if_then_else_}
-use Rattle.format.specs.Blocks.{Block, block, blockOf, noObject, ownerAfter, blockWords, blockList, overlaps, overlapsAny, firstMet, entryAnswer, roomOf}
+use Rattle.format.specs.Blocks.{Block, block, blockOf, ownerAfter, blockWords, overlapsAny, entryAnswer, roomOf}
 use Rattle.format.specs.declared.Refusal.{Refusal}
 use Rattle.format.specs.Walk.{notEntered}
-use Rattle.walk.specs.Lent.{blocksOf, Lent, entering}
-use Rattle.walk.specs.Met.{metBlock, met, Apart}
-use Rattle.walk.specs.declared.met.Met.{Met}
-use Rattle.walk.specs.declared.met.Met.the-variants as mets
+use Rattle.block_index.specs.Index.{placesFor}
+use Rattle.block_index.proofs.IndexLaws.{indexed-none}
+use Rattle.walk.specs.Lent.{blocksOf, placesOf, workWords, Lent, entering}
 use Rattle.walk.specs.declared.blocks.Entry.the-variants.{Entered, Refused}
 
 -- the words cleared so far, behind those that stay, and one more
@@ -25,32 +24,36 @@ pub zeros-more : (p ws : List ℕ) (i n : ℕ) → i < length ws → take i ws �
 zeros-more p ws i n h e =
     rw (add-one i, take-suc-set ws i 0 h, e, append-assoc p (replicate n 0) (0 ∷ [])) (ap (λ (z : List ℕ). p ++ z) (replicate-append-replicate n 1 0))
 
--- the room that so many words give, by the lesser of the two
-pub roomOf-most : (words : ℕ) → blocksMost ≤ words / 4 → roomOf words ≡ blocksMost
+-- the room that so many words give
+pub room-is : (words : ℕ) → roomOf words ≡ min blocksMost (words / 4)
 unfolding roomOf
-roomOf-most words h = omega arith
+room-is words = refl
 
-pub roomOf-fours : (words : ℕ) → words / 4 < blocksMost → roomOf words ≡ words / 4
-unfolding roomOf
-roomOf-fours words h = omega arith
+pub places-is : (words : ℕ) → placesOf words ≡ min blocksMost (placesFor words)
+unfolding placesOf
+places-is words = refl
 
 pub room-most : (words : ℕ) → roomOf words ≤ blocksMost
-unfolding roomOf
-room-most words = omega arith
+room-most words = omega (arith, room-is words)
+
+pub places-most : (words : ℕ) → placesOf words ≤ blocksMost
+places-most words = omega (arith, places-is words)
+
+-- a working list of the words for so many blocks has their places, as a caller's list of four words a block has
+pub places-work : (room : ℕ) → room ≤ blocksMost → placesOf (workWords room) ≡ room
+places-work room h = omega (arith, places-is (workWords room))
+
+pub room-fours : (room : ℕ) → room ≤ blocksMost → roomOf (4 * room) ≡ room
+room-fours room h = omega (arith, room-is (4 * room))
 
 -- a list cleared from its first word on
 pub all-cleared : (ws ws′ : List ℕ) → ws′ ≡ take 0 ws ++ replicate (length ws - 0) 0 → ws′ ≡ replicate (length ws) 0
 all-cleared ws ws′ e = let z : length ws - 0 ≡ length ws = omega arith in rw z at e
 
 -- a whole list is lent with no block entered
-pub lent-none : (ws : List ℕ) → Lent ws 0 (roomOf (length ws))
-unfolding roomOf blocksOf blockWords
-lent-none ws = record { counted = omega arith; lent = omega arith; numbered = refl }
-
--- the list left by a run of n blocks, with the words behind them cleared
-pub list-cleared : (n : ℕ) (bs : List Block) (ws : List ℕ) → 4 * n ≤ length ws → take (4 * n) ws ≡ blockWords noObject bs →
-    take (4 * n) ws ++ replicate (length ws - 4 * n) 0 ≡ blockList (length ws) bs
-list-cleared n bs ws h e = rw (← e, length-take-le (4 * n) ws h)
+pub lent-none : (ws : List ℕ) → Lent ws 0 (placesOf (length ws))
+unfolding blocksOf blockWords
+lent-none ws = record { counted = omega arith; lent = omega (arith, places-is (length ws)); numbered = refl; indexed = indexed-none ws }
 
 pub length-blocksOf : (c : ℕ) (ws : List ℕ) → length (blocksOf c ws) ≡ c
 unfolding blocksOf
@@ -80,27 +83,6 @@ words-blocks o (b ∷ bs) ws e =
     let f : 4 * suc (length bs) ≡ suc (suc (suc (suc (4 * length bs)))) = omega arith in
     words-first o (length bs) b bs ws (rw f at e) (words-blocks (ownerAfter o (b .kind)) bs)
 
-pub overlaps-hit : (v b m a n : ℕ) → b < a + n → a < b + m → overlaps (blockOf v b m) a n ≡ true
-unfolding overlaps
-overlaps-hit v b m a n h k = simp (lt-ltb b (a + n) h, lt-ltb a (b + m) k)
-
-pub overlaps-not-below : (v b m a n : ℕ) → a + n ≤ b → overlaps (blockOf v b m) a n ≡ false
-unfolding overlaps
-overlaps-not-below v b m a n h = simp (le-ltb b (a + n) h)
-
-pub overlaps-not-above : (v b m a n : ℕ) → b + m ≤ a → overlaps (blockOf v b m) a n ≡ false
-unfolding overlaps
-overlaps-not-above v b m a n h = simp (le-ltb a (b + m) h, and-false)
-
--- Distances modulo 2^64, from b to a and from a to b: where a lies behind b the first isn't wrapped, and else the second isn't.
-pub overlaps-apart : (b m a n behind before : ℕ) → behind < 2 ^ 64 → before < 2 ^ 64 → (behind + b) % 2 ^ 64 ≡ a →
-    (before + a) % 2 ^ 64 ≡ b → m ≤ behind → n ≤ before → overlaps (block b m) a n ≡ false
-overlaps-apart b m a n behind before h k e f l r = go (leb b a) refl
-  where
-    go : (t : Bool) → leb b a ≡ t → overlaps (block b m) a n ≡ false
-    go true q = overlaps-not-above 0 b m a n (omega (arith, leb-true b a q))
-    go false q = overlaps-not-below 0 b m a n (omega (arith, leb-false b a q))
-
 -- the block of number i, by its words
 abbrev pub blockAt : List ℕ → ℕ → Block
 blockAt ws i = blockOf (getD ws (4 * i + 2) 0) (getD ws (4 * i) 0) (getD ws (4 * i + 1) 0)
@@ -122,50 +104,6 @@ blocks-split (suc c) (suc i) ws h =
 
 pub blocks-next : (c i : ℕ) (ws : List ℕ) → i < c → drop i (blocksOf c ws) ≡ blockAt ws i ∷ drop (i + 1) (blocksOf c ws)
 blocks-next c i ws h = rw (add-one i) (blocks-split c i ws h)
-
--- The search, before block number i: `whole` is what it will have found. One turn of it, by the words of that block.
-module _ (c i : ℕ) (ws : List ℕ) (a n : ℕ) (whole : Met) (h : i < c) (e : whole ≡ met (drop i (blocksOf c ws)) a n) where
-  turn : whole ≡ met (blockAt ws i ∷ drop (i + 1) (blocksOf c ws)) a n
-  turn = e ∙ ap (λ (bs : List Block). met bs a n) (blocks-next c i ws h)
-
-  pub search-hit : true ≡ overlaps (block (getD ws (4 * i) 0) (getD ws (4 * i + 1) 0)) a n → mets.Block (getD ws (4 * i) 0) ≡ whole
-  unfolding overlaps overlapsAny firstMet
-  search-hit t = sym (turn ∙ rw (← t))
-
-  pub search-past : false ≡ overlaps (block (getD ws (4 * i) 0) (getD ws (4 * i + 1) 0)) a n → whole ≡ met (drop (i + 1) (blocksOf c ws)) a n
-  unfolding overlaps overlapsAny firstMet
-  search-past t = turn ∙ rw (← t)
-
--- four turns at once
-pub four-past : (c i : ℕ) (ws : List ℕ) (a n : ℕ) (whole : Met) → i + 3 < c → whole ≡ met (drop i (blocksOf c ws)) a n →
-    Apart ws i a n × Apart ws (i + 1) a n × Apart ws (i + 2) a n × Apart ws (i + 3) a n → whole ≡ met (drop (i + 4) (blocksOf c ws)) a n
-four-past c i ws a n whole h e t =
-    let two-on : i + 1 + 1 ≡ i + 2 = omega arith in
-    let three-on : i + 2 + 1 ≡ i + 3 = omega arith in
-    let four-on : i + 3 + 1 ≡ i + 4 = omega arith in
-    let one = search-past c i ws a n whole (omega arith) e (sym (t .0)) in
-    let two = search-past c (i + 1) ws a n whole (omega arith) one (sym (t .1)) in
-    let three = search-past c (i + 2) ws a n whole (omega arith) (rw two-on at two) (sym (t .2)) in
-    rw four-on at (search-past c (i + 3) ws a n whole h (rw three-on at three) (sym (t .3)))
-
-pub search-end : (c i : ℕ) (ws : List ℕ) (a n : ℕ) (whole : Met) → c ≤ i → whole ≡ met (drop i (blocksOf c ws)) a n → mets.Nothing ≡ whole
-unfolding overlapsAny
-search-end c i ws a n whole h e = sym (e ∙ ap (λ (bs : List Block). met bs a n) (drop-of-length-le (blocksOf c ws) {i = i} (rw length-blocksOf h)))
-
--- what was found says whether one of the blocks is met, and which is the first
-pub met-block : (bs : List Block) (a n b : ℕ) → mets.Block b ≡ met bs a n → (true ≡ overlapsAny bs a n) × (firstMet bs a n ≡ b)
-met-block bs a n b e = go (overlapsAny bs a n) refl e
-  where
-    go : (t : Bool) → overlapsAny bs a n ≡ t → mets.Block b ≡ metBlock t (firstMet bs a n) → (true ≡ overlapsAny bs a n) × (firstMet bs a n ≡ b)
-    go true q w = (sym q, sym cc)
-    go false q w = let z : _≡_ {A = ℕ} 0 1 = cc in absurd (omega arith)
-
-pub met-nothing : (bs : List Block) (a n : ℕ) → mets.Nothing ≡ met bs a n → false ≡ overlapsAny bs a n
-met-nothing bs a n e = go (overlapsAny bs a n) refl e
-  where
-    go : (t : Bool) → overlapsAny bs a n ≡ t → mets.Nothing ≡ metBlock t (firstMet bs a n) → false ≡ overlapsAny bs a n
-    go true q w = let z : _≡_ {A = ℕ} 0 1 = cc in absurd (omega arith)
-    go false q w = sym q
 
 -- What entering a block answers, by the tests that lead there.
 module _ (eof room : ℕ) (bs : List Block) (a n : ℕ) where

@@ -1,6 +1,10 @@
 pub mod LittleEndian
 pub mod Overwrite
 pub mod BlockList
+pub mod Copied
+pub mod Handed
+pub mod Verdict
 pub mod Owners
+pub mod Entering
 pub mod Tests
 pub mod Parts

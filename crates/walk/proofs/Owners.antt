@@ -5,9 +5,10 @@ use mathlib.Core.Path.{_≡_, refl, ap, sym, _∙_}
 use native.Mathlib.Omega.{arith}
 use borrow.Author.Tests.{eq-eqb, ne-eqb}
 use lib.ListN.{length, take, getD, set, length-set, length-append}
-use lib.Seq.{getD-take, getD-set-other, take-suc-set}
+use lib.Seq.{getD-take, getD-set-other, take-suc-set, take-take}
 use Rattle.format.specs.Blocks.{Block, blockOf, superblockKind, headerKind, noObject, ownerAfter, lastOwner, blockWords}
-use Rattle.walk.specs.Lent.{blocksOf, Lent, withFour, appended}
+use Rattle.block_index.specs.Index.{firstFrom}
+use Rattle.walk.specs.Lent.{blocksOf, Lent, Added, withFour, appended}
 use Rattle.walk.proofs.BlockList.{length-blocksOf, words-blocks}
 
 -- the number of a block's object, by its kind and the object before it
@@ -86,11 +87,24 @@ module _ (ws : List ℕ) (c room kind a n : ℕ) (l : Lent ws c room) (h : c < r
       let e : 4 * (c + 1) ≡ 4 * c + 4 = omega arith in
       rw (e, words-snoc, ← (l .numbered)) (take-four ws (4 * c) a n kind _ (omega (arith, l .lent)))
 
-  pub appended-blocks : blocksOf (c + 1) (appended ws c kind a n) ≡ blocksOf c ws ++ (blockOf kind a n ∷ [])
-  appended-blocks =
+-- a list with one block more, up to its index and in it
+module _ (ws ws′ : List ℕ) (c room kind a n : ℕ) (l : Lent ws c room) (h : c < room) (d : Added ws c kind a n ws′) where
+  added-words : take (4 * (c + 1)) ws′ ≡ blockWords noObject (blocksOf c ws ++ (blockOf kind a n ∷ []))
+  added-words =
+      let most : 4 * (c + 1) ≤ firstFrom (length ws) = omega (arith, l .lent) in
+      sym (take-take (4 * (c + 1)) (firstFrom (length ws)) ws′ most) ∙ ap (take (4 * (c + 1))) (d .head)
+      ∙ take-take (4 * (c + 1)) (firstFrom (length ws)) (appended ws c kind a n) most ∙ appended-words ws c room kind a n l h
+
+  pub added-blocks : blocksOf (c + 1) ws′ ≡ blocksOf c ws ++ (blockOf kind a n ∷ [])
+  added-blocks =
       let bs = blocksOf c ws ++ (blockOf kind a n ∷ []) in
       let long : length bs ≡ c + 1 = length-append (blocksOf c ws) (blockOf kind a n ∷ []) ∙ rw length-blocksOf in
-      rw long at (words-blocks noObject bs (appended ws c kind a n) (rw long appended-words))
+      rw long at (words-blocks noObject bs ws′ (rw long added-words))
 
-  pub appended-lent : Lent (appended ws c kind a n) (c + 1) room
-  appended-lent = record { counted = omega arith; lent = simp length-set (l .lent); numbered = rw appended-blocks appended-words }
+  pub added-lent : Lent ws′ (c + 1) room
+  added-lent = record { counted = omega arith; lent = omega (arith, l .lent, d .long); numbered = rw added-blocks added-words; indexed = d .indexed }
+
+  pub added-rest : (k : ℕ) → 4 * (c + 1) ≤ k → k < firstFrom (length ws) → getD ws′ k 0 ≡ getD ws k 0
+  added-rest k m u =
+      sym (getD-take (firstFrom (length ws)) ws′ k 0 u) ∙ ap (λ (x : List ℕ). getD x k 0) (d .head)
+      ∙ getD-take (firstFrom (length ws)) (appended ws c kind a n) k 0 u ∙ four-other ws (4 * c) k a n kind _ (omega arith)

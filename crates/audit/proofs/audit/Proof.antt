@@ -1,58 +1,81 @@
--- Arrays of zeros are empty lists; a refusal is given an empty ledger.
+-- The working list has the caller's room, and its blocks are handed over.
+use denote.Ref.{now}
+use Prim.Native.Nat.{ℕ}
+use mathlib.Core.Path.{sym, _∙_}
+use lib.ListN.{length}
+use Rattle.format.specs.Limits.{blocksMost}
+use Rattle.walk.proofs.BlockList.{room-is}
+use Rattle.walk.proofs.Handed.{work, Working, working, HandedOver, handed-over}
 use native.Mathlib.Omega.{arith}
 use borrow.Author.Needs.{needs}
 use Rattle.audit.proofs.audit.Statement.{statement}
 use Rattle.audit.proofs.audit.Tie as tie
-use denote.Ref.{now}
-use mathlib.Core.Path.{refl}
-use Rattle.format.specs.Limits.{objectsMost}
-use Rattle.audit.proofs.ReplyLaws.{empty-reply, full-reply}
 
-slice-aggregate-audit-into : tie.Need-slice-aggregate-audit-into
-slice-aggregate-audit-into c = search needs
+-- Where the words of the working list are known: the entry, and the caller's words.
+abbrev start : tie.After-work-words → tie.Start
+start c = c .before .before .before .before
 
-slice-aggregate-audit-into-2 : tie.Need-slice-aggregate-audit-into-2
-slice-aggregate-audit-into-2 c = search needs
+abbrev lent : tie.After-work-words → ℕ
+lent c = length (now (start c .args .list))
 
-slice-aggregate-audit-into-3 : tie.Need-slice-aggregate-audit-into-3
-slice-aggregate-audit-into-3 c = search needs
+lends : (c : tie.After-work-words) → Working (lent c) (c .work-words .result) work
+lends c = working (lent c) _ _ (c .before .room .ensures) (c .work-words .ensures)
 
-audit-into-requires : tie.Need-audit-into-requires
-unfolding objectsMost
-audit-into-requires c κs = record { addressesEmpty = refl; storedEmpty = refl; countsEmpty = refl }
+-- Where the audit is done.
+abbrev at-words : tie.After-audit-in → tie.After-work-words
+at-words c = c .before .before
 
-empty-requires : tie.Need-empty-requires
-empty-requires c κs = search needs
+over : (c : tie.After-audit-in) →
+    HandedOver (lent (at-words c)) (at-words c .work-words .result) work (c .audit-in .last .1 .0) (c .audit-in .result .«block_count»)
+unfolding blocksMost
+over c = handed-over _ _ work _ _ (lends (at-words c)) (c .audit-in .kept .1 .0) (c .audit-in .ensures .0)
+
+room-requires : tie.Need-room-requires
+room-requires c κs = search needs
+
+work-words-requires : tie.Need-work-words-requires
+work-words-requires c κs =
+    let start = c .before .before .before in omega (arith, c .room .ensures, room-is (length (now (start .args .list))), start .good .1 .0 .0)
+
+array-borrow-prefix-work : tie.Need-array-borrow-prefix-work
+unfolding blocksMost
+array-borrow-prefix-work c = lends c .there
+
+slice-aggregate-audit-in : tie.Need-slice-aggregate-audit-in
+unfolding blocksMost
+slice-aggregate-audit-in c = sym (lends (c .before) .long)
+
+audit-in-requires : tie.Need-audit-in-requires
+audit-in-requires c κs = search needs
+
+slice-aggregate-hand-over : tie.Need-slice-aggregate-hand-over
+unfolding blocksMost
+slice-aggregate-hand-over c = sym (over (c .before .before .before) .whole)
+
+hand-over-requires : tie.Need-hand-over-requires
+unfolding blocksMost
+hand-over-requires c κs = let o = over (c .before .before .before) in (o .fits, o .there)
 
 same-length : tie.Need-same-length
 same-length c = search needs
 
 returns : tie.Need-returns
+unfolding blocksMost
 returns c =
-    let d = c .before .before .before .before .before .before .before in
-    let start = d .before .before .before .before .before .before .before in
-    empty-reply (now (start .args .image)) _ _ _ _ _ (d .audit-into .result) (d .audit-into .ensures) (c .empty .result) (c .before .if1 .taken)
-    (c .empty .ensures)
-
-same-length-2 : tie.Need-same-length-2
-same-length-2 c = search needs
-
-returns-2 : tie.Need-returns-2
-returns-2 c =
-    let d = c .before .before .before .before .before .before in
-    let start = d .before .before .before .before .before .before .before in
-    full-reply (now (start .args .image)) _ _ _ _ _ (d .audit-into .result) (d .audit-into .ensures) (omega (arith, c .if1 .left))
+    let hand = c .before .before in
+    let d = hand .before .before .before .before in
+    rw (hand .hand-over .ensures ∙ over d .same) (d .audit-in .ensures .1 (lent (at-words d)) (lends (at-words d) .fit))
 
 pub audit-spec : {M : Type 1} → statement M
 audit-spec =
     tie.close
     (tie.spec
-    slice-aggregate-audit-into
-    slice-aggregate-audit-into-2
-    slice-aggregate-audit-into-3
-    audit-into-requires
-    empty-requires
+    room-requires
+    work-words-requires
+    array-borrow-prefix-work
+    slice-aggregate-audit-in
+    audit-in-requires
+    slice-aggregate-hand-over
+    hand-over-requires
     same-length
-    returns
-    same-length-2
-    returns-2)
+    returns)

@@ -4,10 +4,9 @@ use borrow.Author.Needs.{needs}
 use Rattle.audit.proofs.audit_into.Statement.{statement}
 use Rattle.audit.proofs.audit_into.Tie as tie
 use denote.Ref.{now}
-use Prim.Native.Nat.{ℕ, _*_, _≤_}
+use Prim.Native.Nat.{ℕ}
 use mathlib.Core.List.{List}
-use mathlib.Core.Path.{_≡_, ap, _∙_}
-use lib.ListN.{length, replicate}
+use mathlib.Core.Path.{_≡_}
 use Rattle.format.specs.Superblock.{opened, openImage}
 use Rattle.superblock.specs.Superblock.{superblockOf}
 use Rattle.superblock.specs.declared.Superblock.{Superblock}
@@ -55,20 +54,14 @@ count c = c .count .given .0 .0
 abbrev objects : tie.After-count → ℕ
 objects c = c .count .given .0 .1 .0
 
-abbrev same : (c : tie.After-count) → length (words c) ≡ length (list (at-s c))
-same c = walk c .walk-image .kept .1 .0
-
 walk-done : (c : tie.After-count) →
     ImageWalked (image (at-s c)) (list (at-s c)) (superblock (at-s c)) (words c) (addresses c) (counts c) (Done (count c) (objects c))
 walk-done c = rw (c .count .given .1) at (c .before .before .before .before .before .before .before .before .walk-image .ensures)
 
 read : (c : tie.After-count) → Readable (image (at-s c)) (addresses c) (objects c)
 read c =
-    readable (image (at-s c)) (list (at-s c)) (superblock (at-s c)) (count c) (objects c) (words c) (addresses c) (counts c) (same c) (walk-done c)
+    readable (image (at-s c)) (list (at-s c)) (superblock (at-s c)) (count c) (objects c) (words c) (addresses c) (counts c) (walk-done c)
     (opened-is (at-s c) .1)
-
-fits : (c : tie.After-count) → 4 * count c ≤ length (words c)
-fits c = count-fits (image (at-s c)) (list (at-s c)) (superblock (at-s c)) (count c) (objects c) (words c) (addresses c) (counts c) (same c) (walk-done c)
 
 open-requires : tie.Need-open-requires
 open-requires c κs = search needs
@@ -101,24 +94,15 @@ read-stored-requires c κs =
     let d = c .before .before .before in
     (read d, stored-room _ _ _ _ (entry (at-s d) .pre) (walk-done d .ready .table .fits))
 
-mul-clear-from : tie.Need-mul-clear-from
-mul-clear-from c =
-    let done = c .before .before .before .before .before .before .before in
-    record { fits = omega (arith, fits done, same done, entry (at-s done) .good .1 .0 .0) }
-
-clear-from-requires : tie.Need-clear-from-requires
-clear-from-requires c κs = fits (c .before .before .before .before .before .before .before)
+returns : tie.Need-returns
+returns c =
+    let x = c .before .before in
+    let start = x .before .before .before .before .before .before .before .before in
+    let e = (rw (x .x .given .1) at (x .before .before .open .ensures)) .0 in
+    rw (c .refused .ensures) (omega arith, λ lent fit. not-opened-is (now (start .args .image)) lent (now (start .args .list)) _ _ _ (x .x .given .0 .0) e)
 
 same-length : tie.Need-same-length
 same-length c = search needs
-
-returns : tie.Need-returns
-returns c =
-    let r = c .before .before .refused .ensures in
-    let x = c .before .before .before .before .before in
-    let start = x .before .before .before .before .before .before .before .before in
-    let e = (rw (x .x .given .1) at (x .before .before .open .ensures)) .0 in
-    rw (r .0) (not-opened-is (now (start .args .image)) (length (now (start .args .list))) _ _ _ _ (r .1) (x .x .given .0 .0) e)
 
 same-length-2 : tie.Need-same-length-2
 same-length-2 c = search needs
@@ -126,18 +110,16 @@ same-length-2 c = search needs
 same-length-3 : tie.Need-same-length-3
 same-length-3 c = search needs
 
-same-length-4 : tie.Need-same-length-4
-same-length-4 c = search needs
-
 returns-2 : tie.Need-returns-2
 returns-2 c =
-    let r = c .before .before .refused2 .ensures in
-    let x = c .before .before .before .before .before in
+    let x = c .before .before in
     let w = x .before .before .before .before .before .before .before .before in
     let s = w .before .before .before .before .before in
-    rw (r .0)
-    (stopped-is (image s) (list s) (superblock s) (x .x2 .given .0 .0) _ _ _ _ _ _ _ (opened-is s .0) (rw (x .x2 .given .1) at (w .walk-image .ensures))
-    (r .1 ∙ ap (λ (n : ℕ). replicate n 0) (w .walk-image .kept .1 .0)))
+    let walked = rw (x .x2 .given .1) at (w .walk-image .ensures) in
+    rw (c .refused2 .ensures) (omega arith, stopped-is (image s) (list s) (superblock s) (x .x2 .given .0 .0) _ _ _ _ (opened-is s .0) walked)
+
+same-length-4 : tie.Need-same-length-4
+same-length-4 c = search needs
 
 same-length-5 : tie.Need-same-length-5
 same-length-5 c = search needs
@@ -148,16 +130,14 @@ same-length-6 c = search needs
 same-length-7 : tie.Need-same-length-7
 same-length-7 c = search needs
 
-same-length-8 : tie.Need-same-length-8
-same-length-8 c = search needs
-
 returns-3 : tie.Need-returns-3
 returns-3 c =
-    let d = c .before .before .before .before .before .before .before .before .before .before in
-    let s = at-s d in
-    done-is (image s) (list s) (superblock s) (count d) (objects d) (words d) (addresses d) (counts d) (same d) (walk-done d) (opened-is s .0)
-    (opened-is s .1) _ _
-    (entry s .pre .storedEmpty) (c .before .before .before .before .before .before .read-stored .ensures) _ (c .before .before .clear-from .ensures)
+    let d = c .before .before .before .before .before .before in
+    let s = at-s d in (
+      count-fits (image s) (list s) (superblock s) (count d) (objects d) (words d) (addresses d) (counts d) (walk-done d),
+      done-is (image s) (list s) (superblock s) (count d) (objects d) (words d) (addresses d) (counts d) (walk-done d) (opened-is s .0)
+          (opened-is s .1) _ _ (entry s .pre .storedEmpty) (c .before .before .read-stored .ensures),
+    )
 
 pub audit-into-spec : {M : Type 1} → statement M
 audit-into-spec =
@@ -172,16 +152,13 @@ audit-into-spec =
     refused-requires-2
     enum-known-count
     read-stored-requires
-    mul-clear-from
-    clear-from-requires
-    same-length
     returns
+    same-length
     same-length-2
     same-length-3
-    same-length-4
     returns-2
+    same-length-4
     same-length-5
     same-length-6
     same-length-7
-    same-length-8
     returns-3)

@@ -5,16 +5,15 @@ use lib.ListN.{length}
 use Rattle.format.specs.Limits.{objectsMost}
 use Rattle.object.proofs.ObjectLaws.{opened, room-lent}
 use Rattle.audit.proofs.WalkLaws.{superblock-stopped, root-listed, objects-read}
-use native.Mathlib.Omega.{arith}
 use borrow.Author.Needs.{needs}
 use Rattle.audit.proofs.walk_image.Statement.{statement}
 use Rattle.audit.proofs.walk_image.Tie as tie
 
-room-requires : tie.Need-room-requires
-room-requires c κs = search needs
+places-requires : tie.Need-places-requires
+places-requires c κs = search needs
 
 enter-superblock-requires : tie.Need-enter-superblock-requires
-enter-superblock-requires c κs = room-lent (now (c .before .before .before .before .before .before .args .list)) _ (c .before .room .ensures)
+enter-superblock-requires c κs = room-lent (now (c .before .before .before .before .before .before .args .list)) _ (c .before .places .ensures)
 
 enum-known-x : tie.Need-enum-known-x
 enum-known-x c = search needs
@@ -33,7 +32,7 @@ unfolding objectsMost
 read-requires c κs =
     let n = c .before .before .before .before .before .before .before .before .before .before .before .before in
     let s = n .before .before .before .before .before .before .before .before .before .before .before in
-    let room = n .before .before .before .before .before .before .room .ensures in
+    let room = n .before .before .before .before .before .before .places .ensures in
     let enter = n .before .before .before .before in
     let one = rw (n .n .given .1) at (enter .enter-superblock .ensures) in (
       opened (now (s .args .image)) (s .args .superblock) _ (length (now (s .args .list))) room (s .pre .0),
@@ -50,7 +49,7 @@ returns c =
     let s = c .before .before .before .before .before .before .before .before .before .before .before .before in
     let enter = c .before .before .before .before .before in
     superblock-stopped (now (s .args .image)) (now (s .args .list)) (s .args .superblock) _
-    (c .before .before .before .before .before .before .before .room .ensures) (enter .enter-superblock .last .1 .0) _ _ _
+    (c .before .before .before .before .before .before .before .places .ensures) (enter .enter-superblock .last .1 .0) _ _ _
     ((rw (c .before .x .given .1) at (enter .enter-superblock .ensures)) (now (s .args .image)))
 
 same-length-2 : tie.Need-same-length-2
@@ -68,7 +67,7 @@ returns-2 c =
     let n = c .before .before .before .before .before .before .before .before .before .before .before .before .before .before .before .before .before .before
     .before .before in
     let s = n .before .before .before .before .before .before .before .before .before .before .before in
-    let room = n .before .before .before .before .before .before .room .ensures in
+    let room = n .before .before .before .before .before .before .places .ensures in
     let enter = n .before .before .before .before in
     let one = rw (n .n .given .1) at (enter .enter-superblock .ensures) in
     objects-read (now (s .args .image)) (now (s .args .list)) (s .args .superblock) _ room (enter .enter-superblock .last .1 .0) _
@@ -81,7 +80,7 @@ pub walk-image-spec : {M : Type 1} → statement M
 walk-image-spec =
     tie.close
     (tie.spec
-    room-requires
+    places-requires
     enter-superblock-requires
     enum-known-x
     enum-known-n

@@ -1,94 +1,82 @@
--- The path's form, the superblock, then the path.
+-- The working list has the caller's room, and its blocks are handed over.
+use denote.Ref.{now}
+use Prim.Native.Nat.{ℕ}
+use mathlib.Core.Path.{sym, _∙_}
+use lib.ListN.{length}
+use Rattle.format.specs.Limits.{blocksMost}
+use Rattle.walk.proofs.BlockList.{room-is}
+use Rattle.walk.proofs.Handed.{work, Working, working, HandedOver, handed-over}
+use native.Mathlib.Omega.{arith}
 use borrow.Author.Needs.{needs}
 use Rattle.describe.proofs.describe.Statement.{statement}
 use Rattle.describe.proofs.describe.Tie as tie
-use denote.Ref.{now}
-use borrow.Author.Tests.{not-true, not-false}
-use Rattle.superblock.specs.Superblock.{superblockOf}
-use Rattle.describe.proofs.ReplyLaws.{bad-is, not-opened-is, opened-is}
 
-is-sound-requires : tie.Need-is-sound-requires
-is-sound-requires c κs = search needs
+-- Where the words of the working list are known: the entry, and the caller's words.
+abbrev start : tie.After-work-words → tie.Start
+start c = c .before .before .before .before .before
 
-refused-requires : tie.Need-refused-requires
-refused-requires c κs = search needs
+abbrev lent : tie.After-work-words → ℕ
+lent c = length (now (start c .args .list))
+
+lends : (c : tie.After-work-words) → Working (lent c) (c .work-words .result) work
+lends c = working (lent c) _ _ (c .before .room .ensures) (c .work-words .ensures)
+
+-- Where the dataset is described.
+abbrev at-words : tie.After-describe-in → tie.After-work-words
+at-words c = c .before .before
+
+over : (c : tie.After-describe-in) →
+    HandedOver (lent (at-words c)) (at-words c .work-words .result) work (c .describe-in .last .1 .1 .0) (c .describe-in .result .«block_count»)
+unfolding blocksMost
+over c = handed-over _ _ work _ _ (lends (at-words c)) (c .describe-in .kept .1 .1 .0) (c .describe-in .ensures .0)
+
+room-requires : tie.Need-room-requires
+room-requires c κs = search needs
+
+work-words-requires : tie.Need-work-words-requires
+work-words-requires c κs =
+    let start = c .before .before .before .before in
+    omega (arith, c .room .ensures, room-is (length (now (start .args .list))), start .good .1 .1 .0 .0)
+
+array-borrow-prefix-work : tie.Need-array-borrow-prefix-work
+unfolding blocksMost
+array-borrow-prefix-work c = lends c .there
+
+slice-aggregate-describe-in : tie.Need-slice-aggregate-describe-in
+unfolding blocksMost
+slice-aggregate-describe-in c = sym (lends (c .before) .long)
+
+describe-in-requires : tie.Need-describe-in-requires
+describe-in-requires c κs = search needs
+
+slice-aggregate-hand-over : tie.Need-slice-aggregate-hand-over
+unfolding blocksMost
+slice-aggregate-hand-over c = sym (over (c .before .before .before) .whole)
+
+hand-over-requires : tie.Need-hand-over-requires
+unfolding blocksMost
+hand-over-requires c κs = let o = over (c .before .before .before) in (o .fits, o .there)
 
 same-length : tie.Need-same-length
 same-length c = search needs
 
 returns : tie.Need-returns
+unfolding blocksMost
 returns c =
-    let at-if1 = c .before .before .before .before in
-    let at-is-sound = at-if1 .before in
-    let start = at-is-sound .before .before .before .before in
-    let a = start .args in
-    let sound = at-is-sound .is-sound in
-    bad-is (now (a .image)) (now (a .path)) (now (a .list)) _ _ (sound .ensures) (not-true _ (at-if1 .if1 .taken)) (c .before .before .refused .ensures)
-
-open-requires : tie.Need-open-requires
-open-requires c κs = search needs
-
-enum-known-x : tie.Need-enum-known-x
-enum-known-x c = search needs
-
-refused-requires-2 : tie.Need-refused-requires-2
-refused-requires-2 c κs = search needs
-
-enum-known-s : tie.Need-enum-known-s
-enum-known-s c = search needs
-
-describe-path-requires : tie.Need-describe-path-requires
-describe-path-requires c κs =
-    let at-open = c .before .before .before .before in
-    let at-if1 = at-open .before in
-    let at-is-sound = at-if1 .before in
-    let sound = at-is-sound .is-sound in
-    ((rw (c .before .before .s .given .1) at (at-open .open .ensures)) .1, sound .ensures .begun (not-false _ (at-if1 .if1 .left)))
-
-same-length-2 : tie.Need-same-length-2
-same-length-2 c = search needs
-
-returns-2 : tie.Need-returns-2
-returns-2 c =
-    let at-x = c .before .before .before .before .before in
-    let at-open = at-x .before .before in
-    let at-if1 = at-open .before in
-    let at-is-sound = at-if1 .before in
-    let start = at-is-sound .before .before .before .before in
-    let a = start .args in
-    let sound = at-is-sound .is-sound in
-    not-opened-is (now (a .image)) (now (a .path)) (now (a .list)) _ _ (sound .ensures) (not-false _ (at-if1 .if1 .left)) (at-x .x .given .0 .0)
-    ((rw (at-x .x .given .1) at (at-open .open .ensures)) .0) (c .before .before .refused2 .ensures)
-
-same-length-3 : tie.Need-same-length-3
-same-length-3 c = search needs
-
-returns-3 : tie.Need-returns-3
-returns-3 c =
-    let at-s = c .before .before .before .before .before in
-    let at-open = at-s .before .before in
-    let at-if1 = at-open .before in
-    let at-is-sound = at-if1 .before in
-    let start = at-is-sound .before .before .before .before in
-    let a = start .args in
-    let sound = at-is-sound .is-sound in
-    opened-is (now (a .image)) (now (a .path)) (now (a .list)) _ _ (sound .ensures) (not-false _ (at-if1 .if1 .left)) (superblockOf (at-s .s .given .0 .0))
-    ((rw (at-s .s .given .1) at (at-open .open .ensures)) .0) (c .before .before .describe-path .ensures)
+    let hand = c .before .before in
+    let d = hand .before .before .before .before in
+    rw (hand .hand-over .ensures ∙ over d .same) (d .describe-in .ensures .1 (lent (at-words d)) (lends (at-words d) .fit))
 
 pub describe-spec : {M : Type 1} → statement M
 describe-spec =
     tie.close
     (tie.spec
-    is-sound-requires
-    refused-requires
+    room-requires
+    work-words-requires
+    array-borrow-prefix-work
+    slice-aggregate-describe-in
+    describe-in-requires
+    slice-aggregate-hand-over
+    hand-over-requires
     same-length
-    returns
-    open-requires
-    enum-known-x
-    refused-requires-2
-    enum-known-s
-    describe-path-requires
-    same-length-2
-    returns-2
-    same-length-3
-    returns-3)
+    returns)

@@ -1,13 +1,9 @@
--- All words are cleared, the number is the answer, and the zeros are as many as the limit says.
+-- The number is the answer, no block is handed over, and the zeros are as many as the limit says.
 use borrow.Author.Needs.{needs}
 use Rattle.describe.proofs.refused.Statement.{statement}
 use Rattle.describe.proofs.refused.Tie as tie
-use denote.Ref.{now}
 use Rattle.format.specs.Limits.{rankMost}
-use Rattle.walk.proofs.BlockList.{all-cleared}
-
-clear-from-requires : tie.Need-clear-from-requires
-clear-from-requires c κs = search needs
+use Rattle.walk.proofs.Handed.{handed-none}
 
 number-of-requires : tie.Need-number-of-requires
 number-of-requires c κs = search needs
@@ -15,15 +11,9 @@ number-of-requires c κs = search needs
 met-of-requires : tie.Need-met-of-requires
 met-of-requires c κs = search needs
 
-same-length : tie.Need-same-length
-same-length c = search needs
-
 returns : tie.Need-returns
 unfolding rankMost
-returns c =
-    let number = c .before in
-    let list = now (number .before .before .before .before .before .before .args .list) in
-    λ bs. rw (number .number-of .ensures, c .met-of .ensures, all-cleared list _ (number .before .before .before .clear-from .ensures))
+returns c = λ lent ws bs. rw (c .before .number-of .ensures, c .met-of .ensures, handed-none lent ws)
 
 pub refused-spec : {M : Type 1} → statement M
-refused-spec = tie.close (tie.spec clear-from-requires number-of-requires met-of-requires same-length returns)
+refused-spec = tie.close (tie.spec number-of-requires met-of-requires returns)

@@ -9,8 +9,8 @@ use Rattle.format.specs.Limits.{objectsMost}
 use Rattle.ledger.proofs.TableLaws.{table-none}
 use Rattle.object.proofs.ObjectLaws.{opened, room-lent}
 
-room-requires : tie.Need-room-requires
-room-requires c κs = search needs
+places-requires : tie.Need-places-requires
+places-requires c κs = search needs
 
 slice-aggregate-follow : tie.Need-slice-aggregate-follow
 slice-aggregate-follow c = search needs
@@ -21,10 +21,10 @@ slice-aggregate-follow-2 c = search needs
 follow-requires : tie.Need-follow-requires
 unfolding objectsMost
 follow-requires c κs =
-    let at-room = c .before .before .before in
-    let start = at-room .before .before .before .before in (
-      opened (now (start .args .image)) (start .args .superblock) _ (length (now (start .args .list))) (at-room .room .ensures) (start .pre .0),
-      (room-lent (now (start .args .list)) _ (at-room .room .ensures), (table-none objectsMost objectsMost (omega arith) (omega arith), start .pre .1)),
+    let at-places = c .before .before .before in
+    let start = at-places .before .before .before .before in (
+      opened (now (start .args .image)) (start .args .superblock) _ (length (now (start .args .list))) (at-places .places .ensures) (start .pre .0),
+      (room-lent (now (start .args .list)) _ (at-places .places .ensures), (table-none objectsMost objectsMost (omega arith) (omega arith), start .pre .1)),
     )
 
 same-length : tie.Need-same-length
@@ -33,14 +33,14 @@ same-length c = search needs
 returns : tie.Need-returns
 returns c =
     let at-follow = c .before .before .before .before in
-    let at-room = at-follow .before .before .before .before in
-    rw (← (at-room .room .ensures)) (at-follow .follow .ensures)
+    let at-places = at-follow .before .before .before .before in
+    rw (← (at-places .places .ensures)) (at-follow .follow .ensures)
 
 pub find-object-spec : {M : Type 1} → statement M
 find-object-spec =
     tie.close
     (tie.spec
-    room-requires
+    places-requires
     slice-aggregate-follow
     slice-aggregate-follow-2
     follow-requires

@@ -1,58 +1,57 @@
 -- The laws of Audited.antt, at the two ends of the code.
-use Prim.Native.Nat.{ℕ, _*_, _/_, _≤_}
-use mathlib.Core.Path.{refl, ap, sym, _∙_}
+use Prim.Native.Nat.{ℕ, _*_}
+use mathlib.Core.Path.{refl, ap, _∙_}
 use mathlib.Core.List.{List}
-use lib.ListN.{length, take}
-use lib.Seq.{length-take-le}
+use lib.ListN.{length}
 use denote.Ref.{now}
 use Rattle.format.specs.Limits.{objectsMost}
-use Rattle.format.specs.Answers.{audit}
-use Rattle.format.specs.Front.{paddedBytes, CReply, cAuditEnd}
-use Rattle.front.proofs.Lent.{part-lent}
-use Rattle.front.proofs.Part.{Back, came-back}
-use Rattle.front.proofs.Call.{of-part}
-use Rattle.front_audit.proofs.Audited.{used-fit, done-reply, refused-reply}
+use Rattle.format.specs.Front.{paddedBytes}
+use Rattle.walk.specs.Lent.{handed}
+use Rattle.audit.specs.Audit.{AuditedIs}
+use Rattle.front.proofs.Working.{Working, working, Worked, worked}
+use Rattle.front_audit.proofs.Audited.{done-reply, refused-reply}
 use native.Mathlib.Omega.{arith}
 use borrow.Author.Needs.{needs}
 use Rattle.front_audit.proofs.audit_with.Statement.{statement}
 use Rattle.front_audit.proofs.audit_with.Tie as tie
 
--- Where the audit has returned: the start, and what was lent and came back.
+-- Where the words of the working list are known.
+lends : (c : tie.After-work-words) →
+    let a = c .before .before .before .before .before .args in
+    Working (a .room) (c .work-words .result) (now (a .list))
+lends c = let s = c .before .before .before .before .before in working (s .args .room) _ (now (s .args .list)) (c .work-words .ensures) (s .pre .0)
+
+-- Where the audit has returned: the start, and what came back.
+abbrev at-words : tie.After-audit-into → tie.After-work-words
+at-words c = c .before .before .before .before .before
+
 abbrev start : tie.After-audit-into → tie.Start
-start c = c .before .before .before .before .before .before .before .before .before
+start c = at-words c .before .before .before .before .before
 
 abbrev back : tie.After-audit-into → List ℕ
 back c = c .audit-into .last .1 .0
 
-abbrev used : tie.After-audit-into → ℕ
-used c = 4 * c .audit-into .result .«block_count»
+abbrev count : tie.After-audit-into → ℕ
+count c = c .audit-into .result .«block_count»
 
--- the words lent are among those of `blocks`, and the words used among those that came back
-lent : (c : tie.After-audit-into) → let a = start c .args in length (take (4 * a .room) (now (a .list))) ≤ length (now (a .blocks)) / 8
-lent c = let s = start c in part-lent (now (s .args .list)) (4 * s .args .room) _ (s .pre .0) (s .pre .1 .0)
+came : (c : tie.After-audit-into) → Worked (start c .args .room) (at-words c .work-words .result) (now (start c .args .list)) (back c) (count c)
+came c = worked (start c .args .room) _ _ (back c) (count c) (lends (at-words c)) (c .audit-into .kept .1 .0) (c .audit-into .ensures .0)
 
-words-fit : (c : tie.After-audit-into) → used c ≤ length (back c)
-words-fit c =
+-- the audit is the definition's, with the words of so many blocks lent
+audited : (c : tie.After-audit-into) →
     let a = start c .args in
-    let fits = used-fit (now (a .image)) (length (now (a .blocks))) (length (now (a .reply))) _ (lent c) _ _ _ _ _ (c .audit-into .ensures) in
-    omega (arith, fits, c .audit-into .kept .1 .0)
+    let last = c .audit-into .last .1 .1 in
+    AuditedIs (now (a .image)) (4 * a .room) (handed (4 * a .room) (count c) (back c)) (last .0) (last .1 .0) (last .1 .1 .0) (c .audit-into .result)
+audited c = c .audit-into .ensures .1 (4 * start c .args .room) (lends (at-words c) .fit)
 
-came : (c : tie.After-audit-into) → let a = start c .args in Back (back c) (now (a .list)) (4 * a .room) (used c)
-came c = let a = start c .args in came-back (back c) (now (a .list)) (4 * a .room) (used c) (c .audit-into .kept .1 .0) (words-fit c)
-
--- the reply of an audit with so many words lent
-abbrev reply : tie.After-audit-into → ℕ → CReply
-reply c k = let a = start c .args in cAuditEnd (length (now (a .blocks))) (length (now (a .reply))) (audit (now (a .image)) k)
-
-mul-n : tie.Need-mul-n
-mul-n c = search needs
+work-words-requires : tie.Need-work-words-requires
+work-words-requires c κs = let s = c .before .before .before .before in omega (arith, s .pre .0, s .good .1 .0 .0)
 
 slice-relend-prefix-audit-into : tie.Need-slice-relend-prefix-audit-into
-slice-relend-prefix-audit-into c = search needs
+slice-relend-prefix-audit-into c = lends c .there
 
 slice-aggregate-audit-into : tie.Need-slice-aggregate-audit-into
-slice-aggregate-audit-into c =
-    let s = c .before .before .before .before .before in sym (length-take-le (4 * s .args .room) (now (s .args .list)) (s .pre .0))
+slice-aggregate-audit-into c = lends (c .before) .long
 
 slice-aggregate-audit-into-2 : tie.Need-slice-aggregate-audit-into-2
 slice-aggregate-audit-into-2 c = search needs
@@ -87,16 +86,14 @@ returns c =
     let a = start d .args in
     let t = at-refuse .refuse .ensures in
     rw (t .0)
-    (of-part (reply d) _ _ (4 * a .room) (start d .pre .0)
-    (refused-reply (now (a .image)) (length (now (a .blocks))) (length (now (a .reply))) _ (lent d) _ _ _ _ _ (d .audit-into .ensures) _ _
-    (at-if1 .if1 .taken) (t .1 .0) (t .1 .1)))
+    (refused-reply (now (a .image)) (length (now (a .blocks))) (length (now (a .reply))) (4 * a .room) (start d .pre .1 .0) _ _ _ _ _ (audited d) _ _
+    (at-if1 .if1 .taken) (t .1 .0) (t .1 .1))
 
 mul-used : tie.Need-mul-used
 mul-used c =
     let d = c .before .before .before .before .before .before .before .before in
     let s = start d in
-    let long = length-take-le (4 * s .args .room) (now (s .args .list)) (s .pre .0) in
-    record { fits = omega (arith, words-fit d, d .audit-into .kept .1 .0, long, s .pre .0, s .good .1 .0 .0) }
+    record { fits = omega (arith, came d .counted, s .pre .0, s .good .1 .0 .0) }
 
 slice-reshare-prefix-spill : tie.Need-slice-reshare-prefix-spill
 slice-reshare-prefix-spill c = came (c .before .before .before .before .before .before .before .before) .fits
@@ -107,7 +104,7 @@ slice-aggregate-spill c = came (c .before .before .before .before .before .befor
 spill-requires : tie.Need-spill-requires
 spill-requires c κs =
     let d = c .before .before .before .before .before .before .before .before .before .before in
-    omega (arith, came d .long, words-fit d, d .audit-into .kept .1 .0, lent d)
+    omega (arith, came d .long, came d .counted, start d .pre .1 .0)
 
 slice-aggregate-write-reply : tie.Need-slice-aggregate-write-reply
 slice-aggregate-write-reply c = search needs
@@ -123,7 +120,7 @@ unfolding objectsMost
 write-reply-requires c κs =
     let at-spill = c .before .before .before .before .before .before in
     let d = at-spill .before .before .before .before .before .before .before .before .before .before .before in
-    let most = d .audit-into .ensures .fits in
+    let most = audited d .fits in
     let kept = d .audit-into .kept .1 .1 in
     record {
       room = omega (arith, start d .pre .1 .1, most);
@@ -149,15 +146,14 @@ returns-2 c =
     let at-if1 = at-spill .before .before .before .before in
     let d = at-if1 .before .before .before .before .before .before .before in
     let a = start d .args in
-    of-part (reply d) _ _ (4 * a .room) (start d .pre .0)
-    (done-reply (now (a .image)) (length (now (a .blocks))) (length (now (a .reply))) _ (lent d) _ _ _ _ _ (d .audit-into .ensures) _ _
-    (at-if1 .if1 .left) (at-spill .spill .ensures ∙ ap (paddedBytes (length (now (a .blocks)))) (came d .words)) (c .before .before .write-reply .ensures))
+    done-reply (now (a .image)) (length (now (a .blocks))) (length (now (a .reply))) (4 * a .room) (start d .pre .1 .0) _ _ _ _ _ (audited d) _ _
+    (at-if1 .if1 .left) (at-spill .spill .ensures ∙ ap (paddedBytes (length (now (a .blocks)))) (came d .words)) (c .before .before .write-reply .ensures)
 
 pub audit-with-spec : {M : Type 1} → statement M
 audit-with-spec =
     tie.close
     (tie.spec
-    mul-n
+    work-words-requires
     slice-relend-prefix-audit-into
     slice-aggregate-audit-into
     slice-aggregate-audit-into-2

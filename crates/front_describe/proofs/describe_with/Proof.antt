@@ -1,61 +1,60 @@
 -- The laws of Described.antt, at the two ends of the code.
-use Prim.Native.Nat.{ℕ, _*_, _/_, _≤_}
-use mathlib.Core.Path.{ap, sym, _∙_}
+use Prim.Native.Nat.{ℕ, _*_}
+use mathlib.Core.Path.{_≡_, ap, _∙_}
 use mathlib.Core.List.{List}
-use lib.ListN.{length, take}
-use lib.Seq.{length-take-le}
+use lib.ListN.{length}
 use denote.Ref.{now}
 use Rattle.format.specs.Limits.{rankMost}
 use Rattle.format.specs.Answers.{describe}
-use Rattle.format.specs.Front.{paddedBytes, CReply, cDescribeEnd}
-use Rattle.front.proofs.Lent.{part-lent}
-use Rattle.front.proofs.Part.{Back, came-back}
-use Rattle.front.proofs.Call.{of-part}
-use Rattle.front_describe.proofs.Described.{used-fit, done-reply, refused-reply}
+use Rattle.format.specs.Front.{paddedBytes}
+use Rattle.walk.specs.Lent.{handed}
+use Rattle.describe.specs.Describe.{replyOf}
+use Rattle.front.proofs.Working.{Working, working, Worked, worked}
+use Rattle.front_describe.proofs.Described.{done-reply, refused-reply}
 use native.Mathlib.Omega.{arith}
 use borrow.Author.Needs.{needs}
 use Rattle.front_describe.proofs.describe_with.Statement.{statement}
 use Rattle.front_describe.proofs.describe_with.Tie as tie
 
--- Where the description has returned: the start, and what was lent and came back.
-abbrev start : tie.After-describe → tie.Start
-start c = c .before .before .before .before .before .before .before
+-- Where the words of the working list are known.
+lends : (c : tie.After-work-words) →
+    let a = c .before .before .before .before .before .before .args in
+    Working (a .room) (c .work-words .result) (now (a .list))
+lends c = let s = c .before .before .before .before .before .before in working (s .args .room) _ (now (s .args .list)) (c .work-words .ensures) (s .pre .0)
 
-abbrev back : tie.After-describe → List ℕ
-back c = c .describe .last .1 .1 .0
+-- Where the description has returned: the start, and what came back.
+abbrev at-words : tie.After-describe-in → tie.After-work-words
+at-words c = c .before .before
 
-abbrev used : tie.After-describe → ℕ
-used c = 4 * c .describe .result .«block_count»
+abbrev start : tie.After-describe-in → tie.Start
+start c = at-words c .before .before .before .before .before .before
 
--- the words lent are among those of `blocks`, and the words used among those that came back
-lent : (c : tie.After-describe) → let a = start c .args in length (take (4 * a .room) (now (a .list))) ≤ length (now (a .blocks)) / 8
-lent c = let s = start c in part-lent (now (s .args .list)) (4 * s .args .room) _ (s .pre .0) (s .pre .1 .0)
+abbrev back : tie.After-describe-in → List ℕ
+back c = c .describe-in .last .1 .1 .0
 
-words-fit : (c : tie.After-describe) → used c ≤ length (back c)
-words-fit c =
+abbrev count : tie.After-describe-in → ℕ
+count c = c .describe-in .result .«block_count»
+
+came : (c : tie.After-describe-in) → Worked (start c .args .room) (at-words c .work-words .result) (now (start c .args .list)) (back c) (count c)
+came c = worked (start c .args .room) _ _ (back c) (count c) (lends (at-words c)) (c .describe-in .kept .1 .1 .0) (c .describe-in .ensures .0)
+
+-- the reply is the definition's, with the words of so many blocks lent
+described : (c : tie.After-describe-in) →
     let a = start c .args in
-    let fits = used-fit (now (a .image)) (now (a .path)) (length (now (a .blocks))) (length (now (a .reply))) _ (lent c) _ _ (c .describe .ensures) in
-    omega (arith, fits, c .describe .kept .1 .1 .0)
+    replyOf (handed (4 * a .room) (count c) (back c)) (c .describe-in .result) ≡ describe (now (a .image)) (now (a .path)) (4 * a .room)
+described c = c .describe-in .ensures .1 (4 * start c .args .room) (lends (at-words c) .fit)
 
-came : (c : tie.After-describe) → let a = start c .args in Back (back c) (now (a .list)) (4 * a .room) (used c)
-came c = let a = start c .args in came-back (back c) (now (a .list)) (4 * a .room) (used c) (c .describe .kept .1 .1 .0) (words-fit c)
+work-words-requires : tie.Need-work-words-requires
+work-words-requires c κs = let s = c .before .before .before .before .before in omega (arith, s .pre .0, s .good .1 .1 .0 .0)
 
--- the reply of a description with so many words lent
-abbrev reply : tie.After-describe → ℕ → CReply
-reply c k = let a = start c .args in cDescribeEnd (length (now (a .blocks))) (length (now (a .reply))) (describe (now (a .image)) (now (a .path)) k)
+slice-relend-prefix-describe-in : tie.Need-slice-relend-prefix-describe-in
+slice-relend-prefix-describe-in c = lends c .there
 
-mul-n : tie.Need-mul-n
-mul-n c = search needs
+slice-aggregate-describe-in : tie.Need-slice-aggregate-describe-in
+slice-aggregate-describe-in c = lends (c .before) .long
 
-slice-relend-prefix-describe : tie.Need-slice-relend-prefix-describe
-slice-relend-prefix-describe c = search needs
-
-slice-aggregate-describe : tie.Need-slice-aggregate-describe
-slice-aggregate-describe c =
-    let s = c .before .before .before .before .before .before in sym (length-take-le (4 * s .args .room) (now (s .args .list)) (s .pre .0))
-
-describe-requires : tie.Need-describe-requires
-describe-requires c κs = search needs
+describe-in-requires : tie.Need-describe-in-requires
+describe-in-requires c κs = search needs
 
 refuse-requires : tie.Need-refuse-requires
 refuse-requires c κs = search needs
@@ -77,16 +76,14 @@ returns c =
     let a = start d .args in
     let t = at-refuse .refuse .ensures in
     rw (t .0)
-    (of-part (reply d) _ _ (4 * a .room) (start d .pre .0)
-    (refused-reply (now (a .image)) (now (a .path)) (length (now (a .blocks))) (length (now (a .reply))) _ (lent d) _ _ (d .describe .ensures) _ _
-    (at-if1 .if1 .taken) (t .1 .0) (t .1 .1)))
+    (refused-reply (now (a .image)) (now (a .path)) (length (now (a .blocks))) (length (now (a .reply))) (4 * a .room) (start d .pre .1 .0) _ _ (described d)
+    _ _ (at-if1 .if1 .taken) (t .1 .0) (t .1 .1))
 
 mul-used : tie.Need-mul-used
 mul-used c =
     let d = c .before .before .before .before .before in
     let s = start d in
-    let long = length-take-le (4 * s .args .room) (now (s .args .list)) (s .pre .0) in
-    record { fits = omega (arith, words-fit d, d .describe .kept .1 .1 .0, long, s .pre .0, s .good .1 .1 .0 .0) }
+    record { fits = omega (arith, came d .counted, s .pre .0, s .good .1 .1 .0 .0) }
 
 slice-reshare-prefix-spill : tie.Need-slice-reshare-prefix-spill
 slice-reshare-prefix-spill c = came (c .before .before .before .before .before) .fits
@@ -97,7 +94,7 @@ slice-aggregate-spill c = came (c .before .before .before .before .before .befor
 spill-requires : tie.Need-spill-requires
 spill-requires c κs =
     let d = c .before .before .before .before .before .before .before in
-    omega (arith, came d .long, words-fit d, d .describe .kept .1 .1 .0, lent d)
+    omega (arith, came d .long, came d .counted, start d .pre .1 .0)
 
 write-description-requires : tie.Need-write-description-requires
 unfolding rankMost
@@ -122,19 +119,18 @@ returns-2 c =
     let at-if1 = at-spill .before .before .before .before in
     let d = at-if1 .before .before .before .before in
     let a = start d .args in
-    of-part (reply d) _ _ (4 * a .room) (start d .pre .0)
-    (done-reply (now (a .image)) (now (a .path)) (length (now (a .blocks))) (length (now (a .reply))) _ (lent d) _ _ (d .describe .ensures) _ _
+    done-reply (now (a .image)) (now (a .path)) (length (now (a .blocks))) (length (now (a .reply))) (4 * a .room) (start d .pre .1 .0) _ _ (described d) _ _
     (at-if1 .if1 .left) (at-spill .spill .ensures ∙ ap (paddedBytes (length (now (a .blocks)))) (came d .words))
-    (c .before .before .write-description .ensures))
+    (c .before .before .write-description .ensures)
 
 pub describe-with-spec : {M : Type 1} → statement M
 describe-with-spec =
     tie.close
     (tie.spec
-    mul-n
-    slice-relend-prefix-describe
-    slice-aggregate-describe
-    describe-requires
+    work-words-requires
+    slice-relend-prefix-describe-in
+    slice-aggregate-describe-in
+    describe-in-requires
     refuse-requires
     same-length
     same-length-2

@@ -1,47 +1,56 @@
 -- The laws of Located.antt, at the two ends of the code.
-use Prim.Native.Nat.{ℕ, _*_, _/_, _≤_}
-use mathlib.Core.Path.{_≡_, sym}
+use Prim.Native.Nat.{_*_}
+use mathlib.Core.Path.{_≡_}
 use mathlib.Core.List.{_++_}
-use lib.ListN.{length, take, drop}
-use lib.Seq.{length-take-le}
+use lib.ListN.{length, drop, replicate}
 use denote.Ref.{now}
 use Rattle.format.specs.Answers.{lookup}
-use Rattle.format.specs.Front.{CReply, cLookupEnd}
-use Rattle.front.proofs.Lent.{part-lent}
+use Rattle.lookup.specs.Lookup.{replyOf}
 use Rattle.front.proofs.Part.{part-back}
-use Rattle.front.proofs.Call.{of-part}
+use Rattle.front.proofs.Working.{Working, working}
 use Rattle.front.proofs.Reply.{all-zero}
 use Rattle.front_lookup.proofs.Located.{done-reply, refused-reply}
+use native.Mathlib.Omega.{arith}
 use borrow.Author.Needs.{needs}
 use Rattle.front_lookup.proofs.lookup_with.Statement.{statement}
 use Rattle.front_lookup.proofs.lookup_with.Tie as tie
 
--- Where the lookup has returned: the start, and that the words lent are among those of `blocks`.
-abbrev start : tie.After-lookup → tie.Start
-start c = c .before .before .before .before .before .before .before
+-- Where the words of the working list are known.
+lends : (c : tie.After-work-words) →
+    let a = c .before .before .before .before .before .before .args in
+    Working (a .room) (c .work-words .result) (now (a .list))
+lends c = let s = c .before .before .before .before .before .before in working (s .args .room) _ (now (s .args .list)) (c .work-words .ensures) (s .pre .0)
 
-lent : (c : tie.After-lookup) → let a = start c .args in length (take (4 * a .room) (now (a .list))) ≤ length (now (a .blocks)) / 8
-lent c = let s = start c in part-lent (now (s .args .list)) (4 * s .args .room) _ (s .pre .0) (s .pre .1 .0)
+-- Where the lookup has returned: the start.
+abbrev at-words : tie.After-lookup-in → tie.After-work-words
+at-words c = c .before .before
+
+abbrev start : tie.After-lookup-in → tie.Start
+start c = at-words c .before .before .before .before .before .before
 
 -- the list has its length
-list-kept : (c : tie.After-lookup) → let a = start c .args in length (c .lookup .last .1 .1 .0 ++ drop (4 * a .room) (now (a .list))) ≡ length (now (a .list))
-list-kept c = let a = start c .args in part-back (c .lookup .last .1 .1 .0) (now (a .list)) (4 * a .room) (c .lookup .kept .1 .1 .0)
+list-kept : (c : tie.After-lookup-in) →
+    let list = now (start c .args .list) in
+    length (c .lookup-in .last .1 .1 .0 ++ drop (at-words c .work-words .result) list) ≡ length list
+list-kept c = part-back (c .lookup-in .last .1 .1 .0) (now (start c .args .list)) (at-words c .work-words .result) (c .lookup-in .kept .1 .1 .0)
 
--- the reply of a lookup with so many words lent
-abbrev reply : tie.After-lookup → ℕ → CReply
-reply c k = let a = start c .args in cLookupEnd (length (now (a .blocks))) (length (now (a .reply))) (lookup (now (a .image)) (now (a .path)) k)
+-- the reply is the definition's, with the words of so many blocks lent
+looked-up : (c : tie.After-lookup-in) →
+    let a = start c .args in
+    replyOf (replicate (4 * a .room) 0) (c .lookup-in .result) ≡ lookup (now (a .image)) (now (a .path)) (4 * a .room)
+looked-up c = c .lookup-in .ensures (4 * start c .args .room) (lends (at-words c) .fit)
 
-mul-n : tie.Need-mul-n
-mul-n c = search needs
+work-words-requires : tie.Need-work-words-requires
+work-words-requires c κs = let s = c .before .before .before .before .before in omega (arith, s .pre .0, s .good .1 .1 .0 .0)
 
-slice-relend-prefix-lookup : tie.Need-slice-relend-prefix-lookup
-slice-relend-prefix-lookup c = search needs
+slice-relend-prefix-lookup-in : tie.Need-slice-relend-prefix-lookup-in
+slice-relend-prefix-lookup-in c = lends c .there
 
-slice-aggregate-lookup : tie.Need-slice-aggregate-lookup
-slice-aggregate-lookup c = let s = c .before .before .before .before .before .before in sym (length-take-le (4 * s .args .room) _ (s .pre .0))
+slice-aggregate-lookup-in : tie.Need-slice-aggregate-lookup-in
+slice-aggregate-lookup-in c = lends (c .before) .long
 
-lookup-requires : tie.Need-lookup-requires
-lookup-requires c κs = search needs
+lookup-in-requires : tie.Need-lookup-in-requires
+lookup-in-requires c κs = search needs
 
 refuse-requires : tie.Need-refuse-requires
 refuse-requires c κs = search needs
@@ -59,14 +68,12 @@ returns : tie.Need-returns
 returns c =
     let at-refuse = c .before .before .before .before in
     let at-if1 = at-refuse .before .before .before in
-    let at-lookup = at-if1 .before .before .before .before in
-    let s = start at-lookup in
-    let a = s .args in
+    let d = at-if1 .before .before .before .before in
+    let a = start d .args in
     let t = at-refuse .refuse .ensures in
     rw (t .0)
-    (of-part (reply at-lookup) _ _ (4 * a .room) (s .pre .0)
-    (refused-reply (now (a .image)) (now (a .path)) (length (now (a .blocks))) (length (now (a .reply))) _ (lent at-lookup) _ _ (at-lookup .lookup .ensures) _ _
-    (at-if1 .if1 .taken) (t .1 .0) (t .1 .1)))
+    (refused-reply (now (a .image)) (now (a .path)) (length (now (a .blocks))) (length (now (a .reply))) (4 * a .room) (start d .pre .1 .0) _ _ (looked-up d)
+    _ _ (at-if1 .if1 .taken) (t .1 .0) (t .1 .1))
 
 cast-kind : tie.Need-cast-kind
 cast-kind c = search needs
@@ -94,21 +101,19 @@ returns-2 c =
     let at-spill = c .before .before in
     let at-clear-from = at-spill .before .before .before .before .before in
     let at-if1 = at-clear-from .before .before .before in
-    let at-lookup = at-if1 .before .before .before .before in
-    let s = start at-lookup in
-    let a = s .args in
-    of-part (reply at-lookup) _ _ (4 * a .room) (s .pre .0)
-    (done-reply (now (a .image)) (now (a .path)) (length (now (a .blocks))) (length (now (a .reply))) _ (lent at-lookup) _ _ (at-lookup .lookup .ensures) _ _
-    (at-if1 .if1 .left) (all-zero (now (a .blocks)) _ (at-clear-from .clear-from .ensures)) (at-spill .spill .ensures))
+    let d = at-if1 .before .before .before .before in
+    let a = start d .args in
+    done-reply (now (a .image)) (now (a .path)) (length (now (a .blocks))) (length (now (a .reply))) (4 * a .room) (start d .pre .1 .0) _ _ (looked-up d) _ _
+    (at-if1 .if1 .left) (all-zero (now (a .blocks)) _ (at-clear-from .clear-from .ensures)) (at-spill .spill .ensures)
 
 pub lookup-with-spec : {M : Type 1} → statement M
 lookup-with-spec =
     tie.close
     (tie.spec
-    mul-n
-    slice-relend-prefix-lookup
-    slice-aggregate-lookup
-    lookup-requires
+    work-words-requires
+    slice-relend-prefix-lookup-in
+    slice-aggregate-lookup-in
+    lookup-in-requires
     refuse-requires
     same-length
     same-length-2

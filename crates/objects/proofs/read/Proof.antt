@@ -121,6 +121,7 @@ enum-known-c : tie.Need-enum-known-c Inv-loop μ-loop
 enum-known-c c = search needs
 
 add-i : tie.Need-add-i Inv-loop μ-loop
+unfolding objectsMost
 add-i c =
     let at-loop-test = c .before .before .before .before .before .before .before .before .before .before .before .before .before .before .before .before
     .before in

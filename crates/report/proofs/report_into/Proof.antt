@@ -1,11 +1,12 @@
 -- Opened or not, the laws of Replied.antt.
-use mathlib.Core.Path.{_≡_}
-use lib.ListN.{length}
+use mathlib.Core.Path.{_≡_, ap}
+use native.Mathlib.Omega.{arith}
 use denote.Ref.{now}
 use Rattle.format.specs.Superblock.{opened, openImage}
 use Rattle.superblock.specs.Superblock.{superblockOf}
 use Rattle.superblock.specs.declared.Superblock.{Superblock}
 use Rattle.object.specs.Object.{Bounded}
+use Rattle.report.specs.Report.{Fields}
 use Rattle.report.proofs.Replied.{unopened-is, opened-is}
 use borrow.Author.Needs.{needs}
 use Rattle.report.proofs.report_into.Statement.{statement}
@@ -37,16 +38,16 @@ enum-known-s c = search needs
 report-opened-requires : tie.Need-report-opened-requires
 report-opened-requires c κs = let s = c .before .before .before .before .before in (opened-here s .1, start s .pre)
 
-same-length : tie.Need-same-length
-same-length c = search needs
-
 returns : tie.Need-returns
 returns c =
-    let t = c .before .before .unopened .ensures in
-    let x = c .before .before .before .before .before in
+    let x = c .before .before in
     let a = x .before .before .before .before .before .before .before .before .args in
     let e = (rw (x .x .given .1) at (x .before .before .open .ensures)) .0 in
-    unopened-is (now (a .image)) (length (now (a .list))) (x .x .given .0 .0) _ _ _ _ _ e (t .0) (t .1)
+    let none = ap (λ (f : Fields). f .blockCount) (c .unopened .ensures) in
+    (omega (arith, none), λ lent room. unopened-is (now (a .image)) (x .x .given .0 .0) _ e (c .unopened .ensures) lent _ _ _ _)
+
+same-length : tie.Need-same-length
+same-length c = search needs
 
 same-length-2 : tie.Need-same-length-2
 same-length-2 c = search needs
@@ -57,14 +58,12 @@ same-length-3 c = search needs
 same-length-4 : tie.Need-same-length-4
 same-length-4 c = search needs
 
-same-length-5 : tie.Need-same-length-5
-same-length-5 c = search needs
-
 returns-2 : tie.Need-returns-2
 returns-2 c =
     let at-report = c .before .before .before .before .before .before .before .before in
     let s = at-report .before .before .before .before .before .before in
-    opened-is (now (start s .args .image)) _ (superblock s) _ _ _ _ _ (opened-here s .0) (at-report .report-opened .ensures)
+    let t = at-report .report-opened .ensures in
+    (t .0, λ lent room. opened-is (now (start s .args .image)) _ lent (superblock s) _ _ _ _ _ (opened-here s .0) room (t .1 lent))
 
 pub report-into-spec : {M : Type 1} → statement M
 report-into-spec =
@@ -75,10 +74,9 @@ report-into-spec =
     unopened-requires
     enum-known-s
     report-opened-requires
-    same-length
     returns
+    same-length
     same-length-2
     same-length-3
     same-length-4
-    same-length-5
     returns-2)

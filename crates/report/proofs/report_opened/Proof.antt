@@ -1,5 +1,5 @@
 -- The walk in a filled list, then the laws of Replied.antt at its two ends.
-use Prim.Native.Nat.{ℕ, _*_, _≤_}
+use Prim.Native.Nat.{ℕ}
 use mathlib.Core.List.{List}
 use mathlib.Core.Path.{_≡_, ap, sym, _∙_}
 use lib.ListN.{length, replicate}
@@ -9,9 +9,8 @@ use Rattle.format.specs.declared.Refusal.{Refusal}
 use Rattle.ledger.specs.Report.{Readable}
 use Rattle.object.specs.declared.object.ObjectRead.the-variants.{Done, Stopped}
 use Rattle.audit.specs.Audit.{ImageWalked}
-use Rattle.audit.proofs.ReplyLaws.{lists-table, stored-room, readable, count-fits}
-use Rattle.report.proofs.Replied.{entered-fit, entered-numbered, refused-is, done-is, same-lent}
-use native.Mathlib.Omega.{arith}
+use Rattle.audit.proofs.ReplyLaws.{lists-table, stored-room, readable}
+use Rattle.report.proofs.Replied.{entered-fit, entered-numbered, refused-is, done-is, same-long}
 use borrow.Author.Needs.{needs}
 use Rattle.report.proofs.report_opened.Statement.{statement}
 use Rattle.report.proofs.report_opened.Tie as tie
@@ -66,14 +65,8 @@ walk-done c = rw (c .count .given .1) at (c .before .before .before .before .bef
 read : (c : tie.After-count) → let w = at-end c in Readable (now (start w .args .image)) (addresses w) (objects c)
 read c =
     let w = at-end c in
-    readable (now (start w .args .image)) (filled w) (start w .args .superblock) (count c) (objects c) (words w) (addresses w) (counts w)
-    (w .walk-image .kept .1 .0) (walk-done c) (start w .pre .0)
-
-fits : (c : tie.After-count) → 4 * count c ≤ length (words (at-end c))
-fits c =
-    let w = at-end c in
-    count-fits (now (start w .args .image)) (filled w) (start w .args .superblock) (count c) (objects c) (words w) (addresses w) (counts w)
-    (w .walk-image .kept .1 .0) (walk-done c)
+    readable (now (start w .args .image)) (filled w) (start w .args .superblock) (count c) (objects c) (words w) (addresses w) (counts w) (walk-done c)
+    (start w .pre .0)
 
 fill-undefined-requires : tie.Need-fill-undefined-requires
 fill-undefined-requires c κs = search needs
@@ -91,8 +84,8 @@ count-entered-requires c κs = search needs
 
 refused-requires : tie.Need-refused-requires
 refused-requires c κs =
-    let n = c .before .count-entered in
-    let x = c .before .before .before .before in
+    let n = c .count-entered in
+    let x = c .before .before .before in
     let w = at-stop x in
     let a = start w .args in
     let same = w .walk-image .kept .1 .0 in (
@@ -110,15 +103,6 @@ read-stored-requires c κs =
     let d = c .before .before .before in
     (read d, stored-room _ _ _ _ (start (at-end d) .pre .1) (walk-done d .ready .table .fits))
 
-mul-clear-from : tie.Need-mul-clear-from
-mul-clear-from c =
-    let d = c .before .before .before .before .before .before .before in
-    let w = at-end d in
-    record { fits = omega (arith, fits d, w .walk-image .kept .1 .0, lent w, start w .good .1 .0 .0) }
-
-clear-from-requires : tie.Need-clear-from-requires
-clear-from-requires c κs = fits (c .before .before .before .before .before .before .before)
-
 no-block-requires : tie.Need-no-block-requires
 no-block-requires c κs = search needs
 
@@ -133,14 +117,13 @@ same-length-3 c = search needs
 
 returns : tie.Need-returns
 returns c =
-    let t = c .before .before .refused .ensures in
-    let n = c .before .before .before .before .count-entered in
-    let x = c .before .before .before .before .before .before .before in
+    let n = c .before .count-entered in
+    let x = c .before .before .before .before in
     let w = at-stop x in
     let a = start w .args in
-    same-lent _ _ _ _ _ _ _ _ _ (lent w)
+    same-long _ _ _ _ _ _ _ _ _ (lent w)
     (refused-is (now (a .image)) (filled w) (a .superblock) (start w .pre .0) (refusal x) (words w) _ _ (w .walk-image .kept .1 .0) (all-filled w)
-    (walk-stopped x) (n .result) (n .ensures) _ _ _ _ _ (t .0) (t .1))
+    (walk-stopped x) (n .result) (n .ensures) _ _ _ _ (c .refused .ensures))
 
 same-length-4 : tie.Need-same-length-4
 same-length-4 c = search needs
@@ -156,15 +139,13 @@ same-length-7 c = search needs
 
 returns-2 : tie.Need-returns-2
 returns-2 c =
-    let at-clear = c .before .before .before in
-    let at-read = at-clear .before .before .before .before in
+    let at-read = c .before .before .before in
     let d = at-read .before .before .before .before in
     let w = at-end d in
     let a = start w .args in
-    same-lent _ _ _ _ _ _ _ _ _ (lent w)
+    same-long _ _ _ _ _ _ _ _ _ (lent w)
     (done-is (now (a .image)) (filled w) (a .superblock) (start w .pre .0) (count d) (objects d) (words w) (addresses w) (counts w)
-    (w .walk-image .kept .1 .0) (walk-done d) _ _ (start w .pre .1 .storedEmpty) (at-read .read-stored .ensures) (c .no-block .result) _
-    (c .no-block .ensures) (at-clear .clear-from .ensures))
+    (walk-done d) _ _ (start w .pre .1 .storedEmpty) (at-read .read-stored .ensures) (c .no-block .result) (c .no-block .ensures))
 
 pub report-opened-spec : {M : Type 1} → statement M
 report-opened-spec =
@@ -177,8 +158,6 @@ report-opened-spec =
     refused-requires
     enum-known-count
     read-stored-requires
-    mul-clear-from
-    clear-from-requires
     no-block-requires
     same-length
     same-length-2

@@ -2,6 +2,7 @@
 //! process. All slices lent are cleared before every call; the clock runs during the call alone. A figure is the median
 //! over several runs of the median over many calls, in nanoseconds.
 
+use compare::generate::block_orders::{touching, ORDERS};
 use compare::generate::{limits, small};
 use compare::library;
 use compare::reader::front::{audit_bytes, BLOCK_BYTES, REPLY_WORDS};
@@ -50,6 +51,9 @@ fn run(image: &[u8], slices: &mut Slices) -> (u64, u64) {
 fn main() {
     let mut images = vec![("E", small::e().bytes), ("H", small::h().bytes)];
     images.extend(limits::all());
+    for (name, order) in ORDERS {
+        images.push((name, touching(order, MOST_BLOCKS).bytes));
+    }
     let mut slices = Slices {
         blocks: vec![0; BLOCK_BYTES * MOST_BLOCKS],
         reply: vec![0; 8 * REPLY_WORDS],

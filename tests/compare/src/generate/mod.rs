@@ -3,6 +3,7 @@
 
 pub mod asked;
 pub mod attribute;
+pub mod block_orders;
 mod bodies;
 pub mod corpus;
 pub mod damage;

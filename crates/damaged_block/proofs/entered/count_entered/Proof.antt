@@ -18,13 +18,13 @@ Inv-loop list room count₀ count =
 abbrev μ-loop : tie.MeasureT-loop
 μ-loop list room count₀ count = room - count
 
-room-requires : tie.Need-room-requires Inv-loop μ-loop
-room-requires c κs = search needs
+places-requires : tie.Need-places-requires Inv-loop μ-loop
+places-requires c κs = search needs
 
 loop-holds : tie.Need-loop-holds Inv-loop μ-loop
 loop-holds c =
     let list = now (c .before .before .args .list) in
-    let room : 4 * c .room .result ≤ length list = rw (c .room .ensures) (lent-none list .lent) in
+    let room : 4 * c .places .result ≤ length list = omega (arith, c .places .ensures, lent-none list .lent) in
     (room, omega arith, λ k h. absurd (omega arith))
 
 mul-if1 : tie.Need-mul-if1 Inv-loop μ-loop
@@ -40,7 +40,7 @@ returns : tie.Need-returns Inv-loop μ-loop
 unfolding undefinedAddress
 returns c =
     let l = c .before .before .before .loop in
-    let room = c .before .before .before .before .room .ensures in
+    let room = c .before .before .before .before .places .ensures in
     record { within = rw (← room) (l .inv .1); before = l .inv .2; after = λ h. c .if1 .taken }
 
 add-count : tie.Need-add-count Inv-loop μ-loop
@@ -58,7 +58,7 @@ loop-again c =
 returns-2 : tie.Need-returns-2 Inv-loop μ-loop
 returns-2 c =
     let l = c .before .loop in
-    let room = c .before .before .room .ensures in
+    let room = c .before .before .places .ensures in
     record { within = rw (← room) (l .inv .1); before = l .inv .2; after = λ h. absurd (omega (arith, rw (← room) at h)) }
 
 pub count-entered-spec : {M : Type 1} → statement M
@@ -67,7 +67,7 @@ count-entered-spec =
     (tie.spec
     Inv-loop
     μ-loop
-    room-requires
+    places-requires
     loop-holds
     mul-if1
     mul-if1-2

@@ -4,8 +4,7 @@ use Rattle.lookup.proofs.lookup.locate.Statement.{statement}
 use Rattle.lookup.proofs.lookup.locate.Tie as tie
 use denote.Ref.{now}
 use mathlib.Core.Path.{ap, _∙_}
-use lib.ListN.{length}
-use Rattle.format.specs.Blocks.{roomOf}
+use Rattle.walk.specs.Lent.{placesOf}
 use Rattle.object.proofs.ObjectLaws.{opened, room-lent}
 use Rattle.lookup.proofs.LookupLaws.{stopped-is, symbolic-is, last-stopped, last-known}
 
@@ -24,13 +23,13 @@ enum-told c = search needs
 enum-known-a : tie.Need-enum-known-a
 enum-known-a c = search needs
 
-room-requires : tie.Need-room-requires
-room-requires c κs = search needs
+places-requires : tie.Need-places-requires
+places-requires c κs = search needs
 
 kind-at-requires : tie.Need-kind-at-requires
 kind-at-requires c κs =
     let start = c .before .before .before .before .before .before .before .before .before .before .before .before in
-    (opened (now (start .args .image)) (start .args .superblock) _ _ (c .before .room .ensures) (start .pre .0), room-lent _ _ (c .before .room .ensures))
+    (opened (now (start .args .image)) (start .args .superblock) _ _ (c .before .places .ensures) (start .pre .0), room-lent _ _ (c .before .places .ensures))
 
 enum-known-x-2 : tie.Need-enum-known-x-2
 enum-known-x-2 c = search needs
@@ -49,7 +48,7 @@ returns c =
     let at-find-object = c .before .before .before .before .before .before in
     let start = at-find-object .before .before .before .before .before in
     rw (c .refused .ensures)
-    (stopped-is (now (start .args .image)) (now (start .args .path)) (length (now (start .args .list))) (start .args .superblock) _
+    (stopped-is (now (start .args .image)) (now (start .args .path)) _ (start .args .superblock) _
     (rw (c .before .before .x .given .1) at (at-find-object .find-object .ensures)))
 
 same-length-2 : tie.Need-same-length-2
@@ -59,7 +58,7 @@ returns-2 : tie.Need-returns-2
 returns-2 c =
     let at-find-object = c .before .before .before .before in
     let start = at-find-object .before .before .before .before .before in
-    symbolic-is (now (start .args .image)) (now (start .args .path)) (length (now (start .args .list))) (start .args .superblock)
+    symbolic-is (now (start .args .image)) (now (start .args .path)) _ (start .args .superblock)
     (rw (c .enum-told .given .1) at (at-find-object .find-object .ensures))
 
 same-length-3 : tie.Need-same-length-3
@@ -68,14 +67,14 @@ same-length-3 c = search needs
 returns-3 : tie.Need-returns-3
 returns-3 c =
     let at-kind-at = c .before .before .before .before .before .before in
-    let at-room = at-kind-at .before .before in
-    let at-a = at-room .before .before in
+    let at-places = at-kind-at .before .before in
+    let at-a = at-places .before .before in
     let at-find-object = at-a .before .before .before .before in
     let start = at-find-object .before .before .before .before .before in
     rw (c .refused2 .ensures)
-    (last-stopped (now (start .args .image)) (now (start .args .path)) (length (now (start .args .list))) (start .args .superblock) (at-a .a .given .0 .0)
+    (last-stopped (now (start .args .image)) (now (start .args .path)) _ (start .args .superblock) (at-a .a .given .0 .0)
     (rw (at-a .a .given .1) at (at-find-object .find-object .ensures)) _
-    (rw (c .before .before .x2 .given .1, (at-room .room .ensures ∙ ap roomOf (at-find-object .find-object .kept .1 .1 .0))) at
+    (rw (c .before .before .x2 .given .1, (at-places .places .ensures ∙ ap placesOf (at-find-object .find-object .kept .1 .1 .0))) at
     (at-kind-at .kind-at .ensures)))
 
 same-length-4 : tie.Need-same-length-4
@@ -84,13 +83,13 @@ same-length-4 c = search needs
 returns-4 : tie.Need-returns-4
 returns-4 c =
     let at-kind-at = c .before .before .before .before .before in
-    let at-room = at-kind-at .before .before in
-    let at-a = at-room .before .before in
+    let at-places = at-kind-at .before .before in
+    let at-a = at-places .before .before in
     let at-find-object = at-a .before .before .before .before in
     let start = at-find-object .before .before .before .before .before in
-    last-known (now (start .args .image)) (now (start .args .path)) (length (now (start .args .list))) (start .args .superblock) (at-a .a .given .0 .0)
+    last-known (now (start .args .image)) (now (start .args .path)) _ (start .args .superblock) (at-a .a .given .0 .0)
     (rw (at-a .a .given .1) at (at-find-object .find-object .ensures)) _
-    (rw (c .before .k .given .1, (at-room .room .ensures ∙ ap roomOf (at-find-object .find-object .kept .1 .1 .0))) at (at-kind-at .kind-at .ensures))
+    (rw (c .before .k .given .1, (at-places .places .ensures ∙ ap placesOf (at-find-object .find-object .kept .1 .1 .0))) at (at-kind-at .kind-at .ensures))
 
 pub locate-spec : {M : Type 1} → statement M
 locate-spec =
@@ -101,7 +100,7 @@ locate-spec =
     refused-requires
     enum-told
     enum-known-a
-    room-requires
+    places-requires
     kind-at-requires
     enum-known-x-2
     refused-requires-2

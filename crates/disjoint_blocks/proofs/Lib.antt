@@ -1,0 +1,4 @@
+pub mod Numbers
+pub mod Sorted
+pub mod Listed
+pub mod Held

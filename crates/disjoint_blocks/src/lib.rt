@@ -1,0 +1,1 @@
+// Every list of disjoint blocks has an index: a law without code.

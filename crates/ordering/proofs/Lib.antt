@@ -1,0 +1,5 @@
+pub mod OrderLaws
+pub mod RaiseLaws
+pub mod MergeLaws
+pub mod MergedCases
+pub mod RunLaws
