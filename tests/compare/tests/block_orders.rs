@@ -24,7 +24,7 @@ fn addresses(reply: &AuditReply) -> Vec<u64> {
 #[test]
 fn every_order_is_accepted_up_to_the_limit() {
     for (name, order) in ORDERS {
-        for blocks in [OTHERS, 64, 65, 128, 129, MOST_BLOCKS - 1, MOST_BLOCKS] {
+        for blocks in [OTHERS + 1, 64, 65, 128, 129, MOST_BLOCKS - 1, MOST_BLOCKS] {
             let image = touching(order, blocks).bytes;
             let reply = reply(&image, MOST_BLOCKS);
             let found = (reply.number, reply.block_count);
@@ -69,7 +69,7 @@ fn one_block_more_meets_others_or_none() {
         let image = file(&scattered(seed, MOST).0).bytes;
         let before = reply(&image, MOST_BLOCKS);
         assert_eq!(before.number, 0, "{name}");
-        let image = file(&one_more(seed, MOST)).bytes;
+        let image = one_more(seed, MOST).bytes;
         let after = reply(&image, MOST_BLOCKS);
         meetings.check(&name, (after.number, after.met), || {
             compare::plain::audit(&image)
@@ -99,7 +99,7 @@ mod proved {
     fn the_library_agrees_in_every_order() {
         let mut pair = Pair::default();
         for (name, order) in ORDERS {
-            for blocks in (OTHERS..140).chain([500, 1023, MOST_BLOCKS, MOST_BLOCKS + 1]) {
+            for blocks in (OTHERS + 1..140).chain([500, 1023, MOST_BLOCKS, MOST_BLOCKS + 1]) {
                 let image = touching(order, blocks).bytes;
                 for room in [blocks - 1, blocks, MOST_BLOCKS] {
                     let number = calls_agree(&mut pair, name, &image, room.min(MOST_BLOCKS));
@@ -115,7 +115,7 @@ mod proved {
         let mut pair = Pair::default();
         for seed in 0..FILES {
             let name = format!("file {seed}");
-            let image = file(&one_more(seed, MOST)).bytes;
+            let image = one_more(seed, MOST).bytes;
             calls_agree(&mut pair, &name, &image, MOST_BLOCKS);
         }
         let meetings = pair.meetings(Call::Audit);

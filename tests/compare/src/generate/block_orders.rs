@@ -1,16 +1,19 @@
-//! Files whose blocks come in a chosen order of addresses: the root group's header names its continuations in that order.
+//! Files whose blocks come in a chosen order of addresses: the root group's header goes on in a chain of continuations.
 
 use super::header::{self, Message};
 use super::random::Random;
 use super::sheet::Sheet;
 use super::small::{table, write_group, write_superblock, ROOT};
 
-/// The bytes of tree, heap and segment of a group without names.
-const GROUP: u64 = 664;
+/// The root's tree, behind its header of two messages.
+const TREE: u64 = ROOT + 16 + 24 + LINK;
+/// The first continuation, behind tree, heap and segment of a group without names.
+pub const FIRST: u64 = TREE + 664;
 /// The superblock, the root's header, tree, heap and segment.
 pub const OTHERS: usize = 5;
-/// A message without a body.
+/// A message without a body, and one that names a continuation.
 const EMPTY: u64 = 8;
+const LINK: u64 = 24;
 
 /// Where a continuation lies: its address, from that of the first, and its length.
 #[derive(Clone, Copy, Debug)]
@@ -19,26 +22,29 @@ pub struct Part {
     pub length: u64,
 }
 
-/// The root group with these continuations, in this order. Each has messages without a body only.
+/// The messages of one part: a link to the next, if there is one, and messages without a body.
+fn messages(length: u64, next: Option<usize>) -> Vec<Message> {
+    let link = next.map(|next| Message::continuation(next as u64, 0));
+    let count = (length - if next.is_some() { LINK } else { 0 }) / EMPTY;
+    let empty = (0..count).map(|_| Message::step(0, 0, &[]));
+    link.into_iter().chain(empty).collect()
+}
+
+/// The root group with these continuations, each named by the one before it.
 pub fn file(parts: &[Part]) -> Sheet {
-    let tree = ROOT + 16 + 24 + 24 * parts.len() as u64;
-    let first = tree + GROUP;
     let mut places = vec![ROOT];
-    let mut messages = vec![table(tree)];
-    let mut blocks = Vec::new();
+    let mut blocks = vec![vec![table(TREE), Message::continuation(1, 0)]];
     for (number, part) in parts.iter().enumerate() {
-        places.push(first + part.at);
-        messages.push(Message::continuation(1 + number as u64, 0));
-        let count = part.length / EMPTY;
-        blocks.push((0..count).map(|_| Message::step(0, 0, &[])).collect());
+        places.push(FIRST + part.at);
+        let last = number + 1 == parts.len();
+        blocks.push(messages(part.length, (!last).then_some(number + 2)));
     }
-    blocks.insert(0, messages);
     let end = parts.iter().map(|part| part.at + part.length).max();
     let mut sheet = Sheet::default();
-    sheet.reserve(first + end.unwrap_or(0));
+    sheet.reserve(FIRST + end.expect("a part"));
     let length = sheet.bytes.len() as u64;
     write_superblock(&mut sheet, length);
-    write_group(&mut sheet, tree, &[]);
+    write_group(&mut sheet, TREE, &[]);
     header::write(&mut sheet, &places, 1, &blocks);
     sheet
 }
@@ -86,8 +92,8 @@ pub const ORDERS: [(&str, Order); 5] = [
 /// A file of so many blocks, whose continuations touch each other.
 pub fn touching(order: Order, blocks: usize) -> Sheet {
     let part = |number| Part {
-        at: EMPTY * number as u64,
-        length: EMPTY,
+        at: LINK * number as u64,
+        length: LINK,
     };
     let parts: Vec<Part> = order(blocks - OTHERS).into_iter().map(part).collect();
     file(&parts)
@@ -101,7 +107,7 @@ pub fn scattered(seed: u64, most: u64) -> (Vec<Part>, u64) {
     let mut parts = Vec::new();
     for _ in 0..count {
         at += EMPTY * random.below(3);
-        let length = EMPTY * random.between(1, 4);
+        let length = LINK + EMPTY * random.below(4);
         parts.push(Part { at, length });
         at += length;
     }
@@ -110,13 +116,15 @@ pub fn scattered(seed: u64, most: u64) -> (Vec<Part>, u64) {
     (ordered.collect(), at)
 }
 
-/// The same with one part more at the end, which meets several of the others, one or none.
-pub fn one_more(seed: u64, most: u64) -> Vec<Part> {
+/// The same with one continuation more at the end of the chain, which meets several of the others, one or none.
+pub fn one_more(seed: u64, most: u64) -> Sheet {
     let (mut parts, end) = scattered(seed, most);
     let mut random = Random::new(!seed);
     let longest = random.pick(&[EMPTY, 4 * EMPTY, end]);
-    let at = EMPTY * random.below(end / EMPTY + 1);
     let length = EMPTY * random.between(1, longest / EMPTY);
-    parts.push(Part { at, length });
-    parts
+    let at = EMPTY * random.below(end / EMPTY + 1);
+    // Written behind the others and then moved, so that it leaves their bytes as they are.
+    parts.push(Part { at: end, length });
+    let last = parts.len() - 1;
+    file(&parts).with("continuation address", last, FIRST + at)
 }
