@@ -15,7 +15,7 @@ pub struct Compared {
 }
 
 fn larger(a: usize, b: usize) -> usize
-    ensures { λ r. ⌜ ((n : ℕ) → a ≤ n → b ≤ n → r ≤ n) ⌝ }
+    ensures { λ r. ⌜ (a ≤ r) × (b ≤ r) × ((n : ℕ) → a ≤ n → b ≤ n → r ≤ n) ⌝ }
 {
     if a < b {
         return b;

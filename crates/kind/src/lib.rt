@@ -14,7 +14,7 @@ ghost use Rattle.tally.specs.Tally.{Tallied, HasTally};
 ghost use Rattle.kind.specs.Kind.{Located, BodyAt, KindIs};
 
 // Whether there are so many messages of the types that decide the kind, each number 0 or 1.
-fn counts_are(tally: Tally, spaces: u8, datatypes: u8, layouts: u8, tables: u8) -> bool
+fn counts_are(tally: Tally, spaces: usize, datatypes: usize, layouts: usize, tables: usize) -> bool
     requires { ⌜ (spaces < 2) × (datatypes < 2) × (layouts < 2) × (tables < 2) ⌝ }
     ensures { λ r. ⌜ ((im : List ℕ) (ms : List Message) → Tallied im ms tally → r ≡ hasCounts ms spaces datatypes layouts tables) ⌝ }
 {

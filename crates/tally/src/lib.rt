@@ -8,7 +8,7 @@ ghost use Rattle.tally.specs.Tally.{Placed, messageAt, IsFirst, Tallied}
 
 // The first message of a type. The count is 0, 1, or 2 for more than one.
 pub struct First {
-    pub count: u8,
+    pub count: usize,
     pub place: usize,
 }
 

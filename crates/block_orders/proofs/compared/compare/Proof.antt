@@ -93,7 +93,7 @@ loop-again c =
       lent n .0,
       t .inv .1,
       enter n .enter .kept .1 .0 ∙ t .inv .2,
-      λ m h. c .larger .ensures (m + 10) (t .inv .3 m h) (few-less _ (t .count) _ (t .inv .0 .counted) (found .tests) m h),
+      λ m h. c .larger .ensures .2 (m + 10) (t .inv .3 m h) (few-less _ (t .count) _ (t .inv .0 .counted) (found .tests) m h),
     )
 
 same-length-4 : tie.Need-same-length-4 Inv-loop μ-loop
