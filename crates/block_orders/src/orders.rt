@@ -12,42 +12,35 @@ fn address(number: usize) -> u64 {
     0
 }
 
-// Each block behind the one before it.
-pub fn rising(out: &mut [u64]) {
-    let mut i = 0;
-    while i < out.len() {
-        out[i] = address(i);
-        i += 1;
-    }
+// Each block behind the one before it; each before it; the first, the last, the second, the last but one, and so on.
+pub enum Order {
+    Rising,
+    Falling,
+    Inward,
 }
 
-// Each block before the one before it.
-pub fn falling(out: &mut [u64]) {
-    let n = out.len();
-    let mut i = 0;
-    while i < n {
-        out[i] = address(n - 1 - i);
-        i += 1;
-    }
-}
-
-// The number of the i-th block from outside, of n.
-fn from_outside(n: usize, i: usize) -> usize {
-    if i % 2 == 0 {
-        return i / 2;
-    }
+// The number of the i-th block of n, by address.
+fn number(order: Order, n: usize, i: usize) -> usize {
     if n <= i {
         return 0;
     }
-    n - 1 - i / 2
+    match order {
+        Order::Rising => i,
+        Order::Falling => n - 1 - i,
+        Order::Inward => {
+            if i % 2 == 0 {
+                return i / 2;
+            }
+            n - 1 - i / 2
+        }
+    }
 }
 
-// The first, the last, the second, the last but one, and so on.
-pub fn inward(out: &mut [u64]) {
+pub fn fill(out: &mut [u64], order: Order) {
     let n = out.len();
     let mut i = 0;
     while i < n {
-        out[i] = address(from_outside(n, i));
+        out[i] = address(number(order, n, i));
         i += 1;
     }
 }
@@ -79,8 +72,8 @@ fn swap(out: &mut [u64], i: usize, j: usize)
 }
 
 // The rising order shuffled, always in the same way.
-pub fn random(out: &mut [u64]) {
-    rising(out);
+pub fn shuffled(out: &mut [u64]) {
+    fill(out, Order::Rising);
     let mut seed = 1;
     let mut i = out.len();
     while 1 < i {

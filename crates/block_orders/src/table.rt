@@ -1,6 +1,7 @@
 // The table of orders: how many blocks were entered in each, and the highest number of blocks that one was compared with.
 use crate::compared::compare;
 use crate::orders;
+use crate::orders::Order;
 use crate::orders::SIZE;
 use format::BLOCKS_MOST;
 use libc::STDOUT_FILENO;
@@ -24,13 +25,13 @@ fn put_row(out: &mut [u8], at: usize, name: &[u8], addresses: &[u64]) -> usize {
 // Writes all rows and returns the place behind them.
 fn put_rows(out: &mut [u8]) -> usize {
     let mut addresses = [0u64; BLOCKS_MOST];
-    orders::rising(&mut addresses);
+    orders::fill(&mut addresses, Order::Rising);
     let mut place = put_row(out, 0, b"rising   ", &addresses);
-    orders::falling(&mut addresses);
+    orders::fill(&mut addresses, Order::Falling);
     place = put_row(out, place, b"falling  ", &addresses);
-    orders::inward(&mut addresses);
+    orders::fill(&mut addresses, Order::Inward);
     place = put_row(out, place, b"inward   ", &addresses);
-    orders::random(&mut addresses);
+    orders::shuffled(&mut addresses);
     put_row(out, place, b"random   ", &addresses)
 }
 

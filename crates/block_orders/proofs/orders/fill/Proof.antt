@@ -3,20 +3,20 @@ use Prim.Native.Nat.{_-_}
 use mathlib.Core.Path.{_≡_}
 use lib.ListN.{length}
 use borrow.Author.Needs.{needs}
-use Rattle.block_orders.proofs.orders.inward.Statement.{statement}
-use Rattle.block_orders.proofs.orders.inward.Tie as tie
+use Rattle.block_orders.proofs.orders.fill.Statement.{statement}
+use Rattle.block_orders.proofs.orders.fill.Tie as tie
 
 abbrev Inv-loop : tie.InvT-loop
-Inv-loop out₀ n i₀ out i = length out ≡ length out₀
+Inv-loop out₀ order n i₀ out i = length out ≡ length out₀
 
 abbrev μ-loop : tie.MeasureT-loop
-μ-loop out₀ n i₀ out i = n - i
+μ-loop out₀ order n i₀ out i = n - i
 
 loop-holds : tie.Need-loop-holds Inv-loop μ-loop
 loop-holds c = search needs
 
-from-outside-requires : tie.Need-from-outside-requires Inv-loop μ-loop
-from-outside-requires c κs = search needs
+number-requires : tie.Need-number-requires Inv-loop μ-loop
+number-requires c κs = search needs
 
 address-requires : tie.Need-address-requires Inv-loop μ-loop
 address-requires c κs = search needs
@@ -42,14 +42,14 @@ same-length c = search needs
 returns : tie.Need-returns Inv-loop μ-loop
 returns c = search needs
 
-pub inward-spec : {M : Type 1} → statement M
-inward-spec =
+pub fill-spec : {M : Type 1} → statement M
+fill-spec =
     tie.close
     (tie.spec
     Inv-loop
     μ-loop
     loop-holds
-    from-outside-requires
+    number-requires
     address-requires
     mul-out
     slice-write-out

@@ -3,8 +3,8 @@ use Prim.Native.Nat.{_≤_}
 use mathlib.Core.Path.{_≡_}
 use lib.ListN.{length}
 use borrow.Author.Needs.{needs}
-use Rattle.block_orders.proofs.orders.random.Statement.{statement}
-use Rattle.block_orders.proofs.orders.random.Tie as tie
+use Rattle.block_orders.proofs.orders.shuffled.Statement.{statement}
+use Rattle.block_orders.proofs.orders.shuffled.Tie as tie
 
 abbrev Inv-loop : tie.InvT-loop
 Inv-loop out₀ seed₀ i₀ out seed i = (length out ≡ length out₀) × (i ≤ length out)
@@ -12,8 +12,8 @@ Inv-loop out₀ seed₀ i₀ out seed i = (length out ≡ length out₀) × (i �
 abbrev μ-loop : tie.MeasureT-loop
 μ-loop out₀ seed₀ i₀ out seed i = i
 
-rising-requires : tie.Need-rising-requires Inv-loop μ-loop
-rising-requires c κs = search needs
+fill-requires : tie.Need-fill-requires Inv-loop μ-loop
+fill-requires c κs = search needs
 
 loop-holds : tie.Need-loop-holds Inv-loop μ-loop
 loop-holds c = search needs
@@ -42,13 +42,13 @@ same-length c = search needs
 returns : tie.Need-returns Inv-loop μ-loop
 returns c = search needs
 
-pub random-spec : {M : Type 1} → statement M
-random-spec =
+pub shuffled-spec : {M : Type 1} → statement M
+shuffled-spec =
     tie.close
     (tie.spec
     Inv-loop
     μ-loop
-    rising-requires
+    fill-requires
     loop-holds
     next-requires
     below-requires
