@@ -72,7 +72,8 @@ module _ (ws ws′ : List ℕ) (f : Found) (e : Ended Object) where
   same-end (done h bs) p k r =
       let a : e ≡ ended (h .object) (length bs) = sym (object-end f e) ∙ ap objectEnd (k .answer) in
       rw (r .1) (record { answer = a ∙ ap (λ (x : Object). ended x (length bs)) (r .2); held = k .held; rest = k .rest; indexed = k .indexed })
-  same-end (refused x bs) p k r = rw r (record { answer = sym (object-end f e) ∙ ap objectEnd (k .answer); held = k .held; rest = k .rest; indexed = k .indexed })
+  same-end (refused x bs) p k r =
+      rw r (record { answer = sym (object-end f e) ∙ ap objectEnd (k .answer); held = k .held; rest = k .rest; indexed = k .indexed })
 
   pub kind-alone : (im : List ℕ) (eof room count at : ℕ) (f₀ : Found) →
       Walked ws ws′ (withFound f e) (run im eof room (headerWith (visitMessage false) at f₀) (blocksOf count ws)) →

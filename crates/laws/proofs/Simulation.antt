@@ -56,7 +56,9 @@ walked-refused ws ws′ r (refused q bs) w = let e : q ≡ r = cc (w .answer) in
 walked-stopped : {A B : Type 0} (ws ws′ : List ℕ) (r : Refusal) (o : Outcome A) (f : A → List Block → Outcome B) → Walked ws ws′ (stopped r) o →
     Walked ws ws′ (stopped r) (andThen o f)
 walked-stopped ws ws′ r (done b bs) f w = let z : _≡_ {A = ℕ} 0 1 = cc (w .answer) in absurd (omega arith)
-walked-stopped ws ws′ r (refused q bs) f w = let e : r ≡ q = cc (w .answer) in record { answer = ap stopped e; held = w .held; rest = w .rest; indexed = w .indexed }
+walked-stopped ws ws′ r (refused q bs) f w =
+    let e : r ≡ q = cc (w .answer) in
+    record { answer = ap stopped e; held = w .held; rest = w .rest; indexed = w .indexed }
 
 -- one stretch of the walk behind another
 pub come-from : {im : List ℕ} {eof room : ℕ} {A : Type 0} {w₀ w₁ w₂ : Walk A} {n₀ n₁ n₂ : ℕ} {ws₀ ws₁ ws₂ : List ℕ} →
@@ -122,7 +124,12 @@ module _ {im : List ℕ} {eof room : ℕ} {A : Type 0} {w₀ : Walk A} {n₀ : �
 
   pub refusal : {r : Refusal} → Simulation im eof room w₀ n₀ ws₀ (refuse r) n ws → Walked ws₀ ws (stopped r) (run im eof room w₀ (blocksOf n₀ ws₀))
   unfolding run
-  refusal s = rw (s .sameRun) (record { answer = refl; held = rw length-blocksOf (s .lent .numbered); rest = λ k h f. s .rest k (rw length-blocksOf at h) f; indexed = rw length-blocksOf (s .lent .indexed) })
+  refusal s = rw (s .sameRun) (record {
+    answer = refl;
+    held = rw length-blocksOf (s .lent .numbered);
+    rest = λ k h f. s .rest k (rw length-blocksOf at h) f;
+    indexed = rw length-blocksOf (s .lent .indexed);
+  })
 
   -- a test that passed, and one that failed
   pub passed : (t : Bool) (r : Refusal) (f : Unit {0} → Walk A) → t ≡ true → Simulation im eof room w₀ n₀ ws₀ (check t r >>= f) n ws →
@@ -158,7 +165,12 @@ module _ {im : List ℕ} {eof room : ℕ} {A : Type 0} {w₀ : Walk A} {n₀ : �
   outside {v} {a} {p} {rest} {k} h s =
       let e : run im eof room w₀ (blocksOf n₀ ws₀) ≡ refused (notEntered 5 (kindNumber v) a p []) (blocksOf n ws) =
       s .sameRun ∙ rw (entryAnswer-outside eof room (blocksOf n ws) a (lengthIn im v a (stored p rest)) (omega arith), lt-leb (a + p) eof h) in
-      rw e (record { answer = refl; held = rw length-blocksOf (s .lent .numbered); rest = λ k h f. s .rest k (rw length-blocksOf at h) f; indexed = rw length-blocksOf (s .lent .indexed) })
+      rw e (record {
+        answer = refl;
+        held = rw length-blocksOf (s .lent .numbered);
+        rest = λ k h f. s .rest k (rw length-blocksOf at h) f;
+        indexed = rw length-blocksOf (s .lent .indexed);
+      })
 
   -- the function `enter`, called for a block of m bytes
   module _ {v : Kind} {a : ℕ} {l : Length} {k : List ℕ → Walk A} (m : ℕ) (sized : m ≡ lengthIn im v a l) (known : knownLength im eof v a l ≡ m) (ws₁ : List ℕ)
@@ -213,7 +225,12 @@ module _ {im : List ℕ} {eof room : ℕ} {A : Type 0} {w₀ : Walk A} {n₀ : �
     callee-last {w} {r} s h =
         let d = run-grown im eof room w (blocksOf n ws) (rw length-blocksOf (s .lent .counted)) in
         let m : n ≤ length (left (run im eof room w (blocksOf n ws))) = omega (arith, simp (length-append, length-blocksOf) at (ap length (d .all))) in
-        rw (s .sameRun) (record { answer = h .answer; held = h .held; rest = λ i b f. h .rest i b (rw (s .sameLength) f) ∙ s .rest i (omega (arith, m)) f; indexed = h .indexed })
+        rw (s .sameRun) (record {
+          answer = h .answer;
+          held = h .held;
+          rest = λ i b f. h .rest i b (rw (s .sameLength) f) ∙ s .rest i (omega (arith, m)) f;
+          indexed = h .indexed;
+        })
 
     module _ {B : Type 0} (w : Walk B) (f : B → Walk A) (s : Simulation im eof room w₀ n₀ ws₀ (w >>= f) n ws) where
       -- it stopped, and so does the function
@@ -230,7 +247,12 @@ module _ {im : List ℕ} {eof room : ℕ} {A : Type 0} {w₀ : Walk A} {n₀ : �
           let m : length (left (run im eof room w (blocksOf n ws))) ≡ c = rw o (length-blocksOf c ws₁) in
           let m2 : n ≤ length (left (run im eof room w (blocksOf n ws))) = omega (arith, simp (length-append, length-blocksOf) at (ap length (d .all))) in
           record {
-            lent = record { counted = omega (arith, d .fits, m); lent = omega (arith, s .lent .lent, e); numbered = rw (o, length-blocksOf) at (h .held); indexed = rw (o, length-blocksOf) at (h .indexed) };
+            lent = record {
+              counted = omega (arith, d .fits, m);
+              lent = omega (arith, s .lent .lent, e);
+              numbered = rw (o, length-blocksOf) at (h .held);
+              indexed = rw (o, length-blocksOf) at (h .indexed);
+            };
             sameLength = e ∙ s .sameLength;
             grown = omega (arith, m, m2, s .grown);
             blocks = grown-on (s .blocks) (rw o at d);

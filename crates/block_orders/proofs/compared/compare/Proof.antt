@@ -72,7 +72,9 @@ same-length-3 : tie.Need-same-length-3 Inv-loop μ-loop
 same-length-3 c = search needs
 
 returns-3 : tie.Need-returns-3 Inv-loop μ-loop
-returns-3 c = let l = c .before .before .before .before .before .before .before .before .before .before .before .before .loop in λ m h. l .inv .3 m (rw (l .inv .1) h)
+returns-3 c =
+    let l = c .before .before .before .before .before .before .before .before .before .before .before .before .loop in
+    λ m h. l .inv .3 m (rw (l .inv .1) h)
 
 enum-known-n : tie.Need-enum-known-n Inv-loop μ-loop
 enum-known-n c = search needs
