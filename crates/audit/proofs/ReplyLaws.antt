@@ -18,11 +18,11 @@ use Rattle.walk.specs.Lent.{blocksOf, placesOf, handed}
 use Rattle.walk.proofs.BlockList.{length-blocksOf}
 use Rattle.laws.proofs.Simulation.{walked-done, walked-refused}
 use Rattle.ledger.specs.Links.{addressesOf}
-use Rattle.ledger.specs.Table.{linkedOf, Table}
-use Rattle.ledger.specs.Report.{countedPlaces, Empty, Readable, StoredRead}
+use Rattle.ledger.specs.Table.{linkedOf}
+use Rattle.ledger.specs.Report.{countedPlaces, Empty, Places, Readable, StoredRead}
 use Rattle.ledger.specs.declared.report.Ledger.{Ledger}
-use Rattle.ledger.proofs.TableLaws.{length-linkedOf, table-none}
-use Rattle.ledger.proofs.ReportLaws.{counted-law, empty-law}
+use Rattle.ledger.proofs.TableLaws.{length-linkedOf}
+use Rattle.ledger.proofs.ReportLaws.{counted-law, empty-law, places-none}
 use Rattle.superblock.specs.Superblock.{superblockOf}
 use Rattle.superblock.specs.declared.Superblock.{Superblock}
 use Rattle.object.specs.Object.{Bounded}
@@ -96,7 +96,7 @@ module _ (im ws : List ℕ) (s : Superblock) (count objects : ℕ) (ws₁ addres
   -- the stored counts lie inside the image
   pub readable : Bounded im s → Readable im addresses objects
   readable b = record {
-    listed = omega (arith, w .ready .table .fits, w .ready .table .addressesLong);
+    listed = omega (arith, w .ready .places .fits, w .ready .places .addressesLong);
     inside = λ k h.
         let i = headers-inside im (placesOf (length ws)) (superblockOf s) os (blocksOf count ws₁) ran k (rw length-linkedOf h) in
         omega (arith, rw (getD-addresses objects k addresses counts h) at i, b .2);
@@ -117,17 +117,17 @@ module _ (im ws : List ℕ) (s : Superblock) (count objects : ℕ) (ws₁ addres
       let o = run-opened im lent _ (superblockOf s) fit e ∙ ran in
       record {
         reply = rw (o, length-blocksOf, counted-law im objects addresses stored counts (r .read), list-is lent);
-        fits = w .ready .table .fits;
+        fits = w .ready .places .fits;
         readable = readable b;
-        addressesRest = λ h k m. w .ready .table .addressesZero k m;
+        addressesRest = λ h k m. w .ready .places .addressesZero k m;
         storedRest = λ h k m. r .rest k m ∙ rw z (getD-zeros objectsMost k);
-        countsRest = λ h k m. w .ready .table .countsZero k m;
+        countsRest = λ h k m. w .ready .places .countsZero k m;
       }
 
--- lists of zeros are an empty table, with room for every object's stored count
+-- lists of zeros are places of no object, with room for every object's stored count
 module _ (addresses stored counts : List ℕ) (l : Lists addresses stored counts) where
-  pub lists-table : Table addresses counts 0
-  lists-table = rw (l .addressesEmpty, l .countsEmpty) (table-none objectsMost objectsMost (omega arith) (omega arith))
+  pub lists-places : Places addresses counts 0
+  lists-places = rw (l .addressesEmpty, l .countsEmpty) (places-none objectsMost objectsMost (omega arith) (omega arith))
 
 pub stored-room : (addresses stored counts : List ℕ) (n : ℕ) → Lists addresses stored counts → n ≤ objectsMost → n ≤ length stored
 stored-room addresses stored counts n l h = rw (l .storedEmpty, length-replicate) h

@@ -1,5 +1,6 @@
 -- What the audit returns and leaves, as document 01's reply.
 use Prim.Native.Nat.{ℕ, _≤_, _<_}
+use mathlib.Core.Bool.{true}
 use mathlib.Core.List.{List, []}
 use mathlib.Core.Path.{_≡_}
 use lib.ListN.{length, getD, replicate}
@@ -9,14 +10,14 @@ use Rattle.format.specs.Walk.{answerOf, metOf, run}
 use Rattle.format.specs.Ledger.{Linked}
 use Rattle.format.specs.Audit.{auditWalk}
 use Rattle.format.specs.Answers.{AuditReply, audit}
-use Rattle.walk.specs.Lent.{placesOf, Ended, ended, stopped, Walked}
+use Rattle.walk.specs.Lent.{placesOf, Lent, Ended, ended, stopped, Walked}
 use Rattle.superblock.specs.Superblock.{superblockOf}
 use Rattle.superblock.specs.declared.Superblock.{Superblock}
 use Rattle.ledger.specs.Table.{linkedOf}
 use Rattle.group.specs.Group.{Ready}
 use Rattle.object.specs.declared.object.ObjectRead.{ObjectRead}
 use Rattle.object.specs.declared.object.ObjectRead.the-variants.{Done, Stopped}
-use Rattle.ledger.specs.Report.{countedPlaces, countedOf, Readable}
+use Rattle.ledger.specs.Report.{countedPlaces, countedOf, Places, Readable}
 use Rattle.audit.specs.declared.Audited.{Audited}
 use Rattle.audit.specs.declared.Reply.{Reply}
 
@@ -30,13 +31,27 @@ ledgerEnd addresses counts (Done count objects) = ended (linkedOf objects addres
 ledgerEnd addresses counts (Stopped r) = stopped r
 
 abbrev pub ReadyIf : List ℕ → List ℕ → List ℕ → ℕ → ℕ → ObjectRead → Type 0
-ReadyIf ws addresses counts eof room (Done count objects) = Ready ws addresses counts eof room count objects
+ReadyIf ws addresses counts eof room (Done count objects) = Ready true ws addresses counts eof room count objects
 ReadyIf ws addresses counts eof room (Stopped r) = Unit {0}
 
--- the walk of an opened image was walked, in the whole of the list lent
-pub record ImageWalked (im ws : List ℕ) (s : Superblock) (ws′ addresses′ counts′ : List ℕ) (r : ObjectRead) : Type 0 where
+-- the walk of an opened image was walked, in the whole of the list lent, with this table of objects
+pub record TableWalked (im ws : List ℕ) (s : Superblock) (ws′ addresses′ counts′ : List ℕ) (r : ObjectRead) : Type 0 where
   pub walked : Walked ws ws′ (ledgerEnd addresses′ counts′ r) (run im (s .«end_of_file») (placesOf (length ws)) (auditWalk (superblockOf s)) [])
   pub ready : ReadyIf ws′ addresses′ counts′ (s .«end_of_file») (placesOf (length ws)) r
+
+-- the blocks stand in the working list, and the objects in the places that are handed out
+pub record HandedOut (ws addresses counts : List ℕ) (room count objects : ℕ) : Type 0 where
+  pub lent : Lent ws count room
+  pub places : Places addresses counts objects
+
+abbrev pub HandedOutIf : List ℕ → List ℕ → List ℕ → ℕ → ObjectRead → Type 0
+HandedOutIf ws addresses counts room (Done count objects) = HandedOut ws addresses counts room count objects
+HandedOutIf ws addresses counts room (Stopped r) = Unit {0}
+
+-- the walk of an opened image was walked, in the whole of the list lent, and its objects were handed out
+pub record ImageWalked (im ws : List ℕ) (s : Superblock) (ws′ addresses′ counts′ : List ℕ) (r : ObjectRead) : Type 0 where
+  pub walked : Walked ws ws′ (ledgerEnd addresses′ counts′ r) (run im (s .«end_of_file») (placesOf (length ws)) (auditWalk (superblockOf s)) [])
+  pub ready : HandedOutIf ws′ addresses′ counts′ (placesOf (length ws)) r
 
 -- "kept in a table of 256 places that starts empty"
 pub record Lists (addresses stored counts : List ℕ) : Type 0 where

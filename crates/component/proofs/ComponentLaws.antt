@@ -22,17 +22,15 @@ use Rattle.laws.proofs.SumOfLengths.{grown-apart, grown-inside}
 use Rattle.laws.proofs.Follows.{Ran}
 use Rattle.laws.proofs.Simulation.{Simulation, start, callee-done, callee-stopped, walked-refused}
 use Rattle.ledger.specs.Links.{linkSum}
-use Rattle.ledger.specs.Table.{linkedOf, Table}
-use Rattle.ledger.proofs.TableLaws.{length-linkedOf}
-use Rattle.visit.specs.Visit.{Both, visitBoth, bothOf, linkOf}
-use Rattle.visit.specs.declared.Link.the-variants.{Absent}
+use Rattle.ledger.specs.Table.{linkedOf}
+use Rattle.visit.specs.Visit.{Both, visitBoth, bothOf, linkOf, noLink}
 use Rattle.symbol.specs.declared.entry.State.{State}
 use Rattle.symbol.specs.declared.entry.Step as steps
 use Rattle.group.specs.Group.{Ready, groupEnd, GroupIs}
 use Rattle.group.proofs.Entries.{lookup-part}
 use Rattle.superblock.specs.Superblock.{superblockOf}
 use Rattle.superblock.specs.declared.Superblock.{Superblock}
-use Rattle.component.specs.Component.{targetOf, EndsAs, TableIf, FoundIs, ComponentIs}
+use Rattle.component.specs.Component.{targetOf, EndsAs, FoundIs, ComponentIs}
 use Rattle.component.specs.declared.Target.{Target}
 use Rattle.component.specs.declared.Target.the-variants.{Object, Symbolic, Stopped}
 
@@ -73,11 +71,6 @@ ends-as im eof room (Object a) bs = (bs, refl)
 ends-as im eof room Symbolic bs = (bs, refl)
 ends-as im eof room (Stopped n) bs = (bs, refl)
 
-table-if : (addresses counts : List ℕ) (r : Target) → Table addresses counts 0 → TableIf addresses counts r
-table-if addresses counts (Object a) t = t
-table-if addresses counts Symbolic t = tt
-table-if addresses counts (Stopped n) t = tt
-
 module _ (im name ws addresses counts : List ℕ) (s : Superblock) (room tree heap count : ℕ) (last : Bool) (ws₁ addresses₁ counts₁ : List ℕ) where
   abbrev eof : ℕ
   eof = s .«end_of_file»
@@ -86,7 +79,7 @@ module _ (im name ws addresses counts : List ℕ) (s : Superblock) (room tree he
   w = groupWalk (s .«leaf_k») (s .«internal_k») tree heap (compareName name) lookup.absent
 
   abbrev part : Ran true (λ x b. (last : List ℕ) × (b ≡ record { ledger = linkedOf 0 addresses counts; link = x })) (run im eof room w (blocksOf count ws))
-      (run im eof room (groupWalk (s .«leaf_k») (s .«internal_k») tree heap (visitBoth false name) (bothOf addresses counts 0 Absent)) (blocksOf count ws))
+      (run im eof room (groupWalk (s .«leaf_k») (s .«internal_k») tree heap (visitBoth false name) (bothOf addresses counts 0 noLink)) (blocksOf count ws))
   part = lookup-part im eof room (s .«leaf_k») (s .«internal_k») tree heap (blocksOf count ws) name lookup.absent (linkedOf 0 addresses counts)
 
   -- what follows the group's walk
@@ -99,35 +92,37 @@ module _ (im name ws addresses counts : List ℕ) (s : Superblock) (room tree he
   -- the group is not sound
   pub group-stopped : (x : Refusal) → GroupIs im name ws addresses counts eof room (s .«leaf_k») (s .«internal_k») false tree heap count 0 ws₁ addresses₁
       counts₁ (steps.the-variants.Stopped x) →
-      FoundIs im name ws s room tree heap count last addresses₁ counts₁ (Stopped x)
+      FoundIs im name ws s room tree heap count last (Stopped x)
   group-stopped x g =
       let o = lookup-refused ws ws₁ addresses₁ counts₁ (linkedOf 0 addresses counts) x _ _ part (g .walked) in
-      record { found = (o .0, bound (o .1)); table = tt }
+      record { found = (o .0, bound (o .1)) }
 
   -- it is sound, and its entries say where the name leads
   pub group-found : (st : State) (r : Target) → GroupIs im name ws addresses counts eof room (s .«leaf_k») (s .«internal_k») false tree heap count 0 ws₁
       addresses₁ counts₁ (steps.the-variants.Done st) →
-      targetOf r ≡ targetWalk last (linkOf (st .link)) → FoundIs im name ws s room tree heap count last addresses₁ counts₁ r
+      targetOf r ≡ targetWalk last (linkOf (st .link)) → FoundIs im name ws s room tree heap count last r
   unfolding linkedOf
   group-found st r g e =
       let o = lookup-done ws ws₁ addresses₁ counts₁ (linkedOf 0 addresses counts) st _ _ part (g .walked) in
-      let z : st .objects ≡ 0 = sym (length-linkedOf (st .objects) addresses₁ counts₁) ∙ ap (length {A = Linked}) (o .2) in
       let q : run im eof room (w >>= targetWalk last) (blocksOf count ws) ≡ run im eof room (targetOf r) (o .0) = bound (o .1) ∙ ap
       (λ (v : Walk lookup.Target). run im eof room v (o .0)) (sym e) in
-      record { found = subst (EndsAs r) (sym q) (ends-as im eof room r (o .0)); table = table-if addresses₁ counts₁ r (rw z at (g .ready .table)) }
+      record { found = subst (EndsAs r) (sym q) (ends-as im eof room r (o .0)) }
+
+-- a lookup isn't an audit
+no-table : {A : Type 0} → false ≡ true → A
+no-table e = let z : _≡_ {A = ℕ} 0 1 = cc in absurd (omega arith)
 
 module _ (im name ws : List ℕ) (s : Superblock) (room at : ℕ) (last : Bool) (l : Lent ws 0 room) (ws₁ : List ℕ) where
   abbrev whole : Walk lookup.Target
   whole = componentWalk (superblockOf s) name last at
 
-  pub superblock-stopped : (addresses counts : List ℕ) (x : Refusal) →
+  pub superblock-stopped : (x : Refusal) →
       Walked ws ws₁ (stopped x) (run im (s .«end_of_file») room (superblockWalk (superblockOf s)) []) →
-      ComponentIs im name s room at last addresses counts (Stopped x)
+      ComponentIs im name s room at last (Stopped x)
   unfolding componentWalk blocksOf
-  superblock-stopped addresses counts x h =
+  superblock-stopped x h =
       record {
         found = walked-refused ws ws₁ x _ (callee-stopped ws₁ (superblockWalk (superblockOf s)) _ (start im (s .«end_of_file») room whole 0 ws l) h);
-        table = tt;
       }
 
   module _ (n : ℕ) (same : length ws₁ ≡ length ws) (h : Walked ws ws₁ (ended tt n) (run im (s .«end_of_file») room (superblockWalk (superblockOf s)) [])) where
@@ -136,11 +131,11 @@ module _ (im name ws : List ℕ) (s : Superblock) (room at : ℕ) (last : Bool) 
     at-header = callee-done ws₁ (superblockWalk (superblockOf s)) _ (start im (s .«end_of_file») room whole 0 ws l) same h
 
     module _ (ws₂ : List ℕ) where
-      pub header-stopped : (addresses counts : List ℕ) (x : Refusal) →
+      pub header-stopped : (x : Refusal) →
           Walked ws₁ ws₂ (stopped x) (run im (s .«end_of_file») room (headerWalk at) (blocksOf n ws₁)) →
-          ComponentIs im name s room at last addresses counts (Stopped x)
+          ComponentIs im name s room at last (Stopped x)
       unfolding blocksOf
-      header-stopped addresses counts x k = record { found = walked-refused ws ws₂ x _ (callee-stopped ws₂ (headerWalk at) _ at-header k); table = tt }
+      header-stopped x k = record { found = walked-refused ws ws₂ x _ (callee-stopped ws₂ (headerWalk at) _ at-header k) }
 
       module _ (o : headers.Object) (m : ℕ) (same₂ : length ws₂ ≡ length ws₁)
           (k : Walked ws₁ ws₂ (ended o m) (run im (s .«end_of_file») room (headerWalk at) (blocksOf n ws₁))) where
@@ -148,37 +143,35 @@ module _ (im name ws : List ℕ) (s : Superblock) (room at : ℕ) (last : Bool) 
         at-kind = callee-done ws₂ (headerWalk at) _ at-header same₂ k
 
         -- it is no group
-        not-a-group : (addresses counts : List ℕ) → findWalk (superblockOf s) name o ≡ refuse (fault 17 0) →
-            ComponentIs im name s room at last addresses counts (Stopped (fault 17 0))
+        not-a-group : findWalk (superblockOf s) name o ≡ refuse (fault 17 0) →
+            ComponentIs im name s room at last (Stopped (fault 17 0))
         unfolding blocksOf run _>>=_
-        not-a-group addresses counts e = record { found = (blocksOf m ws₂, at-kind .sameRun ∙ rw e refl); table = tt }
+        not-a-group e = record { found = (blocksOf m ws₂, at-kind .sameRun ∙ rw e refl) }
 
       module _ (m : ℕ) (same₂ : length ws₂ ≡ length ws₁) where
-        pub committed-found : (addresses counts : List ℕ) →
-            Walked ws₁ ws₂ (ended headers.committed m) (run im (s .«end_of_file») room (headerWalk at) (blocksOf n ws₁)) →
-            ComponentIs im name s room at last addresses counts (Stopped (fault 17 0))
+        pub committed-found : Walked ws₁ ws₂ (ended headers.committed m) (run im (s .«end_of_file») room (headerWalk at) (blocksOf n ws₁)) →
+            ComponentIs im name s room at last (Stopped (fault 17 0))
         unfolding findWalk
-        committed-found addresses counts k = not-a-group headers.committed m same₂ k addresses counts refl
+        committed-found k = not-a-group headers.committed m same₂ k refl
 
-        pub dataset-found : (addresses counts : List ℕ) (space type layout : Message) →
+        pub dataset-found : (space type layout : Message) →
             Walked ws₁ ws₂ (ended (headers.dataset space type layout) m) (run im (s .«end_of_file») room (headerWalk at) (blocksOf n ws₁)) →
-            ComponentIs im name s room at last addresses counts (Stopped (fault 17 0))
+            ComponentIs im name s room at last (Stopped (fault 17 0))
         unfolding findWalk
-        dataset-found addresses counts space type layout k = not-a-group (headers.dataset space type layout) m same₂ k addresses counts refl
+        dataset-found space type layout k = not-a-group (headers.dataset space type layout) m same₂ k refl
 
         module _ (tree heap : ℕ)
             (k : Walked ws₁ ws₂ (ended (headers.group tree heap) m) (run im (s .«end_of_file») room (headerWalk at) (blocksOf n ws₁))) where
-          -- the lists for the group, with empty tables
-          pub group-ready : (addresses counts : List ℕ) → Table addresses counts 0 → Ready ws₂ addresses counts (s .«end_of_file») room m 0
+          -- the lists for the group; there is no table
+          pub group-ready : (addresses counts : List ℕ) → Ready false ws₂ addresses counts (s .«end_of_file») room m 0
           unfolding linkedOf linkSum blocksOf
-          group-ready addresses counts t =
+          group-ready addresses counts =
               let a = at-kind (headers.group tree heap) m same₂ k in
-              record { lent = a .lent; table = t; apart = grown-apart (a .blocks) tt; inside = grown-inside (a .blocks) tt; links = omega arith }
+              record { lent = a .lent; table = λ e. no-table e; apart = grown-apart (a .blocks) tt; inside = grown-inside (a .blocks) tt; links = omega arith }
 
-          pub group-is : (addresses counts : List ℕ) (r : Target) → FoundIs im name ws₂ s room tree heap m last addresses counts r →
-              ComponentIs im name s room at last addresses counts r
+          pub group-is : (r : Target) → FoundIs im name ws₂ s room tree heap m last r →
+              ComponentIs im name s room at last r
           unfolding findWalk blocksOf
-          group-is addresses counts r f = record {
+          group-is r f = record {
             found = subst (EndsAs r) (sym (at-kind (headers.group tree heap) m same₂ k .sameRun)) (f .found);
-            table = f .table;
           }

@@ -8,7 +8,6 @@ use Rattle.format.specs.Walk.{Walk, ret, refuse, _>>=_, Outcome, done, refused,
 use Rattle.format.specs.Tree.{groupWalk}
 use Rattle.format.specs.Lookup.{object, symbolic, absent, compareName, targetWalk, componentWalk}
 use Rattle.walk.specs.Lent.{blocksOf}
-use Rattle.ledger.specs.Table.{Table}
 use Rattle.superblock.specs.Superblock.{superblockOf}
 use Rattle.superblock.specs.declared.Superblock.{Superblock}
 use Rattle.component.specs.declared.Target.{Target}
@@ -26,19 +25,11 @@ EndsAs (Object a) o = (bs : List Block) × (o ≡ done (object a) bs)
 EndsAs Symbolic o = (bs : List Block) × (o ≡ done symbolic bs)
 EndsAs (Stopped r) o = (bs : List Block) × (o ≡ refused r bs)
 
--- the tables are empty again, for the next component
-abbrev pub TableIf : List ℕ → List ℕ → Target → Type 0
-TableIf addresses counts (Object a) = Table addresses counts 0
-TableIf addresses counts Symbolic = Unit {0}
-TableIf addresses counts (Stopped r) = Unit {0}
-
 -- a name was looked up in a group as its walk does
-pub record FoundIs (im name ws : List ℕ) (s : Superblock) (room tree heap count : ℕ) (last : Bool) (addresses′ counts′ : List ℕ) (r : Target) : Type 0 where
+pub record FoundIs (im name ws : List ℕ) (s : Superblock) (room tree heap count : ℕ) (last : Bool) (r : Target) : Type 0 where
   pub found : EndsAs r (run im (s .«end_of_file») room (groupWalk (s .«leaf_k») (s .«internal_k») tree heap (compareName name) absent >>= targetWalk last)
       (blocksOf count ws))
-  pub table : TableIf addresses′ counts′ r
 
 -- a component was looked up as its walk does
-pub record ComponentIs (im name : List ℕ) (s : Superblock) (room at : ℕ) (last : Bool) (addresses′ counts′ : List ℕ) (r : Target) : Type 0 where
+pub record ComponentIs (im name : List ℕ) (s : Superblock) (room at : ℕ) (last : Bool) (r : Target) : Type 0 where
   pub found : EndsAs r (run im (s .«end_of_file») room (componentWalk (superblockOf s) name last at) [])
-  pub table : TableIf addresses′ counts′ r

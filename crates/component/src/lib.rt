@@ -7,12 +7,15 @@ use kind::HeaderRead;
 use superblock::Superblock;
 use symbol::entry::State;
 use symbol::entry::Step;
-use visit::Link;
+use visit::ABSENT;
+use visit::HARD;
 use walk::blocks::Entry;
+ghost use mathlib.Core.Bool.{false};
+ghost use mathlib.Core.List.{List};
 ghost use mathlib.Core.Path.{_≡_};
+ghost use Prim.Native.Nat.{ℕ};
 ghost use Rattle.format.specs.Lookup.{targetWalk};
 ghost use Rattle.visit.specs.Visit.{linkOf};
-ghost use Rattle.ledger.specs.Table.{Table};
 ghost use Rattle.walk.specs.Lent.{Lent};
 ghost use Rattle.group.specs.Group.{Ready};
 ghost use Rattle.object.specs.Object.{Opened};
@@ -29,26 +32,24 @@ pub enum Target {
 fn target_of(state: State, last: bool) -> Target
     ensures { λ r. ⌜ targetOf r ≡ targetWalk last (linkOf (state .link)) ⌝ }
 {
-    let link = state.link;
-    match link {
-        Link::Absent => Target::Stopped(Refusal::Fault(answers::NAME_ABSENT, NO_PLACE)),
-        Link::Hard(a) => Target::Object(a),
-        Link::Soft => {
-            if last {
-                return Target::Symbolic;
-            }
-            Target::Stopped(Refusal::Fault(answers::SYMBOLIC_BEFORE_LAST, NO_PLACE))
-        }
+    let found = state.link.found;
+    if found == ABSENT {
+        return Target::Stopped(Refusal::Fault(answers::NAME_ABSENT, NO_PLACE));
     }
+    if found == HARD {
+        return Target::Object(state.link.header);
+    }
+    if last {
+        return Target::Symbolic;
+    }
+    Target::Stopped(Refusal::Fault(answers::SYMBOLIC_BEFORE_LAST, NO_PLACE))
 }
 
-// The name in the group with the tree and the heap at these addresses. The tables stay empty.
+// The name in the group with the tree and the heap at these addresses. Nothing is counted, so that any lists do as tables.
 fn find(
     image: &[u8],
     name: &[u8],
     list: &mut [u64],
-    addresses: &mut [u64],
-    counts: &mut [u32],
     superblock: Superblock,
     room: usize,
     tree: u64,
@@ -57,15 +58,16 @@ fn find(
     last: bool,
 ) -> Target
     requires { ⌜ Opened (now image) superblock room ⌝ }
-    requires { ⌜ Ready (now list) (now addresses) (now counts) (superblock .«end_of_file») room count 0 ⌝ }
-    ensures { λ r. ⌜ FoundIs (now (image .entry)) (now (name .entry)) (now (list .entry)) superblock room tree heap count last (now (addresses .exit))
-        (now (counts .exit)) r ⌝ }
+    requires { ⌜ ((addresses counts : List ℕ) → Ready false (now list) addresses counts (superblock .«end_of_file») room count 0) ⌝ }
+    ensures { λ r. ⌜ FoundIs (now (image .entry)) (now (name .entry)) (now (list .entry)) superblock room tree heap count last r ⌝ }
 {
     let end_of_file = superblock.end_of_file;
     let leaf_k = superblock.leaf_k;
     let internal_k = superblock.internal_k;
     let auditing = false;
-    let reading = group::group::Reading {
+    let mut addresses = [0u64; 1];
+    let mut counts = [0u32; 1];
+    let reading = group::contents::Reading {
         end_of_file,
         room,
         leaf_k,
@@ -76,8 +78,8 @@ fn find(
         image,
         name,
         list,
-        addresses,
-        counts,
+        &mut addresses,
+        &mut counts,
         reading,
         tree,
         heap,
@@ -94,8 +96,6 @@ pub fn component(
     image: &[u8],
     name: &[u8],
     list: &mut [u64],
-    addresses: &mut [u64],
-    counts: &mut [u32],
     superblock: Superblock,
     room: usize,
     at: u64,
@@ -103,8 +103,7 @@ pub fn component(
 ) -> Target
     requires { ⌜ Opened (now image) superblock room ⌝ }
     requires { ⌜ Lent (now list) 0 room ⌝ }
-    requires { ⌜ Table (now addresses) (now counts) 0 ⌝ }
-    ensures { λ r. ⌜ ComponentIs (now (image .entry)) (now (name .entry)) superblock room at last (now (addresses .exit)) (now (counts .exit)) r ⌝ }
+    ensures { λ r. ⌜ ComponentIs (now (image .entry)) (now (name .entry)) superblock room at last r ⌝ }
 {
     match superblock::enter_superblock(superblock, list, room) {
         Entry::Refused(x) => Target::Stopped(x),
@@ -126,8 +125,6 @@ pub fn component(
                     image,
                     name,
                     list,
-                    addresses,
-                    counts,
                     superblock,
                     room,
                     tree,

@@ -1,31 +1,26 @@
 // All components of a path, from the root on.
 use component::Target;
-use format::OBJECTS_MOST;
 use superblock::Superblock;
 use walk::blocks;
 ghost use Prim.Native.Nat.{_≤_};
 ghost use lib.ListN.{length};
 ghost use Rattle.walk.specs.Lent.{Lent, placesOf};
-ghost use Rattle.ledger.specs.Table.{Table};
 ghost use Rattle.superblock.specs.Superblock.{superblockOf};
 ghost use Rattle.object.specs.Object.{Opened, Bounded};
 ghost use Rattle.path.specs.Form.{componentsOf};
 ghost use Rattle.component.specs.Component.{EndsAs};
 ghost use Rattle.follow.specs.Follow.{targetRun};
 
-// Looks up one component after the other; the tables are lent to each and stay empty.
+// Looks up one component after the other.
 fn follow(
     image: &[u8],
     path: &[u8],
     list: &mut [u64],
-    addresses: &mut [u64],
-    counts: &mut [u32],
     superblock: Superblock,
     room: usize,
 ) -> Target
     requires { ⌜ Opened (now image) superblock room ⌝ }
     requires { ⌜ Lent (now list) 0 room ⌝ }
-    requires { ⌜ Table (now addresses) (now counts) 0 ⌝ }
     requires { ⌜ 1 ≤ length (now path) ⌝ }
     ensures { λ r. ⌜ EndsAs r (targetRun (now (image .entry)) (superblockOf superblock) room (componentsOf (now (path .entry))) (superblock .root)) ⌝ }
 {
@@ -37,17 +32,7 @@ fn follow(
     while from <= path.len() {
         let end = path::component_end(path, from);
         let last = end == path.len();
-        match component::component(
-            image,
-            &path[from..end],
-            list,
-            addresses,
-            counts,
-            superblock,
-            room,
-            at,
-            last,
-        ) {
+        match component::component(image, &path[from..end], list, superblock, room, at, last) {
             Target::Stopped(x) => return Target::Stopped(x),
             Target::Symbolic => return Target::Symbolic,
             Target::Object(a) => {
@@ -67,15 +52,5 @@ pub fn find_object(image: &[u8], path: &[u8], list: &mut [u64], superblock: Supe
         (componentsOf (now (path .entry))) (superblock .root)) ⌝ }
 {
     let room = blocks::places(list.len());
-    let mut addresses = [0u64; OBJECTS_MOST];
-    let mut counts = [0u32; OBJECTS_MOST];
-    follow(
-        image,
-        path,
-        list,
-        &mut addresses,
-        &mut counts,
-        superblock,
-        room,
-    )
+    follow(image, path, list, superblock, room)
 }

@@ -1,3 +1,4 @@
 pub mod GroupLaws
+pub mod MapLaws
 pub mod Visits
 pub mod Entries

@@ -1,27 +1,30 @@
 -- Laws of the keys of a node: the walk over them, turn by turn, and the strings that they are.
-use Prim.Native.Nat.{ℕ, zero, suc, _+_, _*_, _-_, _≤_, _<_}
+use Prim.Native.Nat.{ℕ, zero, suc, _+_, _*_, _-_, _≤_, _<_, min}
 use mathlib.Core.Bool.{Bool, true, false, not}
-use mathlib.Core.List.{List, []}
+use mathlib.Core.List.{List, [], _∷_}
 use mathlib.Core.Path.{_≡_, refl, ap, sym, _∙_}
 use native.Mathlib.Omega.{arith}
-use lib.Dec.{ltb}
-use lib.ListN.{length, drop}
+use borrow.Author.Tests.{ltb-true, leb-true, leb-false}
+use lib.Dec.{ltb, leb, eqb}
+use lib.ListN.{length, take, drop}
+use Rattle.format.specs.Limits.{nameMost}
 use Rattle.format.specs.Bytes.{if_then_else_, part, u64}
 use Rattle.format.specs.Blocks.{Block}
 use Rattle.format.specs.Result.{value}
 use Rattle.format.specs.Walk.{fault as faultAt, located, ret, _>>=_}
 use Rattle.format.specs.Heap.{Heap}
-use Rattle.format.specs.Names.{Text, text, fault, outside, noNul, faultNumber, readText, beforeNul, stringAt, keyText}
+use Rattle.format.specs.Names.{Text, text, fault, outside, noNul, faultNumber, readText, beforeNul, stringAt, keyText, below}
 use Rattle.format.specs.Tree.{keysWalk}
 use Rattle.laws.proofs.Bind.{ret-bind, refuse-bind}
 use Rattle.laws.proofs.Checks.{both-done}
 use Rattle.laws.proofs.Results.{located-done}
 use Rattle.walk.proofs.Parts.{drop-part, part-part}
 use Rattle.heap.specs.Segment.{heapWith}
-use Rattle.names.specs.Texts.{faultOf, textOf, TextRead}
+use Rattle.names.specs.Texts.{faultOf, CheckedAs}
+use Rattle.nul.specs.Nul.{NulWithin}
 use Rattle.names.specs.declared.NameFault.{NameFault}
 use Rattle.names.specs.declared.NameFault.the-variants.{Outside, NoNul, BadForm, InFreeBlock}
-use Rattle.names.specs.declared.Text.the-variants.{Sound, Fault}
+use Rattle.names.specs.declared.Checked.the-variants.{Sound, Fault}
 use Rattle.key.specs.Key.{KeysAre, KeyAt, KeyIs}
 use Rattle.key.specs.declared.Keys.the-variants.{Sound as AllSound, Unsound}
 
@@ -38,15 +41,36 @@ key-segment : (h : Heap) (seg : List ℕ) (off : ℕ) → h .segment ≡ seg →
 unfolding keyText
 key-segment h seg off e free = rw e
 
--- a key that is a string is the one that stands there
-key-string : (seg : List ℕ) (free : List Block) (off : ℕ) (t : List ℕ) → text t ≡ keyText (heapWith seg free) off → t ≡ stringAt seg off
+-- a key that is a string begins in the segment
+key-inside : (seg : List ℕ) (free : List Block) (off : ℕ) (t : List ℕ) → text t ≡ keyText (heapWith seg free) off → off < length seg
 unfolding keyText
-key-string seg free off t e = go (not (ltb off (length seg))) (not (ltb (off + beforeNul (drop off seg)) (length seg))) e
+key-inside seg free off t e = go (ltb off (length seg)) refl e
   where
-    go : (p q : Bool) → text t ≡ (if p then fault outside else if q then fault noNul else text (stringAt seg off)) → t ≡ stringAt seg off
-    go true q f = let z : _≡_ {A = ℕ} 0 1 = cc in absurd (omega arith)
-    go false true f = let z : _≡_ {A = ℕ} 0 1 = cc in absurd (omega arith)
-    go false false f = cc
+    go : (p : Bool) → ltb off (length seg) ≡ p → text t ≡ (if not p then fault outside else
+        if not (ltb (off + beforeNul (drop off seg)) (length seg)) then fault noNul else text (stringAt seg off)) → off < length seg
+    go true q f = ltb-true off (length seg) q
+    go false q f = let z : _≡_ {A = ℕ} 0 1 = cc in absurd (omega arith)
+
+-- a string that is longer than another is below it or not by its first bytes
+below-cut : (s t : List ℕ) (n : ℕ) → length t < n → below (take n s) t ≡ below s t
+unfolding below
+below-cut s t zero l = absurd (omega arith)
+below-cut [] t (suc n) l = refl
+below-cut (x ∷ s) [] (suc n) l = refl
+below-cut (x ∷ s) (y ∷ t) (suc n) l =
+    let k : length t < n = omega arith in
+    ap (λ (r : Bool). if ltb x y then true else if eqb x y then r else false) (below-cut s t n k)
+
+-- the bytes before the NUL, cut
+cut-before : (s t : List ℕ) (b n : ℕ) → length t < n → below (take (min b n) s) t ≡ below (take b s) t
+cut-before s t b n l = go (leb b n) refl
+  where
+    go : (z : Bool) → leb b n ≡ z → below (take (min b n) s) t ≡ below (take b s) t
+    go true p = let h = leb-true b n p in let e : min b n ≡ b = omega arith in rw e
+    go false p =
+        let h = leb-false b n p in
+        let e : min b n ≡ n = omega arith in
+        rw e (below-cut s t n l ∙ sym (below-cut s t b (omega arith)))
 
 text-value : (x : Text) (t : List ℕ) → readText x ≡ value t → x ≡ text t
 text-value (text s) t e = let f : s ≡ t = cc in ap text f
@@ -94,14 +118,16 @@ module _ (im seg : List ℕ) (from n i : ℕ) (f : KeysFrom im seg from n i) (g 
       ∙ keys-more h (n - (i + 1)) im (from + 16 * i) (m - 16 * i) (omega arith)
       ∙ rw (← o, key-segment h seg off e [], b, d)
 
-  pub keys-fault : {r : _} (x : NameFault) (y : ℕ) → r ≡ Fault x → ((free : List Block) → TextRead seg off r (keyText (heapWith seg free) off)) →
+  pub keys-fault : {r : _} (x : NameFault) (y : ℕ) → r ≡ Fault x → ((free : List Block) → CheckedAs r (keyText (heapWith seg free) off)) →
       y ≡ faultNumber (faultOf x) → KeysAre im seg from n (Unsound (faultAt y (from + 16 * i)))
   keys-fault x y p t q h m e k l =
-      sym (here h m e k l ∙ rw (← t [] .value, p, q) (refuse-bind (faultAt _ (from + 16 * i)) _))
+      let u : CheckedAs (Fault x) (keyText (heapWith seg []) off) = rw p at (t []) in
+      sym (here h m e k l ∙ rw (← u, q) (refuse-bind (faultAt _ (from + 16 * i)) _))
 
-  pub keys-next : {r : _} (size : ℕ) → r ≡ Sound size → ((free : List Block) → TextRead seg off r (keyText (heapWith seg free) off)) →
-      KeysFrom im seg from n (i + 1)
-  keys-next size p t h m e k l = here h m e k l ∙ rw (← t [] .value, p) (ret-bind _ _)
+  pub keys-next : {r : _} → r ≡ Sound → ((free : List Block) → CheckedAs r (keyText (heapWith seg free) off)) → KeysFrom im seg from n (i + 1)
+  keys-next p t h m e k l =
+      let u : CheckedAs Sound (keyText (heapWith seg []) off) = rw p at (t []) in
+      here h m e k l ∙ rw (← u .1) (ret-bind _ _)
 
 -- where the walk of n keys is done, each of them is a string of the segment
 pub keys-sound : (h : Heap) (im seg : List ℕ) (n from m : ℕ) → keysWalk h n from (part im from m) ≡ ret tt → h .segment ≡ seg → 16 * n ≤ m + 8 →
@@ -116,16 +142,16 @@ keys-sound h im seg (suc n) from m w e k l (suc i) g =
     let z : from + 16 * suc i ≡ from + 16 + 16 * i = omega arith in
     rw z (keys-sound h im seg n (from + 16) (m - 16) (d .2) e (omega arith) (omega arith) i (omega arith))
 
--- A key that is known to be a string.
+-- A key that is known to be a string, as far as it was read.
 module _ (im seg : List ℕ) (at off : ℕ) (k : KeyAt im seg at) (o : off ≡ u64 im at) where
-  pub key-no-fault : {r : _} (x : NameFault) → r ≡ Fault x → TextRead seg off r (keyText (heapWith seg []) off) → ⊥
-  key-no-fault x p t =
-      let s = k .sound in
-      let u : textOf seg off (Fault x) ≡ text (s .0) = sym (ap (textOf seg off) p) ∙ t .value ∙ rw o (s .1) in
-      let z : _≡_ {A = ℕ} 0 1 = cc in
-      omega arith
+  pub key-starts : off < length seg
+  key-starts = key-inside seg [] off (k .sound .0) (rw o (sym (k .sound .1)))
 
-  pub key-found : {r : _} (size : ℕ) → r ≡ Sound size → TextRead seg off r (keyText (heapWith seg []) off) → KeyIs im seg at (record { at = off; size = size })
-  key-found size p t =
-      let u : TextRead seg off (Sound size) (keyText (heapWith seg []) off) = rw p at t in
-      record { inside = omega (arith, u .inside); is = key-string seg [] off (part seg off size) (u .value) ∙ ap (stringAt seg) o }
+  pub key-cut : (end : ℕ) → NulWithin seg off (nameMost + 1) end → KeyIs im seg at (record { at = off; size = end - off })
+  unfolding stringAt
+  key-cut end n =
+      let e : end - off ≡ min (beforeNul (drop off seg)) (nameMost + 1) = omega (arith, n .value) in
+      record {
+        inside = omega (arith, n .value, n .inside);
+        alike = λ t l. rw (e, ← o) (cut-before (drop off seg) t (beforeNul (drop off seg)) (nameMost + 1) (omega arith));
+      }

@@ -3,10 +3,11 @@ use Prim.Native.Nat.{ℕ, _+_, _*_, _≤_}
 use mathlib.Core.List.{List, []}
 use mathlib.Core.Path.{_≡_}
 use lib.ListN.{length}
+use Rattle.format.specs.Limits.{nameMost}
 use Rattle.format.specs.Bytes.{part, u64}
 use Rattle.format.specs.Walk.{Walk, ret, refuse}
 use Rattle.format.specs.Heap.{Heap}
-use Rattle.format.specs.Names.{stringAt, keyText, text}
+use Rattle.format.specs.Names.{stringAt, keyText, text, below}
 use Rattle.format.specs.Tree.{keysWalk}
 use Rattle.heap.specs.Segment.{heapWith}
 use Rattle.range.specs.Range.{NameInside, nameIn}
@@ -27,7 +28,7 @@ pub record KeyAt (im seg : List ℕ) (at : ℕ) : Type 0 where
   pub inside : at + 8 ≤ length im
   pub sound : (t : List ℕ) × (keyText (heapWith seg []) (u64 im at) ≡ text t)
 
--- it is this string
+-- this is the string or its beginning, and no name tells the two apart
 pub record KeyIs (im seg : List ℕ) (at : ℕ) (r : Name) : Type 0 where
   pub inside : NameInside seg r
-  pub is : nameIn seg r ≡ stringAt seg (u64 im at)
+  pub alike : (t : List ℕ) → length t ≤ nameMost → below (nameIn seg r) t ≡ below (stringAt seg (u64 im at)) t

@@ -12,7 +12,8 @@ use Rattle.format.specs.Bytes.{if_then_else_}
 use Rattle.format.specs.Result.{value}
 use Rattle.format.specs.Ledger.{Linked, linked, inLedger, addLink, countLink}
 use Rattle.format.specs.Sharing.{placeOf}
-use Rattle.ledger.specs.Table.{linkedOf, Table, Found, Discovered}
+use Rattle.ledger.specs.Index.{Found}
+use Rattle.ledger.specs.Table.{linkedOf, Table, Discovered}
 use Rattle.ledger.specs.declared.table.Discovery.the-variants.{Counted}
 use Rattle.ledger.proofs.LedgerLaws.{count-cases, count-in}
 use Rattle.ledger.proofs.TableLaws.{length-linkedOf}

@@ -1,21 +1,19 @@
--- Laws of the stored counts and of the ledger that is handed out.
-use Prim.Native.Nat.{ℕ, zero, suc, _+_, _<_}
-use mathlib.Core.List.{List, [], _∷_}
+-- Laws of the stored counts, of the addresses that are copied and of the ledger that is handed out.
+use Prim.Native.Nat.{ℕ, zero, suc, _+_, _≤_, _<_}
+use mathlib.Core.List.{List, []}
 use mathlib.Core.Path.{_≡_, refl, ap, sym, subst, _∙_}
 use native.Mathlib.Omega.{arith}
 use borrow.Author.Count.{below-more}
-use lib.ListN.{length, getD, set, drop, length-set}
+use lib.ListN.{length, getD, set, drop, replicate, length-set, length-replicate}
 use lib.Seq.{getD-set-same, getD-set-other}
+use Rattle.format.specs.Limits.{objectsMost}
 use Rattle.format.specs.Bytes.{u32}
 use Rattle.format.specs.Audit.{countedIn}
 use Rattle.walk.specs.Numbers.{Number}
-use Rattle.ledger.specs.Table.{linkedOf}
-use Rattle.ledger.specs.Report.{countedPlaces, countedOf, Empty, StoredRead}
+use Rattle.ledger.specs.Table.{linkedOf, Table}
+use Rattle.ledger.specs.Report.{countedPlaces, countedOf, Empty, Places, Copied, StoredRead}
 use Rattle.ledger.specs.declared.report.Ledger.{Ledger}
-
-getD-tail : (l : List ℕ) (k : ℕ) → getD (drop 1 l) k 0 ≡ getD l (suc k) 0
-getD-tail [] k = refl
-getD-tail (x ∷ l) k = refl
+use Rattle.ledger.proofs.TableLaws.{getD-tail, linked-same, zeros-at}
 
 -- with the stored counts read, the places are the objects that the definition reports
 pub counted-law : (im : List ℕ) (n : ℕ) (xs ss ts : List ℕ) → ((k : ℕ) → k < n → getD ss k 0 ≡ u32 im (getD xs k 0 + 4)) →
@@ -48,3 +46,41 @@ stored-all im xs ss ss′ i n r e = subst (λ (k : ℕ). StoredRead im xs k ss s
 pub empty-law : (l : Ledger) → Empty l → countedOf l ≡ []
 unfolding countedPlaces
 empty-law l e = rw (e .none)
+
+-- lists of zeros are places of no object
+pub places-none : (n m : ℕ) → objectsMost ≤ n → objectsMost ≤ m → Places (replicate n 0) (replicate m 0) 0
+places-none n m h k = record {
+  fits = omega arith;
+  addressesLong = rw length-replicate h;
+  countsLong = rw length-replicate k;
+  addressesZero = λ i q. zeros-at n i;
+  countsZero = λ i q. zeros-at m i;
+}
+
+-- no address is copied yet; then one more
+pub copied-none : (xs ys : List ℕ) → Copied xs ys 0 ys
+copied-none xs ys = record { copied = λ k h. absurd (omega arith); rest = λ k h. refl; long = refl }
+
+pub copied-more : (xs ys ys′ : List ℕ) (i : ℕ) → Copied xs ys i ys′ → i < length ys → Copied xs ys (i + 1) (set ys′ i (getD xs i 0))
+copied-more xs ys ys′ i c h = record {
+  copied = below-more _ i (λ k m. getD-set-other ys′ i k _ 0 (λ e. omega (arith, e)) ∙ c .copied k m) (getD-set-same ys′ i _ 0 (omega (arith, c .long)));
+  rest = λ k m. getD-set-other ys′ i k _ 0 (λ e. omega (arith, e)) ∙ c .rest k (omega arith);
+  long = length-set ys′ i _ ∙ c .long;
+}
+
+pub copied-all : (xs ys ys′ : List ℕ) (i n : ℕ) → Copied xs ys i ys′ → i ≡ n → Copied xs ys n ys′
+copied-all xs ys ys′ i n c e = subst (λ (k : ℕ). Copied xs ys k ys′) e c
+
+-- the addresses of a table were copied to places of no object, which then hold the same ledger
+module _ (xs ts ys us ys′ : List ℕ) (n : ℕ) (t : Table xs ts n) (p : Places ys us 0) (c : Copied xs ys n ys′) where
+  pub places-copied : Places ys′ ts n
+  places-copied = record {
+    fits = t .fits;
+    addressesLong = rw (c .long) (p .addressesLong);
+    countsLong = t .countsLong;
+    addressesZero = λ k h. c .rest k h ∙ p .addressesZero k (omega arith);
+    countsZero = t .countsZero;
+  }
+
+  pub ledger-copied : linkedOf n ys′ ts ≡ linkedOf n xs ts
+  ledger-copied = linked-same n xs ys′ ts (c .copied)

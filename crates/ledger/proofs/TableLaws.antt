@@ -1,21 +1,25 @@
 -- Laws of the table in two lists of words: what a store makes of the ledger that they hold, and what a search in them decides.
-use Prim.Native.Nat.{ℕ, zero, suc, _+_, _-_, _≤_, _<_}
+use Prim.Native.Nat.{ℕ, zero, suc, _+_, _*_, _≤_, _<_}
 use mathlib.Core.Bool.{true, false}
 use mathlib.Core.List.{List, [], _∷_, _++_}
 use mathlib.Core.Path.{_≡_, refl, ap, sym, _∙_}
 use native.Mathlib.Numerals.{add-one}
 use native.Mathlib.Omega.{arith}
+use borrow.Author.Count.{below-more}
 use borrow.Author.Tests.{eq-eqb, ne-eqb}
 use lib.ListN.{length, getD, set, drop, replicate, length-set, length-replicate, drop-of-length-le}
-use lib.Seq.{getD-set-other}
+use lib.Seq.{getD-set-same, getD-set-other}
 use Rattle.format.specs.Limits.{objectsMost}
 use Rattle.format.specs.Result.{value}
 use Rattle.format.specs.Ledger.{Linked, linked, inLedger, addLink}
 use Rattle.ledger.specs.Links.{linkSum}
-use Rattle.ledger.specs.Table.{linkedOf, Table, Found, Discovered, Started}
+use Rattle.ordering.proofs.RunLaws.{ordering-none}
+use Rattle.ledger.specs.Index.{tableWords, guessAt, Indexed, Placed, Found, Addable, Added}
+use Rattle.ledger.specs.Table.{linkedOf, Table, Discovered, Started}
 use Rattle.ledger.specs.declared.table.Discovery.the-variants.{Counted, Full}
 use Rattle.ledger.proofs.LedgerLaws.{add-here, add-later, in-here, in-later, count-known}
 use Rattle.ledger.proofs.LedgerLaws.{count-new, count-full, count-sum}
+use Rattle.ledger.proofs.AddLaws.{guess-kept, order-same}
 
 pub length-linkedOf : (n : ℕ) (xs ts : List ℕ) → length (linkedOf n xs ts) ≡ n
 unfolding linkedOf
@@ -90,26 +94,76 @@ count-bound r (suc n) (x ∷ xs) [] h k l = absurd (omega arith)
 count-bound zero (suc n) (x ∷ xs) (t ∷ ts) h k l = omega arith
 count-bound (suc r) (suc n) (x ∷ xs) (t ∷ ts) h k l = omega (arith, count-bound r n xs ts (omega arith) (omega arith) (omega arith))
 
+pub getD-tail : (l : List ℕ) (k : ℕ) → getD (drop 1 l) k 0 ≡ getD l (suc k) 0
+getD-tail [] k = refl
+getD-tail (x ∷ l) k = refl
+
+-- the ledger is known by its first words alone
+pub linked-same : (n : ℕ) (xs xs′ ts : List ℕ) → ((k : ℕ) → k < n → getD xs′ k 0 ≡ getD xs k 0) → linkedOf n xs′ ts ≡ linkedOf n xs ts
+unfolding linkedOf
+linked-same zero xs xs′ ts h = refl
+linked-same (suc n) xs xs′ ts h =
+    let i : linkedOf n (drop 1 xs′) (drop 1 ts) ≡ linkedOf n (drop 1 xs) (drop 1 ts) =
+    linked-same n (drop 1 xs) (drop 1 xs′) (drop 1 ts) (λ k l. getD-tail xs′ k ∙ h (suc k) (omega arith) ∙ sym (getD-tail xs k)) in
+    rw (h 0 (omega arith), i)
+
+-- an object added is one more behind the others
+pub linked-added : (a c n : ℕ) (xs ts xs′ : List ℕ) → n < length xs → n < length ts → n < objectsMost → Added xs n a xs′ →
+    linkedOf (n + 1) xs′ (set ts n c) ≡ linkedOf n xs ts ++ (linked a c ∷ [])
+linked-added a c n xs ts xs′ h k l d = linked-same (n + 1) (set xs n a) xs′ (set ts n c) same ∙ linked-new a c n xs ts h k
+  where
+    same : (j : ℕ) → j < n + 1 → getD xs′ j 0 ≡ getD (set xs n a) j 0
+    same =
+        below-more _ n (λ j m. d .kept j (omega arith) (λ e. omega (arith, e)) ∙ sym (getD-set-other xs n j a 0 (λ e. omega (arith, e))))
+        (d .here ∙ sym (getD-set-same xs n a 0 h))
+
+-- a table's addresses with their order
+pub table-indexed : {xs ts : List ℕ} {n : ℕ} → Table xs ts n → Indexed xs n
+table-indexed t = record { fits = t .fits; long = t .addressesLong; ordering = t .ordering }
+
+-- an object added to a table, with one link
+module _ (xs ts : List ℕ) (n a : ℕ) (xs′ : List ℕ) (t : Table xs ts n) (l : n < objectsMost) (d : Added xs n a xs′) where
+  pub table-added : Table xs′ (set ts n 1) (n + 1)
+  table-added = record {
+    fits = omega arith;
+    addressesLong = d .indexed .long;
+    countsLong = rw length-set (t .countsLong);
+    addressesZero = λ k q m. d .kept k m (λ e. omega (arith, e)) ∙ t .addressesZero k (omega arith) m;
+    countsZero = λ k q. getD-set-other ts n k _ 0 (λ e. omega (arith, e)) ∙ t .countsZero k (omega arith);
+    ordering = d .indexed .ordering;
+  }
+
+  pub ledger-added : linkedOf (n + 1) xs′ (set ts n 1) ≡ linkedOf n xs ts ++ (linked a 1 ∷ [])
+  ledger-added = linked-added a 1 n xs ts xs′ (omega (arith, t .addressesLong)) (omega (arith, t .countsLong)) l d
+
 -- A search that found a place or none, and what is then done to the table.
 module _ (xs ts : List ℕ) (n a r : ℕ) (t : Table xs ts n) (f : Found xs n a r) where
-  pub discover-known : r < n → Discovered xs ts n a xs (set ts r (getD ts r 0 + 1)) (Counted n)
-  discover-known h =
+  -- one link more, and the object is the guess for its address
+  pub discover-known : (xs′ : List ℕ) (o : ℕ) → xs′ ≡ set xs (guessAt a) o → r < n → Discovered xs ts n a xs′ (set ts r (getD ts r 0 + 1)) (Counted n)
+  discover-known xs′ o e h =
       let i : n ≤ length xs = omega (arith, t .fits, t .addressesLong) in
       let j : n ≤ length ts = omega (arith, t .fits, t .countsLong) in
       record {
         walk =
-            ap value (sym (linked-more a r n xs ts i j h (f .before) (f .there h))) ∙ sym
+            ap value (linked-same n xs xs′ _ (λ k m. kept k (omega (arith, t .fits))) ∙ sym (linked-more a r n xs ts i j h (f .before) (f .there h))) ∙ sym
             (count-known a (linkedOf n xs ts) (linked-in a r n xs ts i j h (f .before) (f .there h)));
         table = record {
           fits = t .fits;
-          addressesLong = t .addressesLong;
+          addressesLong = rw long (t .addressesLong);
           countsLong = rw length-set (t .countsLong);
-          addressesZero = t .addressesZero;
+          addressesZero = λ k m l. kept k (omega arith) ∙ t .addressesZero k m l;
           countsZero = λ k m. getD-set-other ts r k _ 0 (λ e. omega (arith, e)) ∙ t .countsZero k m;
+          ordering = order-same xs xs′ n (t .fits) kept (t .ordering);
         };
-        addressesSame = refl;
+        addressesSame = long;
         countsSame = length-set ts r (getD ts r 0 + 1);
       }
+    where
+      kept : (k : ℕ) → k < 2 * objectsMost → getD xs′ k 0 ≡ getD xs k 0
+      kept k l = rw e (guess-kept xs a o k l)
+
+      long : length xs′ ≡ length xs
+      long = ap length e ∙ length-set xs (guessAt a) o
 
   out : n ≤ r → inLedger a (linkedOf n xs ts) ≡ false
   out h = linked-out a n xs ts (omega (arith, t .fits, t .addressesLong)) (omega (arith, t .fits, t .countsLong)) (λ k m. f .before k (omega arith))
@@ -119,21 +173,17 @@ module _ (xs ts : List ℕ) (n a r : ℕ) (t : Table xs ts n) (f : Found xs n a 
       let m : objectsMost ≤ length (linkedOf n xs ts) = rw length-linkedOf l in
       record { walk = sym (count-full a (linkedOf n xs ts) (out h) m); table = (refl, refl); addressesSame = refl; countsSame = refl }
 
-  pub discover-new : n ≤ r → n < objectsMost → Discovered xs ts n a (set xs n a) (set ts n 1) (Counted (n + 1))
-  discover-new h l =
+  -- a new object
+  pub discover-addable : (order : ℕ) → n ≤ r → n < objectsMost → Placed xs objectsMost n a order → Addable xs n a order
+  discover-addable order h l p = record { indexed = table-indexed t; room = l; absent = λ k m. f .before k (omega arith); placed = p }
+
+  pub discover-new : (xs′ : List ℕ) → n ≤ r → n < objectsMost → Added xs n a xs′ → Discovered xs ts n a xs′ (set ts n 1) (Counted (n + 1))
+  discover-new xs′ h l d =
       let m : length (linkedOf n xs ts) < objectsMost = rw length-linkedOf l in
       record {
-        walk =
-            ap value (linked-new a 1 n xs ts (omega (arith, t .addressesLong)) (omega (arith, t .countsLong))) ∙ sym
-            (count-new a (linkedOf n xs ts) (out h) m);
-        table = record {
-          fits = omega arith;
-          addressesLong = rw length-set (t .addressesLong);
-          countsLong = rw length-set (t .countsLong);
-          addressesZero = λ k q. getD-set-other xs n k _ 0 (λ e. omega (arith, e)) ∙ t .addressesZero k (omega arith);
-          countsZero = λ k q. getD-set-other ts n k _ 0 (λ e. omega (arith, e)) ∙ t .countsZero k (omega arith);
-        };
-        addressesSame = length-set xs n a;
+        walk = ap value (ledger-added xs ts n a xs′ t l d) ∙ sym (count-new a (linkedOf n xs ts) (out h) m);
+        table = table-added xs ts n a xs′ t l d;
+        addressesSame = d .long;
         countsSame = length-set ts n 1;
       }
 
@@ -147,32 +197,40 @@ pub discovered-sum : (xs ts : List ℕ) (n a : ℕ) (xs′ ts′ : List ℕ) (m 
 discovered-sum xs ts n a xs′ ts′ m d = count-sum a (linkedOf n xs ts) (linkedOf m xs′ ts′) (sym (d .walk))
 
 -- the table of the root alone
-pub start-law : (root : ℕ) (xs ts : List ℕ) → Table xs ts 0 → Started xs ts root (set xs 0 root) (set ts 0 1)
-unfolding linkedOf objectsMost
-start-law root xs ts t = record {
-  ledger = linked-new root 1 0 xs ts (omega (arith, t .addressesLong)) (omega (arith, t .countsLong));
-  table = record {
-    fits = omega arith;
-    addressesLong = rw length-set (t .addressesLong);
-    countsLong = rw length-set (t .countsLong);
-    addressesZero = λ k q. getD-set-other xs 0 k root 0 (λ e. omega (arith, e)) ∙ t .addressesZero k (omega arith);
-    countsZero = λ k q. getD-set-other ts 0 k 1 0 (λ e. omega (arith, e)) ∙ t .countsZero k (omega arith);
-  };
-  addressesSame = length-set xs 0 root;
-  countsSame = length-set ts 0 1;
-}
+module _ (root : ℕ) (xs ts : List ℕ) (t : Table xs ts 0) where
+  pub start-room : 0 < objectsMost
+  unfolding objectsMost
+  start-room = omega arith
 
-zeros-at : (n k : ℕ) → _≡_ {A = ℕ} (getD (replicate n 0) k 0) 0
+  pub start-addable : Addable xs 0 root 0
+  start-addable = record {
+    indexed = table-indexed t;
+    room = start-room;
+    absent = λ k h. absurd (omega arith);
+    placed = record { most = omega arith; before = λ k h. absurd (omega arith); after = λ k h l. absurd (omega arith) };
+  }
+
+  pub start-law : (xs′ : List ℕ) → Added xs 0 root xs′ → Started xs ts root xs′ (set ts 0 1)
+  unfolding linkedOf
+  start-law xs′ d = record {
+    ledger = ledger-added xs ts 0 root xs′ t start-room d;
+    table = table-added xs ts 0 root xs′ t start-room d;
+    addressesSame = d .long;
+    countsSame = length-set ts 0 1;
+  }
+
+pub zeros-at : (n k : ℕ) → _≡_ {A = ℕ} (getD (replicate n 0) k 0) 0
 zeros-at zero k = refl
 zeros-at (suc n) zero = refl
 zeros-at (suc n) (suc k) = zeros-at n k
 
--- lists of zeros are a table of no object
-pub table-none : (n m : ℕ) → objectsMost ≤ n → objectsMost ≤ m → Table (replicate n 0) (replicate m 0) 0
-table-none n m h k = record {
+-- words of zeros are a table of no object
+pub table-none : (n : ℕ) (ts : List ℕ) → tableWords ≤ n → objectsMost ≤ length ts → ((k : ℕ) → getD ts k 0 ≡ 0) → Table (replicate n 0) ts 0
+table-none n ts h k z = record {
   fits = omega arith;
   addressesLong = rw length-replicate h;
-  countsLong = rw length-replicate k;
-  addressesZero = λ i q. zeros-at n i;
-  countsZero = λ i q. zeros-at m i;
+  countsLong = k;
+  addressesZero = λ i q m. zeros-at n i;
+  countsZero = λ i q. z i;
+  ordering = ordering-none _ _;
 }

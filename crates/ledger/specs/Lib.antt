@@ -1,3 +1,4 @@
 pub mod Links
+pub mod Index
 pub mod Table
 pub mod Report

@@ -6,6 +6,8 @@ use lib.ListN.{length, getD, drop}
 use Rattle.format.specs.Limits.{objectsMost}
 use Rattle.format.specs.Result.{Result, value, answer}
 use Rattle.format.specs.Ledger.{Linked, linked, countLink}
+use Rattle.ordering.specs.Order.{Ordering, wordsFrom}
+use Rattle.ledger.specs.Index.{tableWords, Lower}
 use Rattle.ledger.specs.declared.table.Discovery.{Discovery}
 use Rattle.ledger.specs.declared.table.Discovery.the-variants.{Counted, Full}
 
@@ -14,19 +16,15 @@ unfoldable pub linkedOf : ℕ → List ℕ → List ℕ → List Linked
 linkedOf zero addresses counts = []
 linkedOf (suc n) addresses counts = linked (getD addresses 0 0) (getD counts 0 0) ∷ linkedOf n (drop 1 addresses) (drop 1 counts)
 
--- two lists with room for every object, so many of them there, and zeros behind these
+-- Two lists with room for every object, so many of them there, and zeros in the places behind these. Behind the places of the
+-- addresses stands their order; a guess may be any number.
 pub record Table (addresses counts : List ℕ) (objects : ℕ) : Type 0 where
   pub fits : objects ≤ objectsMost
-  pub addressesLong : objectsMost ≤ length addresses
+  pub addressesLong : tableWords ≤ length addresses
   pub countsLong : objectsMost ≤ length counts
-  pub addressesZero : (k : ℕ) → objects ≤ k → getD addresses k 0 ≡ 0
+  pub addressesZero : (k : ℕ) → objects ≤ k → k < objectsMost → getD addresses k 0 ≡ 0
   pub countsZero : (k : ℕ) → objects ≤ k → getD counts k 0 ≡ 0
-
--- the first of the places in use that holds the address; none does if it is `objects`
-pub record Found (addresses : List ℕ) (objects address place : ℕ) : Type 0 where
-  pub within : place ≤ objects
-  pub before : (k : ℕ) → k < place → getD addresses k 0 ≡ address → ⊥
-  pub there : place < objects → getD addresses place 0 ≡ address
+  pub ordering : Ordering (Lower addresses) (wordsFrom addresses objectsMost) objects
 
 -- a discovery as the definition has it: the ledger with the link, or answer 12
 abbrev pub discoveryOf : List ℕ → List ℕ → Discovery → Result (List Linked)

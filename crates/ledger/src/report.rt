@@ -3,7 +3,7 @@ use format::OBJECTS_MOST;
 use walk::numbers::u32_at;
 ghost use Prim.Native.Nat.{_≤_};
 ghost use lib.ListN.{length};
-ghost use Rattle.ledger.specs.Report.{Empty, Readable, StoredRead};
+ghost use Rattle.ledger.specs.Report.{Empty, Copied, Readable, StoredRead};
 
 // Of each object, in order of discovery, the address, the count stored in its header, and the number of links met. Unused
 // places are zeros.
@@ -25,6 +25,19 @@ pub fn empty() -> Ledger
         addresses,
         stored,
         true_counts,
+    }
+}
+
+// Copies the addresses of so many objects out of the table.
+pub fn copy_addresses(table: &[u64], addresses: &mut [u64], objects: usize)
+    requires { ⌜ objects ≤ length (now table) ⌝ }
+    requires { ⌜ objects ≤ length (now addresses) ⌝ }
+    ensures { λ _. ⌜ Copied (now (table .entry)) (now (addresses .entry)) objects (now (addresses .exit)) ⌝ }
+{
+    let mut i = 0;
+    while i < objects {
+        addresses[i] = table[i];
+        i += 1;
     }
 }
 

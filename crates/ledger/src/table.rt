@@ -1,24 +1,11 @@
-// The table as two lists of words that the caller lends: the address of each object, and the number of links to it and
-// of sharings of it.
-ghost use Prim.Native.Nat.{_+_, _^_, _≤_, _<_};
-ghost use lib.ListN.{length};
+// The table as two lists of words that the caller lends: the address of each object, with what a search needs behind them, and the
+// number of links to it and of sharings of it.
+use crate::search;
+use crate::search::Search;
+ghost use Prim.Native.Nat.{_+_, _^_, _<_};
 ghost use Rattle.ledger.specs.Links.{linkSum};
-ghost use Rattle.ledger.specs.Table.{linkedOf, Table, Found, Discovered, Started};
-
-// The first of the places in use that holds the address, or `objects` if none does.
-pub fn find(addresses: &[u64], objects: usize, address: u64) -> usize
-    requires { ⌜ objects ≤ length (now addresses) ⌝ }
-    ensures { λ r. ⌜ Found (now (addresses .entry)) objects address r ⌝ }
-{
-    let mut i: usize = 0;
-    while i < objects {
-        if addresses[i] == address {
-            return i;
-        }
-        i += 1;
-    }
-    objects
-}
+ghost use Rattle.ledger.specs.Index.{Sought};
+ghost use Rattle.ledger.specs.Table.{linkedOf, Table, Discovered, Started};
 
 // The number of objects after the link, or that the table holds as many as it may.
 pub enum Discovery {
@@ -33,23 +20,25 @@ pub fn count_at(
     counts: &mut [u32],
     objects: usize,
     address: u64,
-    place: usize,
+    found: Search,
 ) -> Discovery
     requires { ⌜ Table (now addresses) (now counts) objects ⌝ }
     requires { ⌜ linkSum (linkedOf objects (now addresses) (now counts)) + 1 < 2 ^ 32 ⌝ }
-    requires { ⌜ Found (now addresses) objects address place ⌝ }
+    requires { ⌜ Sought (now addresses) objects address 2 found ⌝ }
     ensures { λ r. ⌜ Discovered (now (addresses .entry)) (now (counts .entry)) objects address (now (addresses .exit)) (now (counts .exit)) r ⌝ }
 {
-    let limits = format::the_limits();
+    let place = found.place;
     if place < objects {
         let links = counts[place];
         counts[place] = links + 1;
+        search::remember(addresses, address, place);
         return Discovery::Counted(objects);
     }
+    let limits = format::the_limits();
     if limits.objects_most <= objects {
         return Discovery::Full;
     }
-    addresses[objects] = address;
+    search::add(addresses, objects, address, found.order);
     counts[objects] = 1;
     Discovery::Counted(objects + 1)
 }
@@ -65,8 +54,8 @@ pub fn discover(
     requires { ⌜ linkSum (linkedOf objects (now addresses) (now counts)) + 1 < 2 ^ 32 ⌝ }
     ensures { λ r. ⌜ Discovered (now (addresses .entry)) (now (counts .entry)) objects address (now (addresses .exit)) (now (counts .exit)) r ⌝ }
 {
-    let place = find(addresses, objects, address);
-    count_at(addresses, counts, objects, address, place)
+    let found = search::find(addresses, objects, address);
+    count_at(addresses, counts, objects, address, found)
 }
 
 // The table of one object, the root, with one link: the superblock's root entry.
@@ -74,6 +63,6 @@ pub fn start(addresses: &mut [u64], counts: &mut [u32], root: u64)
     requires { ⌜ Table (now addresses) (now counts) 0 ⌝ }
     ensures { λ _. ⌜ Started (now (addresses .entry)) (now (counts .entry)) root (now (addresses .exit)) (now (counts .exit)) ⌝ }
 {
-    addresses[0] = root;
+    search::add(addresses, 0, root, 0);
     counts[0] = 1;
 }

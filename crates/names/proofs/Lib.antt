@@ -1,1 +1,3 @@
 pub mod NameLaws
+pub mod ValueLaws
+pub mod FormLaws

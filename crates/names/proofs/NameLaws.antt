@@ -1,60 +1,55 @@
--- Laws of the strings of a segment.
-use Prim.Native.Nat.{ℕ, zero, suc, _+_, _≤_, _<_}
-use mathlib.Core.Bool.{true, false}
-use mathlib.Core.List.{List, _∷_}
+-- Laws of the strings of a segment whose last NUL is known.
+use Prim.Native.Nat.{ℕ, _+_, _-_, _≤_, _<_}
+use mathlib.Core.Bool.{Bool, true, false}
+use mathlib.Core.List.{List}
 use mathlib.Core.Path.{_≡_, refl}
 use native.Mathlib.Omega.{arith}
-use native.Mathlib.Numerals.{add-one}
-use borrow.Author.Tests.{lt-ltb, le-ltb}
-use lib.ListN.{length, getD, drop, drop-of-length-le}
-use lib.Seq.{drop-cons}
-use Rattle.format.specs.Bytes.{part}
+use borrow.Author.Tests.{lt-ltb, le-ltb, ltb-true, ltb-false}
+use lib.Dec.{ltb}
+use lib.ListN.{length, drop}
 use Rattle.format.specs.Blocks.{Block, overlapsAny}
 use Rattle.format.specs.Heap.{Heap}
 use Rattle.format.specs.Names.{NameFault, outside, noNul, badForm, inFreeBlock, Text, text}
 use Rattle.format.specs.Names.{fault, beforeNul, stringAt, keyText, nameText, valueText, outsideFree, isName}
 use Rattle.walk.proofs.Parts.{part-length}
 use Rattle.heap.specs.Segment.{heapWith}
-use Rattle.names.specs.Texts.{TextRead}
+use Rattle.nul.specs.Nul.{LastNul}
+use Rattle.nul.proofs.NulLaws.{ends, no-end}
+use Rattle.names.specs.Texts.{TextRead, CheckedAs}
+use Rattle.names.specs.declared.Checked.{Checked}
 
--- The search for the first NUL, at i.
-module _ (seg : List ℕ) (i : ℕ) where
-  pub nul-here : i < length seg → getD seg i 0 ≡ 0 → beforeNul (drop i seg) ≡ 0
-  unfolding beforeNul
-  nul-here h e = rw (drop-cons seg i 0 h, e)
-
-  pub nul-later : i < length seg → (getD seg i 0 ≡ 0 → ⊥) → beforeNul (drop i seg) ≡ 1 + beforeNul (drop (i + 1) seg)
-  unfolding beforeNul
-  nul-later h n = rw (drop-cons seg i 0 h, add-one) (go (getD seg i 0) n)
-    where
-      go : (b : ℕ) → (b ≡ 0 → ⊥) → beforeNul (b ∷ drop (suc i) seg) ≡ 1 + beforeNul (drop (suc i) seg)
-      go zero n = absurd (n refl)
-      go (suc b) n = omega arith
-
-  pub nul-none : length seg ≤ i → beforeNul (drop i seg) ≡ 0
-  unfolding beforeNul
-  nul-none h = rw (drop-of-length-le seg {i = i} h)
-
--- A key, by the tests that lead to each answer; nul is where the first NUL stands.
-module _ (seg : List ℕ) (free : List Block) (off : ℕ) where
+-- A key, by the tests that lead to each answer.
+module _ (seg : List ℕ) (ended off : ℕ) (free : List Block) where
   pub key-outside : length seg ≤ off → fault outside ≡ keyText (heapWith seg free) off
   unfolding keyText
   key-outside h = rw (le-ltb off (length seg) h)
 
-  module _ (nul : ℕ) (e : nul ≡ off + beforeNul (drop off seg)) (h : off < length seg) where
-    pub key-no-nul : length seg ≤ nul → fault noNul ≡ keyText (heapWith seg free) off
+  module _ (l : LastNul seg ended) where
+    pub key-no-nul : off < length seg → ended ≤ off → fault noNul ≡ keyText (heapWith seg free) off
     unfolding keyText
-    key-no-nul k = rw (lt-ltb off (length seg) h, ← e, le-ltb nul (length seg) k)
+    key-no-nul h k =
+        let e = no-end seg ended off l k (omega arith) in
+        rw (lt-ltb off (length seg) h, le-ltb (off + beforeNul (drop off seg)) (length seg) (omega (arith, e)))
 
-    pub key-sound : (n : ℕ) → off + n ≡ nul → nul < length seg → text (part seg off n) ≡ keyText (heapWith seg free) off
-    unfolding keyText stringAt
-    key-sound n d k =
-        let f : n ≡ beforeNul (drop off seg) = omega arith in
-        rw (lt-ltb off (length seg) h, ← e, lt-ltb nul (length seg) k, f)
+    pub key-sound : off < ended → text (stringAt seg off) ≡ keyText (heapWith seg free) off
+    unfolding keyText
+    key-sound h = rw (lt-ltb off (length seg) (omega (arith, l .within)), lt-ltb (off + beforeNul (drop off seg)) (length seg) (ends seg ended off l h))
+
+    -- a key that is no fault begins before the last NUL or at it
+    pub key-inside : {s : List ℕ} → text s ≡ keyText (heapWith seg free) off → off < ended
+    key-inside {s} e = go (ltb off ended) refl (ltb off (length seg)) refl
+      where
+        never : {f : NameFault} → fault f ≡ keyText (heapWith seg free) off → off < ended
+        never {f} g = let z : _≡_ {A = ℕ} 0 1 = cc in absurd (omega arith)
+
+        go : (t : Bool) → ltb off ended ≡ t → (u : Bool) → ltb off (length seg) ≡ u → off < ended
+        go true p u q = ltb-true off ended p
+        go false p true q = never (key-no-nul (ltb-true off (length seg) q) (ltb-false off ended p))
+        go false p false q = never (key-outside (ltb-false off (length seg) q))
 
 -- A name and a link value, by the string that stands there.
 module _ (h : Heap) (off : ℕ) where
-  module _ (f : NameFault) (e : fault f ≡ keyText h off) where
+  module _ {f : NameFault} (e : fault f ≡ keyText h off) where
     pub name-fault : fault f ≡ nameText h off
     unfolding nameText
     name-fault = rw (← e)
@@ -63,7 +58,7 @@ module _ (h : Heap) (off : ℕ) where
     unfolding valueText
     value-fault = rw (← e)
 
-  module _ (t : List ℕ) (e : text t ≡ keyText h off) where
+  module _ {t : List ℕ} (e : text t ≡ keyText h off) where
     pub name-bad : isName t ≡ false → fault badForm ≡ nameText h off
     unfolding nameText
     name-bad n = rw (← e, n)
@@ -76,15 +71,23 @@ module _ (h : Heap) (off : ℕ) where
     unfolding valueText
     value-free = rw (← e)
 
--- the n bytes at off and their NUL, against the free blocks
-module _ (seg : List ℕ) (free : List Block) (off n : ℕ) (h : off + n ≤ length seg) where
-  pub free-hit : true ≡ overlapsAny free off (n + 1) → fault inFreeBlock ≡ outsideFree (heapWith seg free) off (text (part seg off n))
-  free-hit e = rw (part-length seg off n h, ← e)
+-- a string and its NUL, against the free blocks
+module _ (h : Heap) (off : ℕ) (t : List ℕ) where
+  pub free-hit : overlapsAny (h .free) off (length t + 1) ≡ true → fault inFreeBlock ≡ outsideFree h off (text t)
+  free-hit e = rw e
 
-  pub free-missed : false ≡ overlapsAny free off (n + 1) → text (part seg off n) ≡ outsideFree (heapWith seg free) off (text (part seg off n))
-  free-missed e = rw (part-length seg off n h, ← e)
+  pub free-missed : overlapsAny (h .free) off (length t + 1) ≡ false → text t ≡ outsideFree h off (text t)
+  free-missed e = rw e
 
--- what was read, by the case that it is
+-- how long the string is
+pub string-length : (seg : List ℕ) (off : ℕ) → off + beforeNul (drop off seg) ≤ length seg → length (stringAt seg off) ≡ beforeNul (drop off seg)
+unfolding stringAt
+string-length seg off h = part-length seg off (beforeNul (drop off seg)) h
+
+-- what was read or checked, by the case that it is
 pub same-read : {seg : List ℕ} {off : ℕ} {r r′ : Rattle.names.specs.declared.Text.Text} {t : Text} → r ≡ r′ → TextRead seg off r t →
     TextRead seg off r′ t
 same-read e h = rw e at h
+
+pub same-check : {r r′ : Checked} (t : Text) → r ≡ r′ → CheckedAs r t → CheckedAs r′ t
+same-check t e h = rw e at h

@@ -1,14 +1,16 @@
 -- What the readers of strings return, as the definitions have it.
-use Prim.Native.Nat.{ℕ, _+_, _≤_, _<_}
+use Prim.Native.Nat.{ℕ, _+_, _<_}
 use mathlib.Core.Path.{_≡_}
 use mathlib.Core.List.{List}
-use lib.ListN.{length, drop}
+use lib.ListN.{length}
 use Rattle.format.specs.Bytes.{part}
-use Rattle.format.specs.Names.{text, fault, outside, noNul, badForm, inFreeBlock, beforeNul}
+use Rattle.format.specs.Names.{text, fault, outside, noNul, badForm, inFreeBlock}
 use Rattle.names.specs.declared.NameFault.{NameFault}
 use Rattle.names.specs.declared.NameFault.the-variants.{Outside, NoNul, BadForm, InFreeBlock}
 use Rattle.names.specs.declared.Text.{Text}
 use Rattle.names.specs.declared.Text.the-variants.{Sound, Fault}
+use Rattle.names.specs.declared.Checked.{Checked}
+use Rattle.names.specs.declared.Checked.the-variants as checked
 
 -- the fault that the reader's fault stands for
 abbrev pub faultOf : NameFault → Rattle.format.specs.Names.NameFault
@@ -32,7 +34,7 @@ pub record TextRead (seg : List ℕ) (off : ℕ) (r : Text) (t : Rattle.format.
   pub value : textOf seg off r ≡ t
   pub inside : Inside seg off r
 
--- the first NUL from off on stands at r; at the end, if there is none
-pub record NulFound (seg : List ℕ) (off r : ℕ) : Type 0 where
-  pub value : r ≡ off + beforeNul (drop off seg)
-  pub inside : r ≤ length seg
+-- the string, of which only the fault is told, was checked as t
+abbrev pub CheckedAs : Checked → Rattle.format.specs.Names.Text → Type 0
+CheckedAs checked.Sound t = (s : List ℕ) × (text s ≡ t)
+CheckedAs (checked.Fault f) t = fault (faultOf f) ≡ t

@@ -1,17 +1,19 @@
-// The strings of a heap's data segment: names, link values and keys.
-use free_list::overlaps_free;
+// The strings of a heap's data segment: names, link values and keys. `ended` is how many bytes the segment has up to its last NUL: by it a string
+// ends in the segment or doesn't, and none is read only to know that.
+use free_map::meets;
+use nul::nul_within;
 use order::contains;
 use order::same;
+use string_ends::ends_outside;
 ghost use mathlib.Core.Path.{_≡_};
 ghost use mathlib.Core.List.{List};
-ghost use Prim.Native.Nat.{_+_, _≤_, _<_};
-ghost use lib.ListN.{length};
-ghost use Rattle.format.specs.Bytes.{part};
 ghost use Rattle.format.specs.Blocks.{Block};
-ghost use Rattle.format.specs.Names.{isName, keyText, nameText, valueText, outsideFree, text};
-ghost use Rattle.free_list.specs.FreeBlocks.{Chained};
-ghost use Rattle.heap.specs.Segment.{heapWith, chainedHeap};
-ghost use Rattle.names.specs.Texts.{TextRead, NulFound};
+ghost use Rattle.format.specs.Names.{isName, keyText, nameText, valueText};
+ghost use Rattle.nul.specs.Nul.{LastNul};
+ghost use Rattle.free_map.specs.FreeMap.{MapOf};
+ghost use Rattle.string_ends.specs.Ends.{Marked};
+ghost use Rattle.heap.specs.Segment.{heapWith};
+ghost use Rattle.names.specs.Texts.{TextRead, CheckedAs};
 
 // What can be wrong with a string, in this order.
 pub enum NameFault {
@@ -27,34 +29,24 @@ pub enum Text {
     Fault(NameFault),
 }
 
-// Where the first NUL from `off` on stands; the segment's length, if there is none.
-fn nul_from(segment: &[u8], off: usize) -> usize
-    requires { ⌜ off ≤ length (now segment) ⌝ }
-    ensures { λ r. ⌜ NulFound (now (segment .entry)) off r ⌝ }
-{
-    let mut i = off;
-    while i < segment.len() {
-        if segment[i] == 0 {
-            return i;
-        }
-        i += 1;
-    }
-    i
+// A string whose length isn't asked for.
+pub enum Checked {
+    Sound,
+    Fault(NameFault),
 }
 
 // A key: any string that ends in a NUL inside the segment.
-pub fn key(segment: &[u8], off: u64) -> Text
-    ensures { λ r. ⌜ ((free : List Block) → TextRead (now (segment .entry)) off r (keyText (heapWith (now (segment .entry)) free) off)) ⌝ }
+pub fn key(segment: &[u8], ended: usize, off: u64) -> Checked
+    requires { ⌜ LastNul (now segment) ended ⌝ }
+    ensures { λ r. ⌜ ((free : List Block) → CheckedAs r (keyText (heapWith (now (segment .entry)) free) off)) ⌝ }
 {
     if segment.len() as u64 <= off {
-        return Text::Fault(NameFault::Outside);
+        return Checked::Fault(NameFault::Outside);
     }
-    let start = off as usize;
-    let nul = nul_from(segment, start);
-    if segment.len() <= nul {
-        return Text::Fault(NameFault::NoNul);
+    if ended as u64 <= off {
+        return Checked::Fault(NameFault::NoNul);
     }
-    Text::Sound(nul - start)
+    Checked::Sound
 }
 
 // Whether these bytes may be a name: 1 to 255 of them, no '/', and not ".".
@@ -74,44 +66,45 @@ fn is_name(t: &[u8]) -> bool
     !same(t, b".")
 }
 
-// The string of `n` bytes at `off`, if neither it nor its NUL has a byte in a free block.
-fn outside_free(segment: &[u8], head: u64, free: usize, off: u64, n: usize) -> Text
-    requires { ⌜ Chained free (now segment) head ⌝ }
-    requires { ⌜ off + n < length (now segment) ⌝ }
-    ensures { λ r. ⌜ TextRead (now (segment .entry)) off r (outsideFree (chainedHeap (now (segment .entry)) head free) off
-        (text (part (now (segment .entry)) off n))) ⌝ }
+// A name of a group. One byte more than a name may have is looked at: a longer string has no other fault.
+pub fn name(segment: &[u8], map: &[u8], ended: usize, off: u64) -> Text
+    requires { ⌜ LastNul (now segment) ended ⌝ }
+    ensures { λ r. ⌜ ((bs : List Block) → MapOf (now (map .entry)) (now (segment .entry)) bs → TextRead (now (segment .entry)) off r
+        (nameText (heapWith (now (segment .entry)) bs) off)) ⌝ }
 {
-    if overlaps_free(segment, head, free, off, (n + 1) as u64) {
-        return Text::Fault(NameFault::InFreeBlock);
-    }
-    Text::Sound(n)
-}
-
-// A name of a group.
-pub fn name(segment: &[u8], head: u64, free: usize, off: u64) -> Text
-    requires { ⌜ Chained free (now segment) head ⌝ }
-    ensures { λ r. ⌜ TextRead (now (segment .entry)) off r (nameText (chainedHeap (now (segment .entry)) head free) off) ⌝ }
-{
-    match key(segment, off) {
-        Text::Fault(f) => Text::Fault(f),
-        Text::Sound(n) => {
+    match key(segment, ended, off) {
+        Checked::Fault(f) => Text::Fault(f),
+        Checked::Sound => {
+            let limits = format::the_limits();
             let start = off as usize;
-            let end = start + n;
+            let end = nul_within(segment, start, limits.name_most + 1);
             if !is_name(&segment[start..end]) {
                 return Text::Fault(NameFault::BadForm);
             }
-            outside_free(segment, head, free, off, n)
+            if meets(map, start, end - start + 1) {
+                return Text::Fault(NameFault::InFreeBlock);
+            }
+            Text::Sound(end - start)
         }
     }
 }
 
 // The value of a symbolic link.
-pub fn value(segment: &[u8], head: u64, free: usize, off: u64) -> Text
-    requires { ⌜ Chained free (now segment) head ⌝ }
-    ensures { λ r. ⌜ TextRead (now (segment .entry)) off r (valueText (chainedHeap (now (segment .entry)) head free) off) ⌝ }
+pub fn value(segment: &[u8], map: &[u8], ended: usize, off: u64) -> Checked
+    requires { ⌜ LastNul (now segment) ended ⌝ }
+    ensures { λ r. ⌜ ((bs : List Block) → MapOf (now (map .entry)) (now (segment .entry)) bs → Marked (now (map .entry)) (now (segment .entry)) bs →
+        CheckedAs r (valueText (heapWith (now (segment .entry)) bs) off)) ⌝ }
 {
-    match key(segment, off) {
-        Text::Fault(f) => Text::Fault(f),
-        Text::Sound(n) => outside_free(segment, head, free, off, n),
+    match key(segment, ended, off) {
+        Checked::Fault(f) => Checked::Fault(f),
+        Checked::Sound => {
+            if map.len() == 0 {
+                return Checked::Sound;
+            }
+            if ends_outside(segment, map, off as usize) {
+                return Checked::Sound;
+            }
+            Checked::Fault(NameFault::InFreeBlock)
+        }
     }
 }

@@ -12,6 +12,7 @@ ghost use Prim.Native.Nat.{_≤_, _<_};
 ghost use lib.ListN.{length};
 ghost use Rattle.format.specs.Limits.{blocksMost};
 ghost use Rattle.walk.specs.Lent.{Lent};
+ghost use Rattle.nul.specs.Nul.{LastNul};
 ghost use Rattle.node.specs.Node.{NodeIs, BranchIs};
 
 // The signature TREE as a number, the lowest byte first.
@@ -88,6 +89,7 @@ pub fn read_branch(
     requires { ⌜ Lent (now list) count (group .room) ⌝ }
     requires { ⌜ group .«end_of_file» ≤ length (now image) ⌝ }
     requires { ⌜ group .«internal_k» < 65536 ⌝ }
+    requires { ⌜ LastNul (now segment) (group .ended) ⌝ }
     ensures { λ r. ⌜ BranchIs (now (image .entry)) (now (segment .entry)) (now (list .entry)) group count level at (now (list .exit)) r ⌝ }
 {
     match read_node(image, list, group, count, at) {
@@ -103,7 +105,7 @@ pub fn read_branch(
             if entries < 1 {
                 return BranchRead::Stopped(Refusal::Fault(answers::NODE_UNSOUND, at as usize));
             }
-            match key::check_keys(image, segment, at as usize + 24, entries + 1) {
+            match key::check_keys(image, segment, group.ended, at as usize + 24, entries + 1) {
                 Keys::Unsound(x) => BranchRead::Stopped(x),
                 Keys::Sound => BranchRead::Read { entries, count: c },
             }

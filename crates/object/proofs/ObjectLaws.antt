@@ -41,7 +41,7 @@ use Rattle.object.specs.declared.object.ObjectRead.the-variants.{Done, S
 
 -- an image that was opened, with the room that a list of so many words gives
 pub opened : (im : List ℕ) (s : superblocks.Superblock) (room lent : ℕ) → room ≡ placesOf lent → Bounded im s → Opened im s room
-opened im s room lent is b = record { file = b .2; small = b .3; most = rw is (places-most lent); leaf = b .0; internal = b .1 }
+opened im s room lent is b = record { file = b .2; small = b .3; bounded = b .5; most = rw is (places-most lent); leaf = b .0; internal = b .1 }
 
 -- the whole list is lent, with no block entered
 pub room-lent : (ws : List ℕ) (room : ℕ) → room ≡ placesOf (length ws) → Lent ws 0 room
@@ -104,16 +104,16 @@ module _ {ws addresses counts marks : List ℕ} {eof room count objects spare : 
   }
 
   -- as the group reader has them
-  pub listed-ready : Ready ws addresses counts eof room count objects
+  pub listed-ready : Ready true ws addresses counts eof room count objects
   listed-ready = record {
     lent = h .lent;
-    table = h .counting .table;
+    table = λ _. h .counting .table;
     apart = h .counting .apart;
     inside = h .counting .inside;
     links = omega (arith, h .counting .links);
   }
 
-  pub ready-listed : {ws₁ addresses₁ counts₁ : List ℕ} {n objects₁ : ℕ} → Ready ws₁ addresses₁ counts₁ eof room n objects₁ →
+  pub ready-listed : {ws₁ addresses₁ counts₁ : List ℕ} {n objects₁ : ℕ} → Ready true ws₁ addresses₁ counts₁ eof room n objects₁ →
       Listed ws₁ addresses₁ counts₁ marks eof room n objects₁ 0
   ready-listed r = record {
     lent = r .lent;
@@ -121,7 +121,7 @@ module _ {ws addresses counts marks : List ℕ} {eof room count objects spare : 
       small = h .counting .small;
       apart = r .apart;
       inside = r .inside;
-      table = r .table;
+      table = r .table refl;
       marked = h .counting .marked;
       links = omega (arith, r .links);
     };

@@ -50,7 +50,7 @@ fn read_group(
     let leaf_k = superblock.leaf_k;
     let internal_k = superblock.internal_k;
     let auditing = true;
-    let reading = group::group::Reading {
+    let reading = group::contents::Reading {
         end_of_file,
         room,
         leaf_k,

@@ -1,2 +1,4 @@
 pub mod OrderLaws
 pub mod Comparing
+pub mod Parts
+pub mod Sixteen

@@ -9,7 +9,7 @@ use Rattle.format.specs.Bytes.{allHold}
 use Rattle.format.specs.Names.{below, within}
 use Rattle.walk.proofs.Tests.{all-fails, all-passes, all-last}
 use Rattle.order.proofs.OrderLaws.{below-transitive, below-asymmetric, below-total}
-use Rattle.range.specs.Range.{NameInside, nameIn, rangeHolds, HigherOf, LowerOf, Narrowed}
+use Rattle.range.specs.Range.{NameInside, nameIn, rangeHolds, atMost, Floor, HigherOf, LowerOf, Narrowed}
 use Rattle.range.specs.declared.Name.{Name}
 use Rattle.range.specs.declared.Range.{Range}
 
@@ -83,17 +83,76 @@ two false y = refl
 two true true = refl
 two true false = refl
 
--- Whether a range holds a string, by the tests.
+-- Whether a string isn't above the high key, by the tests.
 module _ (seg : List ℕ) (range : Range) (t : List ℕ) where
-  pub holds-all : range .bounded ≡ false → true ≡ rangeHolds seg range t
-  holds-all e = rw e
+  pub most-all : range .bounded ≡ false → true ≡ atMost seg range t
+  most-all e = rw e
 
-  pub holds-not-above : range .bounded ≡ true → below (nameIn seg (range .low)) t ≡ false → false ≡ rangeHolds seg range t
-  holds-not-above e f = rw e (all-fails _ f)
+  pub most-high : {x : Bool} → range .bounded ≡ true → x ≡ below (nameIn seg (range .high)) t → not x ≡ atMost seg range t
+  most-high e g = rw e (ap not g)
 
-  pub holds-last : {x : Bool} → range .bounded ≡ true → below (nameIn seg (range .low)) t ≡ true → x ≡ below (nameIn seg (range .high)) t →
-      not x ≡ rangeHolds seg range t
-  holds-last e f g = rw e (all-passes _ f (ap not g ∙ all-last _))
+-- a test joined with the first of two is the same before the second
+joined : (x y p q : Bool) → p ≡ allHold (y ∷ x ∷ []) → allHold (x ∷ allHold (y ∷ q ∷ []) ∷ []) ≡ allHold (p ∷ q ∷ [])
+unfolding allHold
+joined x y p q e = rw e (go x y q)
+  where
+    go : (x y q : Bool) → allHold (x ∷ allHold (y ∷ q ∷ []) ∷ []) ≡ allHold (allHold (y ∷ x ∷ []) ∷ q ∷ [])
+    go false false q = refl
+    go false true q = refl
+    go true false q = refl
+    go true true true = refl
+    go true true false = refl
+
+-- two tests that hold, hold each
+both-hold : (x y : Bool) → allHold (x ∷ y ∷ []) ≡ true → (x ≡ true) × (y ≡ true)
+unfolding allHold
+both-hold true true e = (refl, refl)
+both-hold true false e = (refl, e)
+both-hold false y e = (e, let z : _≡_ {A = ℕ} 0 1 = cc in absurd (omega arith))
+
+-- where the first of two tests holds and not both, the second doesn't
+pub second-fails : (x y : Bool) → x ≡ true → allHold (x ∷ y ∷ []) ≡ false → y ≡ false
+unfolding allHold
+second-fails true true p e = e
+second-fails true false p e = refl
+second-fails false y p e = let z : _≡_ {A = ℕ} 0 1 = cc in absurd (omega arith)
+
+-- The floor of a range, by whether it is bounded.
+module _ (seg : List ℕ) (range : Range) (last : Name) where
+  pub floor-last : NameInside seg last → range .bounded ≡ false → Floor seg range (nameIn seg last) last
+  floor-last i e = record { inside = i; above = λ t. rw e }
+
+  pub floor-higher : (r : Name) → range .bounded ≡ true → HigherOf seg last (range .low) r → Floor seg range (nameIn seg last) r
+  floor-higher r e h = record { inside = h .inside; above = λ t. rw e (joined _ _ _ _ (h .above t)) }
+
+-- What the floor and the high key say of a name.
+module _ (seg : List ℕ) (range : Range) (last : List ℕ) (floor : Name) (t : List ℕ) (f : Floor seg range last floor) where
+  pub floor-passed : below (nameIn seg floor) t ≡ true → atMost seg range t ≡ true → (below last t ≡ true) × (rangeHolds seg range t ≡ true)
+  floor-passed e g = both-hold _ _ (f .above t ∙ sym (all-passes _ e (sym g ∙ all-last _)))
+
+  pub floor-refused : below (nameIn seg floor) t ≡ false → allHold (below last t ∷ rangeHolds seg range t ∷ []) ≡ false
+  floor-refused e = f .above t ∙ sym (all-fails _ e)
+
+  pub high-refused : below (nameIn seg floor) t ≡ true → atMost seg range t ≡ false → allHold (below last t ∷ rangeHolds seg range t ∷ []) ≡ false
+  high-refused e g = f .above t ∙ sym (all-passes _ e (sym g ∙ all-last _))
+
+-- behind a name that is in the range, that name is the floor
+pub floor-next : (seg : List ℕ) (range : Range) (name : Name) → NameInside seg name → rangeHolds seg range (nameIn seg name) ≡ true →
+    Floor seg range (nameIn seg name) name
+floor-next seg range name i held = record { inside = i; above = λ t. go (range .bounded) refl t }
+  where
+    go : (b : Bool) → range .bounded ≡ b → (t : List ℕ) →
+        allHold (below (nameIn seg name) t ∷ rangeHolds seg range t ∷ []) ≡ allHold (below (nameIn seg name) t ∷ atMost seg range t ∷ [])
+    go false e t = rw e
+    go true e t = turn (below (nameIn seg name) t) refl
+      where
+        low : below (nameIn seg (range .low)) (nameIn seg name) ≡ true
+        low = both-hold _ _ (rw e at held) .0
+
+        turn : (z : Bool) → below (nameIn seg name) t ≡ z →
+            allHold (below (nameIn seg name) t ∷ rangeHolds seg range t ∷ []) ≡ allHold (below (nameIn seg name) t ∷ atMost seg range t ∷ [])
+        turn false p = sym (all-fails _ p) ∙ all-fails _ p
+        turn true p = rw (p, e) (ap (λ (q : Bool). allHold (true ∷ q ∷ [])) (sym (all-passes _ (below-transitive _ _ _ low p) (all-last _))))
 
 -- The range of a child: between two keys, inside the range of its node.
 module _ (seg : List ℕ) (range : Range) (low high : Name) where
@@ -102,7 +161,7 @@ module _ (seg : List ℕ) (range : Range) (low high : Name) where
   unfolding within
   narrowed-first i j e = record {
     inside = record { lowInside = i; highInside = j };
-    tight = λ bounds f t. rw (f t, e) (two _ _);
+    tight = λ bounds f t l. rw (f t l, e) (two _ _);
   }
 
   pub narrowed-more : (l h : Name) → range .bounded ≡ true → HigherOf seg (range .low) low l → LowerOf seg (range .high) high h →
@@ -110,5 +169,5 @@ module _ (seg : List ℕ) (range : Range) (low high : Name) where
   unfolding within
   narrowed-more l h e u v = record {
     inside = record { lowInside = u .inside; highInside = v .inside };
-    tight = λ bounds f t. rw (f t, e, u .above t, v .notAbove t) (four _ _ _ _);
+    tight = λ bounds f t k. rw (f t k, e, u .above t, v .notAbove t) (four _ _ _ _);
   }

@@ -4,6 +4,7 @@ use mathlib.Core.Bool.{Bool, true, not}
 use mathlib.Core.List.{List, [], _∷_}
 use mathlib.Core.Path.{_≡_}
 use lib.ListN.{length}
+use Rattle.format.specs.Limits.{nameMost}
 use Rattle.format.specs.Bytes.{if_then_else_, allHold, part}
 use Rattle.format.specs.Names.{Bound, below, within}
 use Rattle.range.specs.declared.Name.{Name}
@@ -25,9 +26,18 @@ pub record RangeInside (seg : List ℕ) (r : Range) : Type 0 where
 abbrev pub rangeHolds : List ℕ → Range → List ℕ → Bool
 rangeHolds seg r t = if r .bounded then allHold (below (nameIn seg (r .low)) t ∷ not (below (nameIn seg (r .high)) t) ∷ []) else true
 
--- the range says the same as the keys on every level above
+-- the string isn't above the high key
+abbrev pub atMost : List ℕ → Range → List ℕ → Bool
+atMost seg r t = if r .bounded then not (below (nameIn seg (r .high)) t) else true
+
+-- The range says the same as the keys on every level above, of every string that is no longer than a name: no key is read further.
 abbrev pub Tight : List ℕ → Range → List Bound → Type 0
-Tight seg r bounds = (t : List ℕ) → within bounds t ≡ rangeHolds seg r t
+Tight seg r bounds = (t : List ℕ) → length t ≤ nameMost → within bounds t ≡ rangeHolds seg r t
+
+-- To be above the last name and in the range is to be above one string and not above the high key.
+pub record Floor (seg : List ℕ) (r : Range) (last : List ℕ) (floor : Name) : Type 0 where
+  pub inside : NameInside seg floor
+  pub above : (t : List ℕ) → allHold (below last t ∷ rangeHolds seg r t ∷ []) ≡ allHold (below (nameIn seg floor) t ∷ atMost seg r t ∷ [])
 
 -- the higher of two: what is above it is above both
 pub record HigherOf (seg : List ℕ) (a b r : Name) : Type 0 where

@@ -2,7 +2,7 @@
 use order::below;
 ghost use mathlib.Core.Path.{_≡_};
 ghost use Rattle.format.specs.Names.{below as isBelow};
-ghost use Rattle.range.specs.Range.{NameInside, RangeInside, nameIn, rangeHolds, HigherOf, LowerOf, Narrowed};
+ghost use Rattle.range.specs.Range.{NameInside, RangeInside, nameIn, atMost, Floor, HigherOf, LowerOf, Narrowed};
 
 // A string of the segment: its offset and its length.
 pub struct Name {
@@ -29,18 +29,14 @@ pub fn name_below(segment: &[u8], a: Name, b: Name) -> bool
     below(&segment[a_at..a_end], &segment[b_at..b_end])
 }
 
-// Whether a name lies above the low key and not above the high key.
-pub fn holds(segment: &[u8], range: Range, name: Name) -> bool
+// Whether a name isn't above the high key.
+pub fn at_most(segment: &[u8], range: Range, name: Name) -> bool
     requires { ⌜ RangeInside (now segment) range ⌝ }
     requires { ⌜ NameInside (now segment) name ⌝ }
-    ensures { λ r. ⌜ r ≡ rangeHolds (now (segment .entry)) range (nameIn (now (segment .entry)) name) ⌝ }
+    ensures { λ r. ⌜ r ≡ atMost (now (segment .entry)) range (nameIn (now (segment .entry)) name) ⌝ }
 {
     if !range.bounded {
         return true;
-    }
-    let low = range.low;
-    if !name_below(segment, low, name) {
-        return false;
     }
     let high = range.high;
     !name_below(segment, high, name)
@@ -68,6 +64,20 @@ fn lower(segment: &[u8], a: Name, b: Name) -> Name
         return b;
     }
     a
+}
+
+// The string that the next name has to be above: the last name or the low key, whichever is higher. So a name is compared twice, and not
+// three times.
+pub fn floor(segment: &[u8], range: Range, last: Name) -> Name
+    requires { ⌜ RangeInside (now segment) range ⌝ }
+    requires { ⌜ NameInside (now segment) last ⌝ }
+    ensures { λ r. ⌜ Floor (now (segment .entry)) range (nameIn (now (segment .entry)) last) r ⌝ }
+{
+    if !range.bounded {
+        return last;
+    }
+    let low = range.low;
+    higher(segment, last, low)
 }
 
 // The range between two keys of a node inside the range of the node.

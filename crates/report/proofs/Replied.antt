@@ -138,9 +138,9 @@ module _ (im ws : List ℕ) (s : Superblock) (b : Bounded im s) where
           counted-law im objects addresses stored counts (q .read),
           list-is im ws s count objects ws₁ addresses counts w lent,
         ) refl;
-        fits = w .ready .table .fits;
-        addressesRest = λ h k m. w .ready .table .addressesZero k m;
+        fits = w .ready .places .fits;
+        addressesRest = λ h k m. w .ready .places .addressesZero k m;
         storedRest = λ h k m. q .rest k m ∙ rw z (getD-zeros objectsMost k);
-        countsRest = λ h k m. w .ready .table .countsZero k m;
+        countsRest = λ h k m. w .ready .places .countsZero k m;
       },
     )

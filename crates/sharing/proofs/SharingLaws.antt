@@ -17,7 +17,7 @@ use Rattle.attribute.specs.declared.AttributeRead.{AttributeRead}
 use Rattle.attribute.specs.declared.AttributeRead.the-variants as attribute
 use Rattle.datatype.specs.declared.Datatype.the-variants as datatypes
 use Rattle.ledger.specs.Table.{linkedOf, Discovered}
-use Rattle.ledger.specs.Table as tables
+use Rattle.ledger.specs.Index as index
 use Rattle.ledger.specs.declared.table.Discovery.{Discovery}
 use Rattle.ledger.specs.declared.table.Discovery.the-variants as table
 use Rattle.ledger.proofs.TableLaws.{discovered-sum}
@@ -27,7 +27,7 @@ use Rattle.sharing.specs.declared.Sharing.{Sharing}
 use Rattle.sharing.specs.declared.Sharing.the-variants.{Counted, Refused}
 
 -- A sharing of the address a, for which a search ended at the place r.
-module _ (xs ts ms : List ℕ) (n a r : ℕ) (t : Tables xs ts ms n 1) (f : tables.Found xs n a r) (xs′ ts′ : List ℕ) {x : Discovery} where
+module _ (xs ts ms : List ℕ) (n a r : ℕ) (t : Tables xs ts ms n 1) (f : index.Found xs n a r) (xs′ ts′ : List ℕ) {x : Discovery} where
   pub share-full : x ≡ table.Full → Discovered xs ts n a xs′ ts′ x → Shared xs ts ms n a xs′ ts′ ms (Refused 12)
   unfolding share
   share-full e d =

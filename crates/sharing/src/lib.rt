@@ -3,6 +3,7 @@
 use attribute::AttributeRead;
 use datatype::Datatype;
 use format::answers;
+use ledger::search;
 use ledger::table;
 use ledger::table::Discovery;
 ghost use Prim.Native.Nat.{_<_};
@@ -33,8 +34,9 @@ pub fn share(
     ensures { λ r. ⌜ Shared (now (addresses .entry)) (now (counts .entry)) (now (marks .entry)) objects address
         (now (addresses .exit)) (now (counts .exit)) (now (marks .exit)) r ⌝ }
 {
-    let place = table::find(addresses, objects, address);
-    match table::count_at(addresses, counts, objects, address, place) {
+    let found = search::find(addresses, objects, address);
+    let place = found.place;
+    match table::count_at(addresses, counts, objects, address, found) {
         Discovery::Full => Sharing::Refused(answers::TOO_MANY_OBJECTS),
         Discovery::Counted(n) => {
             if marks[place] == OTHER_KIND {

@@ -8,7 +8,7 @@ use Rattle.format.specs.Bytes.{part, u16, u64}
 use Rattle.format.specs.declared.Refusal.{Refusal}
 use Rattle.format.specs.Walk.{Walk, ret, _>>=_, run}
 use Rattle.format.specs.Heap.{Heap}
-use Rattle.format.specs.Names.{Bound, stringAt}
+use Rattle.format.specs.Names.{Bound, stringAt, below, within}
 use Rattle.format.specs.Entry.{GroupState}
 use Rattle.format.specs.Symbols.{symbolWalk}
 use Rattle.format.specs.Tree.{children, branches, subtree}
@@ -23,6 +23,12 @@ use Rattle.symbol.specs.declared.entry.Group.{Group}
 use Rattle.symbol.specs.declared.entry.State.{State}
 use Rattle.node.specs.Node.{branchWalk}
 use Rattle.symbol_node.specs.Tree.{Sound}
+
+-- two keys that compare alike with a name are the same bounds for it
+pub within-alike : (low low′ high high′ : List ℕ) (bounds : List Bound) (t : List ℕ) → below low t ≡ below low′ t → below high t ≡ below high′ t →
+    within (record { low = low; high = high } ∷ bounds) t ≡ within (record { low = low′; high = high′ } ∷ bounds) t
+unfolding within
+within-alike low low′ high high′ bounds t e f = rw (e, f)
 
 -- a node below: its own walk, then its children
 subtree-split : (g : Rattle.format.specs.Entry.Group Both) (level at : ℕ) (bounds : List Bound) (s : GroupState Both) →

@@ -29,6 +29,7 @@ fn child_range(image: &[u8], segment: &[u8], range: Range, at: usize) -> Range
 pub fn subtree(
     image: &[u8],
     segment: &[u8],
+    map: &[u8],
     wanted: &[u8],
     list: &mut [u64],
     addresses: &mut [u64],
@@ -39,7 +40,7 @@ pub fn subtree(
     at: u64,
     state: State,
 ) -> Step
-    requires { ⌜ Descending (now image) (now segment) (now list) (now addresses) (now counts) group range state ⌝ }
+    requires { ⌜ Descending (now image) (now segment) (now map) (now list) (now addresses) (now counts) group range state ⌝ }
     ensures { λ r. ⌜ SubtreeIs (now (image .entry)) (now (segment .entry)) (now (wanted .entry)) (now (list .entry)) (now (addresses .entry))
         (now (counts .entry)) group range height at state (now (list .exit)) (now (addresses .exit)) (now (counts .exit)) r ⌝ }
 {
@@ -47,6 +48,7 @@ pub fn subtree(
         return symbol_node::symbol_node(
             image,
             segment,
+            map,
             wanted,
             list,
             addresses,
@@ -78,6 +80,7 @@ pub fn subtree(
                 match subtree(
                     image,
                     segment,
+                    map,
                     wanted,
                     list,
                     addresses,

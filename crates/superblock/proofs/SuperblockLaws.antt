@@ -12,7 +12,7 @@ use Rattle.format.specs.Bytes.{if_then_else_, allHold, inRange, littleEndian, p
 use Rattle.format.specs.Superblock.{Superblock, versionShift, Opening, opened, notOpened}
 use Rattle.format.specs.Superblock.{signature, superblockRead, superblockSound, superblockFields, openImage}
 use Rattle.walk.specs.Numbers.{Number}
-use Rattle.walk.proofs.Tests.{all-held}
+use Rattle.walk.proofs.Tests.{all-held, range-most}
 use Rattle.laws.proofs.ImageLength.{image-small}
 use Rattle.superblock.specs.Superblock.{Shifted}
 
@@ -74,3 +74,7 @@ size-least im s e = rw e (omega arith)
 -- the end of file of an image that isn't too long fits 32 bits
 pub end-small : (im : List ℕ) (eof : ℕ) → eof ≤ length im → inRange imageLeast imageMost (length im) ≡ true → eof < 2 ^ 32
 end-small im eof h e = omega (arith, image-small (length im) e)
+
+-- and is no longer than an image may be
+pub end-most : (im : List ℕ) (eof : ℕ) → eof ≤ length im → inRange imageLeast imageMost (length im) ≡ true → eof ≤ imageMost
+end-most im eof h e = omega (arith, range-most imageLeast imageMost (length im) e)

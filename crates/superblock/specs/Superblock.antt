@@ -3,6 +3,7 @@ use Prim.Native.Nat.{ℕ, _^_, _≤_, _<_}
 use mathlib.Core.Path.{_≡_}
 use mathlib.Core.List.{List}
 use lib.ListN.{length}
+use Rattle.format.specs.Limits.{imageMost}
 use Rattle.format.specs.Superblock.{opened, notOpened, versionShift}
 use Rattle.superblock.specs.declared.Superblock.{Superblock}
 use Rattle.superblock.specs.declared.Opening.{Opening}
@@ -21,8 +22,10 @@ abbrev pub openingOf : Opening → Rattle.format.specs.Superblock.Opening
 openingOf (Opened s) = opened (superblockOf s)
 openingOf (NotOpened n) = notOpened n
 
--- the Ks of an opened image have two bytes, its end of file lies no further than the image's and fits 32 bits, and its superblock has bytes
+-- the Ks of an opened image have two bytes, its end of file lies no further than the image's, fits 32 bits and is no longer than an image, and its
+-- superblock has bytes
 abbrev pub FieldsBounded : List ℕ → Opening → Type 0
 FieldsBounded im (Opened s) =
     (s .«leaf_k» < 65536) × (s .«internal_k» < 65536) × (s .«end_of_file» ≤ length im) × (s .«end_of_file» < 2 ^ 32) × (1 ≤ s .size)
+    × (s .«end_of_file» ≤ imageMost)
 FieldsBounded im (NotOpened n) = Unit {0}

@@ -1,19 +1,27 @@
 -- Laws of the entries of a symbol table node, by the tests in their order.
 use Prim.Native.Nat.{ℕ, suc, _+_, _*_, _-_, _^_, _≤_, _<_}
-use mathlib.Core.Bool.{Bool, true, false}
-use mathlib.Core.List.{List}
+use mathlib.Core.Bool.{Bool, true, false, _&&_}
+use mathlib.Core.List.{List, [], _∷_}
 use mathlib.Core.Path.{_≡_, refl, ap, sym, _∙_}
 use native.Mathlib.Omega.{arith}
+use borrow.Author.Tests.{leb-true}
+use lib.Dec.{leb}
 use lib.ListN.{length, drop}
-use Rattle.format.specs.Bytes.{part, littleEndian, u32, u64}
+use Rattle.format.specs.Limits.{nameMost}
+use Rattle.format.specs.Bytes.{if_then_else_, allHold, part, littleEndian, u32, u64}
 use Rattle.format.specs.declared.Refusal.{Refusal}
-use Rattle.format.specs.Result.{value, answer}
+use Rattle.format.specs.Result.{Result, value, answer, check, _>>_}
 use Rattle.format.specs.Walk.{fault as faultAt, located, _>>=_}
-use Rattle.format.specs.Names.{Bound, Text, text, fault, faultNumber, readText, nameText, valueText, below}
+use Rattle.format.specs.Blocks.{Block, overlapsAny}
+use Rattle.format.specs.Heap.{Heap}
+use Rattle.format.specs.Names.{Bound, Text, text, fault, badForm, inFreeBlock, faultNumber, readText, keyText, nameText, valueText, below, within}
+use Rattle.format.specs.Names.{isName, wellFormed, outsideFree}
 use Rattle.format.specs.Entry.{GroupState, readValue, readEntry}
 use Rattle.format.specs.Symbols.{entries}
-use Rattle.heap.specs.Segment.{chainedHeap}
-use Rattle.names.specs.Texts.{faultOf, TextRead}
+use Rattle.free_list.specs.FreeBlocks.{chain}
+use Rattle.heap.specs.Segment.{heapWith, chainedHeap}
+use Rattle.names.specs.Texts.{faultOf, TextRead, CheckedAs}
+use Rattle.names.specs.declared.Checked.{Checked}
 use Rattle.names.specs.declared.NameFault.{NameFault}
 use Rattle.names.specs.declared.Text.the-variants as texts
 use Rattle.ledger.specs.Links.{linkSum}
@@ -23,6 +31,7 @@ use Rattle.laws.proofs.Results.{passes, fails, gives, answers}
 use Rattle.walk.proofs.Parts.{part-part, drop-part}
 use Rattle.walk.proofs.Tests.{takes-then, takes-else, field-equal, field-unequal, field-most, field-above}
 use Rattle.range.specs.Range.{nameIn, rangeHolds, Tight}
+use Rattle.range.proofs.RangeLaws.{floor-next, second-fails}
 use Rattle.visit.specs.Visit.{Both, visitBoth, Visited}
 use Rattle.symbol.specs.Entry.{groupOf, stateOf, ValueIs, Ready, NameSound, Kept, EntryIs, EntriesAre}
 use Rattle.range.specs.declared.Name.{Name}
@@ -45,28 +54,34 @@ first-field : (im : List ℕ) (at m : ℕ) → 40 ≤ m → u64 (part im at m) 0
 first-field im at m l = let e : at + 0 ≡ at = omega arith in field im at m 0 8 l (omega arith) ∙ ap (u64 im) e
 
 -- A link's value, by the entry's type and then by the string that stands there.
-module _ (im seg : List ℕ) (head free kind at : ℕ) where
-  pub value-none : (kind ≡ 2 → ⊥) → ValueIs im seg head free kind at Sound
+module _ (im seg : List ℕ) (bs : List Block) (kind at : ℕ) where
+  pub value-none : (kind ≡ 2 → ⊥) → ValueIs im seg bs kind at Sound
   unfolding readValue
   value-none n = λ m l i k. takes-else _ _ (field-unequal (sym k) n) refl
 
   module _ (two : kind ≡ 2) (off : ℕ) (o : off ≡ u32 im (at + 24)) where
-    value-there : (m : ℕ) → 40 ≤ m → (t : Text) → t ≡ valueText (chainedHeap seg head free) off →
-        readText t ≡ readText (valueText (chainedHeap seg head free) (u32 (part im at m) 24))
-    value-there m l t e = ap readText (e ∙ ap (valueText (chainedHeap seg head free)) (o ∙ sym (field im at m 24 4 l (omega arith))))
+    value-there : (m : ℕ) → 40 ≤ m → (t : Text) → t ≡ valueText (heapWith seg bs) off →
+        readText t ≡ readText (valueText (heapWith seg bs) (u32 (part im at m) 24))
+    value-there m l t e = ap readText (e ∙ ap (valueText (heapWith seg bs)) (o ∙ sym (field im at m 24 4 l (omega arith))))
 
-    pub value-refused : (f : NameFault) (n : ℕ) → n ≡ faultNumber (faultOf f) → fault (faultOf f) ≡ valueText (chainedHeap seg head free) off →
-        ValueIs im seg head free kind at (Unsound n)
+    pub value-refused : (f : NameFault) (n : ℕ) → n ≡ faultNumber (faultOf f) → fault (faultOf f) ≡ valueText (heapWith seg bs) off →
+        ValueIs im seg bs kind at (Unsound n)
     unfolding readValue
     value-refused f n p e = λ m l i k. takes-then _ _ (field-equal (sym k) two) (answers _ (ap answer p ∙ value-there m l (fault (faultOf f)) e))
 
-    pub value-read : (t : List ℕ) → text t ≡ valueText (chainedHeap seg head free) off → ValueIs im seg head free kind at Sound
+    pub value-read : (t : List ℕ) → text t ≡ valueText (heapWith seg bs) off → ValueIs im seg bs kind at Sound
     unfolding readValue
     value-read t e = λ m l i k. takes-then _ _ (field-equal (sym k) two) (gives _ (value-there m l (text t) e) refl)
 
 -- what was read, by the case that it is
-pub same-value : (im seg : List ℕ) (head free kind at : ℕ) {r r′ : Value} → r ≡ r′ → ValueIs im seg head free kind at r → ValueIs im seg head free kind at r′
-same-value im seg head free kind at e h = rw e at h
+pub same-value : (im seg : List ℕ) (bs : List Block) (kind at : ℕ) {r r′ : Value} → r ≡ r′ → ValueIs im seg bs kind at r → ValueIs im seg bs kind at r′
+same-value im seg bs kind at e h = rw e at h
+
+pub same-text : {seg : List ℕ} {off : ℕ} {r r′ : Rattle.names.specs.declared.Text.Text} {t : Text} → r ≡ r′ → TextRead seg off r t → TextRead seg off r′ t
+same-text e h = rw e at h
+
+pub same-checked : (t : Text) {r r′ : Checked} → r ≡ r′ → CheckedAs r t → CheckedAs r′ t
+same-checked t e h = rw e at h
 
 pub same-entry : {im seg wanted addresses counts : List ℕ} {g : Group} {r : Range} {at : ℕ} {s : State} {addresses′ counts′ : List ℕ} {x x′ : Step} → x ≡ x′ →
     EntryIs im seg wanted addresses counts g r at s addresses′ counts′ x → EntryIs im seg wanted addresses counts g r at s addresses′ counts′ x′
@@ -78,13 +93,37 @@ pub same-visit : {addresses counts : List ℕ} {objects : ℕ} {auditing : Bool}
     Visited addresses counts objects auditing name′ wanted kind header l addresses′ counts′ r′
 same-visit e f h = rw (e, f) at h
 
+-- a name has no more bytes than it may
+name-short : (h : Heap) (off : ℕ) (t : List ℕ) → nameText h off ≡ text t → length t ≤ nameMost
+unfolding nameText isName allHold
+name-short h off t e = by-key (keyText h off) e
+  where
+    by-outside : (u : List ℕ) (z : Bool) → length u ≤ nameMost → (if z then fault inFreeBlock else text u) ≡ text t → length t ≤ nameMost
+    by-outside u true l q = let z : _≡_ {A = ℕ} 0 1 = cc in absurd (omega arith)
+    by-outside u false l q = let same : u ≡ t = cc in rw same at l
+
+    by-form : (u : List ℕ) (x y : Bool) (z : Bool) → leb (length u) nameMost ≡ y →
+        outsideFree h off (if (if x && y then z else false) then text u else fault badForm) ≡ text t → length t ≤ nameMost
+    by-form u true true true p q = by-outside u (overlapsAny (h .free) off (length u + 1)) (leb-true (length u) nameMost p) q
+    by-form u true true false p q = let z : _≡_ {A = ℕ} 0 1 = cc in absurd (omega arith)
+    by-form u true false z p q = let z : _≡_ {A = ℕ} 0 1 = cc in absurd (omega arith)
+    by-form u false y z p q = let z : _≡_ {A = ℕ} 0 1 = cc in absurd (omega arith)
+
+    by-key : (k : Text) → outsideFree h off (wellFormed k) ≡ text t → length t ≤ nameMost
+    by-key (text u) q = by-form u (leb 1 (length u)) (leb (length u) nameMost) _ refl q
+    by-key (fault f) q = let z : _≡_ {A = ℕ} 0 1 = cc in absurd (omega arith)
+
 -- a name that was read at the entry's first field
 pub name-sound : (im seg : List ℕ) (g : Group) (at off n : ℕ) → off ≡ u64 im at →
     TextRead seg off (texts.Sound n) (nameText (chainedHeap seg (g .head) (g .free)) off) →
     NameSound im seg g at (record { at = off; size = n })
 name-sound im seg g at off n o h =
     let j : off + n < length seg = h .inside in
-    record { inside = omega arith; is = rw (← o) (sym (h .value)) }
+    record {
+      inside = omega arith;
+      short = name-short (chainedHeap seg (g .head) (g .free)) off (part seg off n) (sym (h .value));
+      is = rw (← o) (sym (h .value));
+    }
 
 -- An entry, by its tests in their order.
 module _ (im seg wanted addresses counts : List ℕ) (g : Group) (r : Range) (at : ℕ) (s : State) (addresses′ counts′ : List ℕ) where
@@ -97,27 +136,34 @@ module _ (im seg wanted addresses counts : List ℕ) (g : Group) (r : Range) (at
         λ bounds m t l i. ap (located at)
         (answers _ (ap answer p ∙ ap readText (e ∙ ap (nameText (chainedHeap seg (g .head) (g .free))) (o ∙ sym (first-field im at m l)))));
     kept = tt;
+    floor = tt;
   }
 
   module _ (n : Name) (sound : NameSound im seg g at n) where
     name-there : (m : ℕ) → 40 ≤ m → value (nameIn seg n) ≡ readText (nameText (chainedHeap seg (g .head) (g .free)) (u64 (part im at m) 0))
     name-there m l = ap readText (sym (sound .is) ∙ ap (nameText (chainedHeap seg (g .head) (g .free))) (sym (first-field im at m l)))
 
-    pub order-refused : false ≡ below (nameIn seg (s .last)) (nameIn seg n) →
+    -- its place among names and keys: both tests fail with 8
+    pub place-refused : allHold (below (nameIn seg (s .last)) (nameIn seg n) ∷ rangeHolds seg r (nameIn seg n) ∷ []) ≡ false →
         EntryIs im seg wanted addresses counts g r at s addresses′ counts′ (Stopped (faultAt 8 at))
-    unfolding readEntry
-    order-refused e = record { walk = λ bounds m t l i. ap (located at) (gives _ (name-there m l) (fails _ _ (sym e))); kept = tt }
+    unfolding readEntry allHold
+    place-refused e = record {
+      walk = λ bounds m t l i. ap (located at) (gives _ (name-there m l) (go (below (nameIn seg (s .last)) (nameIn seg n)) refl bounds t _));
+      kept = tt;
+      floor = tt;
+    }
+      where
+        go : (z : Bool) → below (nameIn seg (s .last)) (nameIn seg n) ≡ z → (bounds : List Bound) → Tight seg r bounds → (k : Result (GroupState Both)) →
+            answer 8 ≡ (check (below (nameIn seg (s .last)) (nameIn seg n)) 8 >> (check (within bounds (nameIn seg n)) 8 >> k))
+        go false p bounds t k = fails _ _ p
+        go true p bounds t k = passes _ _ p (fails _ _ (t (nameIn seg n) (sound .short) ∙ second-fails _ _ p e))
 
-    module _ (rises : true ≡ below (nameIn seg (s .last)) (nameIn seg n)) where
-      pub range-refused : false ≡ rangeHolds seg r (nameIn seg n) → EntryIs im seg wanted addresses counts g r at s addresses′ counts′ (Stopped (faultAt 8 at))
-      unfolding readEntry
-      range-refused e = record {
-        walk = λ bounds m t l i. ap (located at) (gives _ (name-there m l)
-            (passes _ _ (sym rises) (fails _ _ (t (nameIn seg n) ∙ sym e))));
-        kept = tt;
-      }
+    module _ (rises : below (nameIn seg (s .last)) (nameIn seg n) ≡ true) (held : rangeHolds seg r (nameIn seg n) ≡ true) where
+      placed : (bounds : List Bound) → Tight seg r bounds → {x : Result (GroupState Both)} (k : Result (GroupState Both)) → x ≡ k →
+          x ≡ (check (below (nameIn seg (s .last)) (nameIn seg n)) 8 >> (check (within bounds (nameIn seg n)) 8 >> k))
+      placed bounds t k e = passes _ _ rises (passes _ _ (t (nameIn seg n) (sound .short) ∙ held) e)
 
-      module _ (held : true ≡ rangeHolds seg r (nameIn seg n)) (kind : ℕ) (k : kind ≡ u32 im (at + 16)) where
+      module _ (kind : ℕ) (k : kind ≡ u32 im (at + 16)) where
         kind-there : (m : ℕ) → 40 ≤ m → u32 (part im at m) 16 ≡ kind
         kind-there m l = field im at m 16 4 l (omega arith) ∙ sym k
 
@@ -126,23 +172,25 @@ module _ (im seg wanted addresses counts : List ℕ) (g : Group) (r : Range) (at
         type-refused h = record {
           walk =
               λ bounds m t l i. ap (located at)
-              (gives _ (name-there m l) (passes _ _ (sym rises) (passes _ _ (t (nameIn seg n) ∙ sym held) (fails _ _ (field-above (kind-there m l) h)))));
+              (gives _ (name-there m l) (placed bounds t _ (fails _ _ (field-above (kind-there m l) h))));
           kept = tt;
+          floor = tt;
         }
 
         module _ (known : kind ≤ 2) where
-          pub link-refused : (x : ℕ) → ValueIs im seg (g .head) (g .free) kind at (Unsound x) →
+          pub link-refused : (x : ℕ) → ValueIs im seg (chain (g .free) seg (g .head)) kind at (Unsound x) →
               EntryIs im seg wanted addresses counts g r at s addresses′ counts′ (Stopped (faultAt x at))
           unfolding readEntry
           link-refused x v = record {
             walk = λ bounds m t l i.
                 ap (located at)
-                (gives _ (name-there m l) (passes _ _ (sym rises) (passes _ _ (t (nameIn seg n) ∙ sym held) (passes _ _ (field-most (kind-there m l) known)
-                (answers _ (v m l i (sym (kind-there m l))))))));
+                (gives _ (name-there m l) (placed bounds t _ (passes _ _ (field-most (kind-there m l) known)
+                (answers _ (v m l i (sym (kind-there m l)))))));
             kept = tt;
+            floor = tt;
           }
 
-          module _ (v : ValueIs im seg (g .head) (g .free) kind at Sound) (header : ℕ) (h : header ≡ u64 im (at + 8)) where
+          module _ (v : ValueIs im seg (chain (g .free) seg (g .head)) kind at Sound) (header : ℕ) (h : header ≡ u64 im (at + 8)) where
             -- what the visit is told
             visit-there : (m : ℕ) → 40 ≤ m → (b : Both) →
                 visitBoth (g .auditing) wanted (record { name = nameIn seg n; type = kind; header = header }) b
@@ -158,9 +206,10 @@ module _ (im seg wanted addresses counts : List ℕ) (g : Group) (r : Range) (at
             visit-refused d = record {
               walk = λ bounds m t l i.
                   ap (located at)
-                  (gives _ (name-there m l) (passes _ _ (sym rises) (passes _ _ (t (nameIn seg n) ∙ sym held) (passes _ _ (field-most (kind-there m l) known)
-                  (gives _ (v m l i (sym (kind-there m l))) (answers _ (d .walk ∙ visit-there m l _)))))));
+                  (gives _ (name-there m l) (placed bounds t _ (passes _ _ (field-most (kind-there m l) known)
+                  (gives _ (v m l i (sym (kind-there m l))) (answers _ (d .walk ∙ visit-there m l _))))));
               kept = tt;
+              floor = tt;
             }
 
             pub visited : (objects : ℕ) (link : Link) →
@@ -171,9 +220,10 @@ module _ (im seg wanted addresses counts : List ℕ) (g : Group) (r : Range) (at
             visited objects link d = record {
               walk = λ bounds m t l i.
                   ap (located at)
-                  (gives _ (name-there m l) (passes _ _ (sym rises) (passes _ _ (t (nameIn seg n) ∙ sym held) (passes _ _ (field-most (kind-there m l) known)
-                  (gives _ (v m l i (sym (kind-there m l))) (gives _ (d .walk ∙ visit-there m l _) refl))))));
+                  (gives _ (name-there m l) (placed bounds t _ (passes _ _ (field-most (kind-there m l) known)
+                  (gives _ (v m l i (sym (kind-there m l))) (gives _ (d .walk ∙ visit-there m l _) refl)))));
               kept = record { blocks = refl; last = sound .inside; table = d .table .0; links = d .table .1 };
+              floor = floor-next seg r n (sound .inside) held;
             }
 
 -- The loop over the entries: what i entries leave to read, and the state with them.
@@ -183,13 +233,13 @@ pub record Reading (im seg wanted addresses₀ counts₀ : List ℕ) (g : Group)
   pub walk : (bounds : List Bound) (m : ℕ) → Tight seg r bounds → 40 * n ≤ m → from + m ≤ length im →
       entries (groupOf seg wanted g) bounds n from (part im from m) (stateOf seg addresses₀ counts₀ s₀)
       ≡ entries (groupOf seg wanted g) bounds (n - i) (from + 40 * i) (part im (from + 40 * i) (m - 40 * i)) (stateOf seg addresses counts s)
-  pub kept : Kept seg addresses₀ counts₀ s₀ i addresses counts s
+  pub kept : Kept seg addresses₀ counts₀ g s₀ i addresses counts s
   pub addressesSame : length addresses ≡ length addresses₀
   pub countsSame : length counts ≡ length counts₀
 
-pub reading-start : (im seg wanted addresses counts : List ℕ) (g : Group) (r : Range) (from n : ℕ) (s : State) → Ready seg addresses counts g r s →
+pub reading-start : (im seg wanted addresses counts : List ℕ) (g : Group) (r : Range) (from n : ℕ) (map : List ℕ) (s : State) → Ready seg map addresses counts g r s →
     Reading im seg wanted addresses counts g r from n s addresses counts 0 s
-reading-start im seg wanted addresses counts g r from n s h = record {
+reading-start im seg wanted addresses counts g r from n map s h = record {
   inside = omega arith;
   walk = λ bounds m t l i.
       let e : n - 0 ≡ n = omega arith in

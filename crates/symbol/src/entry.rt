@@ -2,6 +2,7 @@
 use format::Refusal;
 use format::answers;
 use key::fault_number;
+use names::Checked;
 use names::Text;
 use range::Name;
 use range::Range;
@@ -11,12 +12,18 @@ use walk::numbers::u32_at;
 use walk::numbers::u64_at;
 ghost use Prim.Native.Nat.{_+_, _*_, _^_, _≤_, _<_};
 ghost use lib.ListN.{length};
-ghost use Rattle.free_list.specs.FreeBlocks.{Chained};
+ghost use mathlib.Core.List.{List};
+ghost use Rattle.format.specs.Blocks.{Block};
+ghost use Rattle.nul.specs.Nul.{LastNul};
+ghost use Rattle.free_map.specs.FreeMap.{MapOf};
+ghost use Rattle.string_ends.specs.Ends.{Marked};
 ghost use Rattle.ledger.specs.Links.{linkSum};
 ghost use Rattle.ledger.specs.Table.{linkedOf};
+ghost use Rattle.range.specs.Range.{nameIn, Floor};
 ghost use Rattle.symbol.specs.Entry.{ValueIs, Ready, NameSound, EntryIs, EntriesAre};
 
-// What stays the same over the whole descent.
+// What stays the same over the whole descent. Of the heap: the head of the free list, the number of its blocks, and how many bytes the segment has up
+// to its last NUL.
 pub struct Group {
     pub end_of_file: u64,
     pub room: usize,
@@ -24,6 +31,7 @@ pub struct Group {
     pub internal_k: u64,
     pub head: u64,
     pub free: usize,
+    pub ended: usize,
     pub auditing: bool,
 }
 
@@ -46,24 +54,34 @@ pub enum Value {
 }
 
 // A symbolic link's value, at the heap offset in the first 4 scratch bytes; a hard link has none.
-fn check_value(image: &[u8], segment: &[u8], head: u64, free: usize, kind: u64, at: usize) -> Value
+fn check_value(
+    image: &[u8],
+    segment: &[u8],
+    map: &[u8],
+    ended: usize,
+    kind: u64,
+    at: usize,
+) -> Value
     requires { ⌜ at + 40 ≤ length (now image) ⌝ }
-    requires { ⌜ Chained free (now segment) head ⌝ }
-    ensures { λ r. ⌜ ValueIs (now (image .entry)) (now (segment .entry)) head free kind at r ⌝ }
+    requires { ⌜ LastNul (now segment) ended ⌝ }
+    ensures { λ r. ⌜ ((bs : List Block) → MapOf (now (map .entry)) (now (segment .entry)) bs → Marked (now (map .entry)) (now (segment .entry)) bs →
+        ValueIs (now (image .entry)) (now (segment .entry)) bs kind at r) ⌝ }
 {
     if kind != 2 {
         return Value::Sound;
     }
-    match names::value(segment, head, free, u32_at(image, at + 24)) {
-        Text::Fault(f) => Value::Unsound(fault_number(f)),
-        Text::Sound(_) => Value::Sound,
+    match names::value(segment, map, ended, u32_at(image, at + 24)) {
+        Checked::Fault(f) => Value::Unsound(fault_number(f)),
+        Checked::Sound => Value::Sound,
     }
 }
 
-// An entry whose name is sound: its place among names and keys, its type, its value, and the visit.
+// An entry whose name is sound: its place among names and keys, its type, its value, and the visit. The name has to be above `floor`, which
+// stands for the last name and the keys before it.
 fn named_entry(
     image: &[u8],
     segment: &[u8],
+    map: &[u8],
     wanted: &[u8],
     addresses: &mut [u64],
     counts: &mut [u32],
@@ -71,27 +89,28 @@ fn named_entry(
     range: Range,
     at: usize,
     name: Name,
+    floor: Name,
     state: State,
 ) -> Step
     requires { ⌜ at + 40 ≤ length (now image) ⌝ }
-    requires { ⌜ Ready (now segment) (now addresses) (now counts) group range state ⌝ }
+    requires { ⌜ Ready (now segment) (now map) (now addresses) (now counts) group range state ⌝ }
     requires { ⌜ linkSum (linkedOf (state .objects) (now addresses) (now counts)) + 1 < 2 ^ 32 ⌝ }
+    requires { ⌜ Floor (now segment) range (nameIn (now segment) (state .last)) floor ⌝ }
     requires { ⌜ NameSound (now image) (now segment) group at name ⌝ }
     ensures { λ r. ⌜ EntryIs (now (image .entry)) (now (segment .entry)) (now (wanted .entry)) (now (addresses .entry)) (now (counts .entry)) group range
         at state (now (addresses .exit)) (now (counts .exit)) r ⌝ }
 {
-    let last = state.last;
-    if !range::name_below(segment, last, name) {
+    if !range::name_below(segment, floor, name) {
         return Step::Stopped(Refusal::Fault(answers::NODE_UNSOUND, at));
     }
-    if !range::holds(segment, range, name) {
+    if !range::at_most(segment, range, name) {
         return Step::Stopped(Refusal::Fault(answers::NODE_UNSOUND, at));
     }
     let kind = u32_at(image, at + 16);
     if 2 < kind {
         return Step::Stopped(Refusal::Fault(answers::NODE_UNSOUND, at));
     }
-    match check_value(image, segment, group.head, group.free, kind, at) {
+    match check_value(image, segment, map, group.ended, kind, at) {
         Value::Unsound(n) => Step::Stopped(Refusal::Fault(n, at)),
         Value::Sound => {
             let from = name.at;
@@ -127,22 +146,25 @@ fn named_entry(
 fn one_entry(
     image: &[u8],
     segment: &[u8],
+    map: &[u8],
     wanted: &[u8],
     addresses: &mut [u64],
     counts: &mut [u32],
     group: Group,
     range: Range,
     at: usize,
+    floor: Name,
     state: State,
 ) -> Step
     requires { ⌜ at + 40 ≤ length (now image) ⌝ }
-    requires { ⌜ Ready (now segment) (now addresses) (now counts) group range state ⌝ }
+    requires { ⌜ Ready (now segment) (now map) (now addresses) (now counts) group range state ⌝ }
     requires { ⌜ linkSum (linkedOf (state .objects) (now addresses) (now counts)) + 1 < 2 ^ 32 ⌝ }
+    requires { ⌜ Floor (now segment) range (nameIn (now segment) (state .last)) floor ⌝ }
     ensures { λ r. ⌜ EntryIs (now (image .entry)) (now (segment .entry)) (now (wanted .entry)) (now (addresses .entry)) (now (counts .entry)) group range
         at state (now (addresses .exit)) (now (counts .exit)) r ⌝ }
 {
     let off = u64_at(image, at);
-    match names::name(segment, group.head, group.free, off) {
+    match names::name(segment, map, group.ended, off) {
         Text::Fault(f) => Step::Stopped(Refusal::Fault(fault_number(f), at)),
         Text::Sound(n) => {
             let name = Name {
@@ -152,6 +174,7 @@ fn one_entry(
             named_entry(
                 image,
                 segment,
+                map,
                 wanted,
                 addresses,
                 counts,
@@ -159,6 +182,7 @@ fn one_entry(
                 range,
                 at,
                 name,
+                floor,
                 state,
             )
         }
@@ -169,6 +193,7 @@ fn one_entry(
 pub fn entries(
     image: &[u8],
     segment: &[u8],
+    map: &[u8],
     wanted: &[u8],
     addresses: &mut [u64],
     counts: &mut [u32],
@@ -179,27 +204,33 @@ pub fn entries(
     state: State,
 ) -> Step
     requires { ⌜ from + 40 * n ≤ length (now image) ⌝ }
-    requires { ⌜ Ready (now segment) (now addresses) (now counts) group range state ⌝ }
+    requires { ⌜ Ready (now segment) (now map) (now addresses) (now counts) group range state ⌝ }
     requires { ⌜ linkSum (linkedOf (state .objects) (now addresses) (now counts)) + n < 2 ^ 32 ⌝ }
     ensures { λ r. ⌜ EntriesAre (now (image .entry)) (now (segment .entry)) (now (wanted .entry)) (now (addresses .entry)) (now (counts .entry)) group
         range from n state (now (addresses .exit)) (now (counts .exit)) r ⌝ }
 {
     let mut i: usize = 0;
     let mut s = state;
+    let last = state.last;
+    let mut floor = range::floor(segment, range, last);
     while i < n {
         match one_entry(
             image,
             segment,
+            map,
             wanted,
             addresses,
             counts,
             group,
             range,
             from + 40 * i,
+            floor,
             s,
         ) {
             Step::Stopped(x) => return Step::Stopped(x),
             Step::Done(next) => {
+                let name = next.last;
+                floor = name;
                 s = next;
                 i += 1;
             }

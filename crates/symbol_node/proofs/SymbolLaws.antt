@@ -134,7 +134,7 @@ links-small eof bs x f i h k = omega (arith, lengths-inside eof bs f i)
 module _ (seg ws addresses counts : List ℕ) (g : Group) (s : State) (n : ℕ) (addresses′ counts′ : List ℕ) where
   pub sound-after : (x : Step) → Lent ws (s .count) (g .room) → Fresh [] (blocksOf (s .count) ws) → Inside (g .«end_of_file») (blocksOf (s .count) ws) →
       linkSum (linkedOf (s .objects) addresses counts) + n ≤ lengthSum (blocksOf (s .count) ws) →
-      KeptIf seg addresses counts s n addresses′ counts′ x → SoundIf seg ws addresses′ counts′ g x
+      KeptIf seg addresses counts g s n addresses′ counts′ x → SoundIf seg ws addresses′ counts′ g x
   sound-after (Done t) l f i h k = record {
     lent = rw (k .blocks) l;
     last = k .last;
@@ -145,7 +145,7 @@ module _ (seg ws addresses counts : List ℕ) (g : Group) (s : State) (n : ℕ) 
   }
   sound-after (Stopped y) l f i h k = tt
 
-pub kept-count : (seg addresses counts : List ℕ) (s : State) (n : ℕ) (addresses′ counts′ : List ℕ) (x : Step) →
-    KeptIf seg addresses counts s n addresses′ counts′ x → (t : State) → x ≡ Done t → t .count ≡ s .count
-kept-count seg addresses counts s n addresses′ counts′ (Done u) k t e = let f : u ≡ t = cc in sym (ap (λ (y : State). y .count) f) ∙ k .blocks
-kept-count seg addresses counts s n addresses′ counts′ (Stopped y) k t e = let z : _≡_ {A = ℕ} 0 1 = cc in absurd (omega arith)
+pub kept-count : (seg addresses counts : List ℕ) (g : Group) (s : State) (n : ℕ) (addresses′ counts′ : List ℕ) (x : Step) →
+    KeptIf seg addresses counts g s n addresses′ counts′ x → (t : State) → x ≡ Done t → t .count ≡ s .count
+kept-count seg addresses counts g s n addresses′ counts′ (Done u) k t e = let f : u ≡ t = cc in sym (ap (λ (y : State). y .count) f) ∙ k .blocks
+kept-count seg addresses counts g s n addresses′ counts′ (Stopped y) k t e = let z : _≡_ {A = ℕ} 0 1 = cc in absurd (omega arith)

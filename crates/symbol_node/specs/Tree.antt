@@ -8,11 +8,11 @@ use Rattle.format.specs.Entry.{GroupState}
 use Rattle.format.specs.Symbols.{symbolWalk}
 use Rattle.walk.specs.Lent.{blocksOf, lengthSum, Lent, Ended, ended, stopped, Walked}
 use Rattle.laws.specs.Blocks.{Fresh, Inside}
-use Rattle.free_list.specs.FreeBlocks.{Chained}
+use Rattle.segment.specs.Segment.{Known}
 use Rattle.ledger.specs.Links.{linkSum}
-use Rattle.ledger.specs.Table.{linkedOf, Table}
+use Rattle.ledger.specs.Table.{linkedOf}
 use Rattle.range.specs.Range.{NameInside, RangeInside, Tight}
-use Rattle.visit.specs.Visit.{Both}
+use Rattle.visit.specs.Visit.{Both, TableIf}
 use Rattle.symbol.specs.Entry.{groupOf, stateOf}
 use Rattle.range.specs.declared.Range.{Range}
 use Rattle.symbol.specs.declared.entry.Group.{Group}
@@ -25,21 +25,21 @@ use Rattle.symbol.specs.declared.entry.Step.the-variants.{Done, Stopped}
 pub record Sound (seg ws addresses counts : List ℕ) (g : Group) (s : State) : Type 0 where
   pub lent : Lent ws (s .count) (g .room)
   pub last : NameInside seg (s .last)
-  pub table : Table addresses counts (s .objects)
+  pub table : TableIf (g .auditing) addresses counts (s .objects)
   pub apart : Fresh [] (blocksOf (s .count) ws)
   pub inside : Inside (g .«end_of_file») (blocksOf (s .count) ws)
   pub links : linkSum (linkedOf (s .objects) addresses counts) ≤ lengthSum (blocksOf (s .count) ws)
 
 -- what holds all the way down
-pub record Fixed (im seg : List ℕ) (g : Group) : Type 0 where
+pub record Fixed (im seg map : List ℕ) (g : Group) : Type 0 where
   pub file : g .«end_of_file» ≤ length im
   pub small : g .«end_of_file» < 2 ^ 32
   pub leaf : g .«leaf_k» < 65536
   pub internal : g .«internal_k» < 65536
-  pub chained : Chained (g .free) seg (g .head)
+  pub known : Known seg map (g .head) (g .free) (g .ended)
 
-pub record Descending (im seg ws addresses counts : List ℕ) (g : Group) (r : Range) (s : State) : Type 0 where
-  pub fixed : Fixed im seg g
+pub record Descending (im seg map ws addresses counts : List ℕ) (g : Group) (r : Range) (s : State) : Type 0 where
+  pub fixed : Fixed im seg map g
   pub range : RangeInside seg r
   pub sound : Sound seg ws addresses counts g s
 

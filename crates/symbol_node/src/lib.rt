@@ -22,6 +22,7 @@ const SNOD: u64 = 0x444f4e53;
 pub fn symbol_node(
     image: &[u8],
     segment: &[u8],
+    map: &[u8],
     wanted: &[u8],
     list: &mut [u64],
     addresses: &mut [u64],
@@ -31,7 +32,7 @@ pub fn symbol_node(
     at: u64,
     state: State,
 ) -> Step
-    requires { ⌜ Descending (now image) (now segment) (now list) (now addresses) (now counts) group range state ⌝ }
+    requires { ⌜ Descending (now image) (now segment) (now map) (now list) (now addresses) (now counts) group range state ⌝ }
     ensures { λ r. ⌜ SymbolsAre (now (image .entry)) (now (segment .entry)) (now (wanted .entry)) (now (list .entry)) (now (addresses .entry))
         (now (counts .entry)) group range at state (now (list .exit)) (now (addresses .exit)) (now (counts .exit)) r ⌝ }
 {
@@ -67,6 +68,7 @@ pub fn symbol_node(
             entry::entries(
                 image,
                 segment,
+                map,
                 wanted,
                 addresses,
                 counts,

@@ -102,4 +102,4 @@ module _ (im : List ℕ) (g : Rattle.format.specs.Entry.Group Both) (at : ℕ) 
 -- the whole tree has no keys above it
 pub no-bounds : (seg : List ℕ) (r : Range) → r .bounded ≡ false → Tight seg r []
 unfolding within
-no-bounds seg r e t = rw e
+no-bounds seg r e t l = rw e

@@ -35,6 +35,7 @@ fn root_height(image: &[u8], at: u64) -> u64
 pub fn tree(
     image: &[u8],
     segment: &[u8],
+    map: &[u8],
     wanted: &[u8],
     list: &mut [u64],
     addresses: &mut [u64],
@@ -43,7 +44,7 @@ pub fn tree(
     at: u64,
     state: State,
 ) -> Step
-    requires { ⌜ Fixed (now image) (now segment) group ⌝ }
+    requires { ⌜ Fixed (now image) (now segment) (now map) group ⌝ }
     requires { ⌜ Sound (now segment) (now list) (now addresses) (now counts) group state ⌝ }
     ensures { λ r. ⌜ TreeIs (now (image .entry)) (now (segment .entry)) (now (wanted .entry)) (now (list .entry)) (now (addresses .entry))
         (now (counts .entry)) group at state (now (list .exit)) (now (addresses .exit)) (now (counts .exit)) r ⌝ }
@@ -59,6 +60,7 @@ pub fn tree(
         return subtree(
             image,
             segment,
+            map,
             wanted,
             list,
             addresses,

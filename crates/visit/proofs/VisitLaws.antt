@@ -16,9 +16,8 @@ use Rattle.ledger.specs.declared.table.Discovery.{Discovery}
 use Rattle.ledger.specs.declared.table.Discovery.the-variants.{Counted, Full as TableFull}
 use Rattle.ledger.proofs.LedgerLaws.{discover-hard, discover-other}
 use Rattle.ledger.proofs.TableLaws.{discovered-sum}
-use Rattle.visit.specs.Visit.{visitBoth, linkOf, linkAfter, Visited}
+use Rattle.visit.specs.Visit.{visitBoth, linkOf, hardLink, symbolicLink, linkAfter, TableIf, Visited}
 use Rattle.visit.specs.declared.Link.{Link}
-use Rattle.visit.specs.declared.Link.the-variants.{Hard, Soft}
 use Rattle.visit.specs.declared.Visit.the-variants.{Done, Full}
 
 -- What a lookup knows after an entry, by the tests.
@@ -26,43 +25,43 @@ module _ (name wanted : List ℕ) (kind header : ℕ) (l : Link) where
   pub link-other : sameBytes name wanted ≡ false → l ≡ linkAfter name wanted kind header l
   link-other e = rw e
 
-  pub link-hard : sameBytes name wanted ≡ true → kind ≤ 1 → Hard header ≡ linkAfter name wanted kind header l
+  pub link-hard : sameBytes name wanted ≡ true → kind ≤ 1 → hardLink header ≡ linkAfter name wanted kind header l
   link-hard e h = rw (e, le-leb kind 1 h)
 
-  pub link-soft : sameBytes name wanted ≡ true → 1 < kind → Soft ≡ linkAfter name wanted kind header l
+  pub link-soft : sameBytes name wanted ≡ true → 1 < kind → symbolicLink ≡ linkAfter name wanted kind header l
   link-soft e h = rw (e, lt-leb kind 1 h)
 
 -- the choices of a lookup are the definition's
 link-chosen : (t u : Bool) (header : ℕ) (l : Link) →
-    linkOf (if t then if u then Hard header else Soft else l) ≡ (if t then if u then hard header else soft else linkOf l)
+    linkOf (if t then if u then hardLink header else symbolicLink else l) ≡ (if t then if u then hard header else soft else linkOf l)
 link-chosen true true header l = refl
 link-chosen true false header l = refl
 link-chosen false u header l = refl
 
 -- A visit, by what was done.
-module _ (xs ts : List ℕ) (n : ℕ) (t : Table xs ts n) (name wanted : List ℕ) (kind header : ℕ) (l : Link) where
+module _ (xs ts : List ℕ) (n : ℕ) (auditing : Bool) (t : TableIf auditing xs ts n) (name wanted : List ℕ) (kind header : ℕ) (l : Link) where
   abbrev entry : Entry
   entry = record { name = name; type = kind; header = header }
 
-  pub visit-compared : (auditing : Bool) (l′ : Link) → auditing ≡ false → l′ ≡ linkAfter name wanted kind header l →
+  pub visit-compared : (l′ : Link) → auditing ≡ false → l′ ≡ linkAfter name wanted kind header l →
       Visited xs ts n auditing name wanted kind header l xs ts (Done n l′)
   unfolding visitBoth compareName
-  visit-compared auditing l′ u e = rw u record {
+  visit-compared l′ u e = let t′ : TableIf false xs ts n = rw u at t in rw u record {
     walk =
         ap (λ (k : Rattle.format.specs.Lookup.Link). value (record { ledger = linkedOf n xs ts; link = k }))
         (ap linkOf e ∙ link-chosen (sameBytes name wanted) (leb kind 1) header l)
         ∙ sym (value-bind _ _);
-    table = (t, omega arith);
+    table = (t′, omega arith);
   }
 
-  pub visit-passed : (auditing : Bool) → auditing ≡ true → 1 < kind → Visited xs ts n auditing name wanted kind header l xs ts (Done n l)
+  pub visit-passed : auditing ≡ true → 1 < kind → Visited xs ts n auditing name wanted kind header l xs ts (Done n l)
   unfolding visitBoth
-  visit-passed auditing u h = rw u record {
+  visit-passed u h = rw u record {
     walk = rw (discover-other entry (linkedOf n xs ts) (lt-leb kind 1 h)) (sym (value-bind _ _));
-    table = (t, omega arith);
+    table = (λ _. t u, omega arith);
   }
 
-  module _ (auditing : Bool) (u : auditing ≡ true) (h : kind ≤ 1) (xs′ ts′ : List ℕ) where
+  module _ (u : auditing ≡ true) (h : kind ≤ 1) (xs′ ts′ : List ℕ) where
     pub visit-full : {r : Discovery} → r ≡ TableFull → Discovered xs ts n header xs′ ts′ r → Visited xs ts n auditing name wanted kind header l xs′ ts′ Full
     unfolding visitBoth
     visit-full e d =
@@ -76,5 +75,5 @@ module _ (xs ts : List ℕ) (n : ℕ) (t : Table xs ts n) (name wanted : List �
         let f : Discovered xs ts n header xs′ ts′ (Counted m) = rw e at d in
         rw u record {
           walk = rw (discover-hard entry (linkedOf n xs ts) (le-leb kind 1 h), ← f .walk) (sym (value-bind _ _));
-          table = (f .table, omega (arith, discovered-sum xs ts n header xs′ ts′ m f));
+          table = (λ _. f .table, omega (arith, discovered-sum xs ts n header xs′ ts′ m f));
         }

@@ -5,14 +5,21 @@ use order::same;
 ghost use Prim.Native.Nat.{_+_, _^_, _<_};
 ghost use mathlib.Core.Path.{_≡_};
 ghost use Rattle.ledger.specs.Links.{linkSum};
-ghost use Rattle.ledger.specs.Table.{linkedOf, Table};
-ghost use Rattle.visit.specs.Visit.{linkAfter, Visited};
+ghost use Rattle.ledger.specs.Table.{linkedOf};
+ghost use Rattle.visit.specs.Visit.{linkAfter, TableIf, Visited};
 
-// What the entries met so far say of the wanted name.
-pub enum Link {
-    Absent,
-    Hard(u64),
-    Soft,
+// What a lookup has found: no entry of the wanted name, a hard link or a symbolic one.
+pub const ABSENT: u64 = 0;
+
+pub const HARD: u64 = 1;
+
+pub const SYMBOLIC: u64 = 2;
+
+// What the entries met so far say of the wanted name: one of these, and the header address of a hard link. As two numbers it is copied with
+// every entry in one piece.
+pub struct Link {
+    pub found: u64,
+    pub header: u64,
 }
 
 // A lookup's answer after an entry of this type and header address.
@@ -23,9 +30,15 @@ fn compare(name: &[u8], wanted: &[u8], kind: u64, header: u64, link: Link) -> Li
         return link;
     }
     if kind <= 1 {
-        return Link::Hard(header);
+        return Link {
+            found: HARD,
+            header,
+        };
     }
-    Link::Soft
+    Link {
+        found: SYMBOLIC,
+        header: 0,
+    }
 }
 
 pub enum Visit {
@@ -44,7 +57,7 @@ pub fn visit_entry(
     header: u64,
     link: Link,
 ) -> Visit
-    requires { ⌜ Table (now addresses) (now counts) objects ⌝ }
+    requires { ⌜ TableIf auditing (now addresses) (now counts) objects ⌝ }
     requires { ⌜ linkSum (linkedOf objects (now addresses) (now counts)) + 1 < 2 ^ 32 ⌝ }
     ensures { λ r. ⌜ Visited (now (addresses .entry)) (now (counts .entry)) objects auditing (now (name .entry)) (now (wanted .entry)) kind header link
         (now (addresses .exit)) (now (counts .exit)) r ⌝ }

@@ -1,6 +1,7 @@
 //! Blocks in hostile orders of addresses: the separate reader, and with the feature `proved` the library against it.
 
 use compare::generate::block_orders::{file, one_more, scattered, touching, ORDERS, OTHERS};
+use compare::generate::data_blocks::data_blocks;
 use compare::plain::Meetings;
 use compare::reader::{audit, AuditReply, BLOCK_WORDS, MOST_BLOCKS};
 
@@ -81,6 +82,21 @@ fn one_block_more_meets_others_or_none() {
     meetings.are_at_least("one block more", [1000, 300, 500, 300]);
 }
 
+/// Blocks at any address: they touch, or share a byte.
+#[test]
+fn data_at_any_byte_meets_others_or_none() {
+    let mut meetings = Meetings::default();
+    for seed in 0..FILES {
+        let name = format!("data {seed}");
+        let image = data_blocks(seed);
+        let reply = reply(&image, MOST_BLOCKS);
+        let plain = compare::plain::audit(&image);
+        assert_eq!(reply.number, if plain.is_ok() { 0 } else { 6 }, "{name}");
+        meetings.check(&name, (reply.number, reply.met), || plain);
+    }
+    meetings.are_at_least("data", [FILES / 5, 300, 0, 0]);
+}
+
 #[cfg(feature = "proved")]
 mod proved {
     use super::*;
@@ -108,6 +124,20 @@ mod proved {
                 }
             }
         }
+    }
+
+    #[test]
+    fn the_library_agrees_on_data_at_any_byte() {
+        let mut pair = Pair::default();
+        let mut sound = 0;
+        for seed in 0..FILES {
+            let name = format!("data {seed}");
+            let number = calls_agree(&mut pair, &name, &data_blocks(seed), MOST_BLOCKS);
+            sound += u64::from(number == 0);
+        }
+        assert!(sound >= FILES / 2, "{sound}");
+        let meetings = pair.meetings(Call::Audit);
+        meetings.are_at_least("the library", [FILES / 5, 300, 0, 0]);
     }
 
     #[test]

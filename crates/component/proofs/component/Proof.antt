@@ -18,10 +18,10 @@ read-requires : tie.Need-read-requires
 read-requires c κs =
     let at-n = c .before .before in
     let at-enter-superblock = at-n .before .before .before .before in
-    let start = at-enter-superblock .before .before .before .before .before .before .before in
+    let start = at-enter-superblock .before .before .before .before .before in
     let o = start .pre .0 in (
       at-header (now (start .args .image)) (now (start .args .name)) (now (start .args .list)) (start .args .superblock) (start .args .room) (start .args .at)
-          (start .args .last) (start .pre .1 .0) (at-enter-superblock .enter-superblock .last .1 .0) (at-n .n .given .0 .0)
+          (start .args .last) (start .pre .1) (at-enter-superblock .enter-superblock .last .1 .0) (at-n .n .given .0 .0)
           (at-enter-superblock .enter-superblock .kept .1 .0)
           ((rw (at-n .n .given .1) at (at-enter-superblock .enter-superblock .ensures)) (now (start .args .image))) .lent,
       (o .most, o .file),
@@ -41,18 +41,18 @@ enum-known-tree c = search needs
 
 find-requires : tie.Need-find-requires
 find-requires c κs =
-    let at-tree = c .before .before .before .before in
+    let at-tree = c .before .before in
     let at-read = at-tree .before .before .before .before in
     let at-n = at-read .before .before .before in
     let at-enter-superblock = at-n .before .before .before .before in
-    let start = at-enter-superblock .before .before .before .before .before .before .before in (
+    let start = at-enter-superblock .before .before .before .before .before in (
       start .pre .0,
       group-ready (now (start .args .image)) (now (start .args .name)) (now (start .args .list)) (start .args .superblock) (start .args .room)
-          (start .args .at) (start .args .last) (start .pre .1 .0) (at-enter-superblock .enter-superblock .last .1 .0) (at-n .n .given .0 .0)
+          (start .args .at) (start .args .last) (start .pre .1) (at-enter-superblock .enter-superblock .last .1 .0) (at-n .n .given .0 .0)
           (at-enter-superblock .enter-superblock .kept .1 .0)
           ((rw (at-n .n .given .1) at (at-enter-superblock .enter-superblock .ensures)) (now (start .args .image))) (at-read .read .last .1 .1 .0)
           (at-tree .tree .given .0 .1 .1 .0) (at-read .read .kept .1 .1 .0) (at-tree .tree .given .0 .0) (at-tree .tree .given .0 .1 .0)
-          ((rw (at-tree .tree .given .1) at (at-read .read .ensures)) .walked) _ _ (start .pre .1 .1),
+          ((rw (at-tree .tree .given .1) at (at-read .read .ensures)) .walked),
     )
 
 same-length : tie.Need-same-length
@@ -61,9 +61,9 @@ same-length c = search needs
 returns : tie.Need-returns
 returns c =
     let at-enter-superblock = c .before .before .before .before .before in
-    let start = at-enter-superblock .before .before .before .before .before .before .before in
+    let start = at-enter-superblock .before .before .before .before .before in
     superblock-stopped (now (start .args .image)) (now (start .args .name)) (now (start .args .list)) (start .args .superblock) (start .args .room)
-    (start .args .at) (start .args .last) (start .pre .1 .0) (at-enter-superblock .enter-superblock .last .1 .0) _ _ _
+    (start .args .at) (start .args .last) (start .pre .1) (at-enter-superblock .enter-superblock .last .1 .0) _
     ((rw (c .before .x .given .1) at (at-enter-superblock .enter-superblock .ensures)) (now (start .args .image)))
 
 same-length-2 : tie.Need-same-length-2
@@ -74,11 +74,11 @@ returns-2 c =
     let at-read = c .before .before .before .before .before in
     let at-n = at-read .before .before .before in
     let at-enter-superblock = at-n .before .before .before .before in
-    let start = at-enter-superblock .before .before .before .before .before .before .before in
+    let start = at-enter-superblock .before .before .before .before .before in
     header-stopped (now (start .args .image)) (now (start .args .name)) (now (start .args .list)) (start .args .superblock) (start .args .room)
-    (start .args .at) (start .args .last) (start .pre .1 .0) (at-enter-superblock .enter-superblock .last .1 .0) (at-n .n .given .0 .0)
+    (start .args .at) (start .args .last) (start .pre .1) (at-enter-superblock .enter-superblock .last .1 .0) (at-n .n .given .0 .0)
     (at-enter-superblock .enter-superblock .kept .1 .0)
-    ((rw (at-n .n .given .1) at (at-enter-superblock .enter-superblock .ensures)) (now (start .args .image))) (at-read .read .last .1 .1 .0) _ _ _
+    ((rw (at-n .n .given .1) at (at-enter-superblock .enter-superblock .ensures)) (now (start .args .image))) (at-read .read .last .1 .1 .0) _
     ((rw (c .before .x2 .given .1) at (at-read .read .ensures)) .walked)
 
 same-length-3 : tie.Need-same-length-3
@@ -89,12 +89,12 @@ returns-3 c =
     let at-read = c .before .before .before .before in
     let at-n = at-read .before .before .before in
     let at-enter-superblock = at-n .before .before .before .before in
-    let start = at-enter-superblock .before .before .before .before .before .before .before in
+    let start = at-enter-superblock .before .before .before .before .before in
     committed-found (now (start .args .image)) (now (start .args .name)) (now (start .args .list)) (start .args .superblock) (start .args .room)
-    (start .args .at) (start .args .last) (start .pre .1 .0) (at-enter-superblock .enter-superblock .last .1 .0) (at-n .n .given .0 .0)
+    (start .args .at) (start .args .last) (start .pre .1) (at-enter-superblock .enter-superblock .last .1 .0) (at-n .n .given .0 .0)
     (at-enter-superblock .enter-superblock .kept .1 .0)
     ((rw (at-n .n .given .1) at (at-enter-superblock .enter-superblock .ensures)) (now (start .args .image))) (at-read .read .last .1 .1 .0) _
-    (at-read .read .kept .1 .1 .0) _ _ ((rw (c .enum-told .given .1) at (at-read .read .ensures)) .walked)
+    (at-read .read .kept .1 .1 .0) ((rw (c .enum-told .given .1) at (at-read .read .ensures)) .walked)
 
 same-length-4 : tie.Need-same-length-4
 same-length-4 c = search needs
@@ -104,36 +104,30 @@ returns-4 c =
     let at-read = c .before .before .before .before in
     let at-n = at-read .before .before .before in
     let at-enter-superblock = at-n .before .before .before .before in
-    let start = at-enter-superblock .before .before .before .before .before .before .before in
+    let start = at-enter-superblock .before .before .before .before .before in
     dataset-found (now (start .args .image)) (now (start .args .name)) (now (start .args .list)) (start .args .superblock) (start .args .room)
-    (start .args .at) (start .args .last) (start .pre .1 .0) (at-enter-superblock .enter-superblock .last .1 .0) (at-n .n .given .0 .0)
+    (start .args .at) (start .args .last) (start .pre .1) (at-enter-superblock .enter-superblock .last .1 .0) (at-n .n .given .0 .0)
     (at-enter-superblock .enter-superblock .kept .1 .0)
     ((rw (at-n .n .given .1) at (at-enter-superblock .enter-superblock .ensures)) (now (start .args .image))) (at-read .read .last .1 .1 .0) _
-    (at-read .read .kept .1 .1 .0) _ _ _ _ _ ((rw (c .enum-told2 .given .1) at (at-read .read .ensures)) .walked)
+    (at-read .read .kept .1 .1 .0) _ _ _ ((rw (c .enum-told2 .given .1) at (at-read .read .ensures)) .walked)
 
 same-length-5 : tie.Need-same-length-5
 same-length-5 c = search needs
 
-same-length-6 : tie.Need-same-length-6
-same-length-6 c = search needs
-
-same-length-7 : tie.Need-same-length-7
-same-length-7 c = search needs
-
 returns-5 : tie.Need-returns-5
 returns-5 c =
-    let at-find = c .before .before .before .before .before .before in
-    let at-tree = at-find .before .before .before .before .before in
+    let at-find = c .before .before in
+    let at-tree = at-find .before .before .before in
     let at-read = at-tree .before .before .before .before in
     let at-n = at-read .before .before .before in
     let at-enter-superblock = at-n .before .before .before .before in
-    let start = at-enter-superblock .before .before .before .before .before .before .before in
+    let start = at-enter-superblock .before .before .before .before .before in
     group-is (now (start .args .image)) (now (start .args .name)) (now (start .args .list)) (start .args .superblock) (start .args .room) (start .args .at)
-    (start .args .last) (start .pre .1 .0) (at-enter-superblock .enter-superblock .last .1 .0) (at-n .n .given .0 .0)
+    (start .args .last) (start .pre .1) (at-enter-superblock .enter-superblock .last .1 .0) (at-n .n .given .0 .0)
     (at-enter-superblock .enter-superblock .kept .1 .0)
     ((rw (at-n .n .given .1) at (at-enter-superblock .enter-superblock .ensures)) (now (start .args .image))) (at-read .read .last .1 .1 .0)
     (at-tree .tree .given .0 .1 .1 .0) (at-read .read .kept .1 .1 .0) (at-tree .tree .given .0 .0) (at-tree .tree .given .0 .1 .0)
-    ((rw (at-tree .tree .given .1) at (at-read .read .ensures)) .walked) _ _ _ (at-find .find .ensures)
+    ((rw (at-tree .tree .given .1) at (at-read .read .ensures)) .walked) _ (at-find .find .ensures)
 
 pub component-spec : {M : Type 1} → statement M
 component-spec =
@@ -157,6 +151,4 @@ component-spec =
     same-length-4
     returns-4
     same-length-5
-    same-length-6
-    same-length-7
     returns-5)

@@ -1,83 +1,94 @@
--- The fuel of the definition is what is left of the segment's length; each turn is one block.
+-- The fuel of the definition is what is left of the segment's length; each turn is one block, which the map then has.
 use denote.Ref.{now}
-use Prim.Native.Nat.{_≤_, _-_}
-use mathlib.Core.Bool.{true}
+use Prim.Native.Nat.{_*_, _-_, _≤_}
 use mathlib.Core.Path.{_≡_, refl, sym, _∙_}
 use borrow.Author.Tests.{eq-eqb, ne-eqb, not-true, not-false}
 use lib.ListN.{length}
 use Rattle.format.specs.Bytes.{undefinedAddress}
-use Rattle.format.specs.FreeList.{freeBlocks, freeList}
-use Rattle.free_list.specs.FreeBlocks.{chain, Chained, blockSound}
-use Rattle.free_list.proofs.FreeLaws.{follow, free-none, free-undefined, free-start, sound-fields}
-use Rattle.free_list.proofs.FreeLaws.{block-unsound, block-last, block-more, follow-more, chained-more, free-long}
+use Rattle.free_map.proofs.RangeLaws.{map-none}
+use Rattle.free_list.specs.FreeBlocks.{chain}
+use Rattle.free_list.proofs.FreeLaws.{Following, free-none, free-undefined, free-start}
+use Rattle.free_list.proofs.FreeLaws.{block-unsound, block-fields, block-mapped, block-last, block-more, free-long}
 use borrow.Author.Needs.{needs}
 use native.Mathlib.Omega.{arith}
 use Rattle.free_list.proofs.free_list.Statement.{statement}
 use Rattle.free_list.proofs.free_list.Tie as tie
 
 abbrev Inv-loop : tie.InvT-loop
-Inv-loop segment head at₀ met₀ at met =
-    (met ≤ length segment) × (at ≡ follow met segment head) × Chained met segment
-    head × (freeList segment head ≡ freeBlocks (length segment - met) segment at (chain met segment head))
+Inv-loop segment map₀ head at₀ met₀ map at met = (met ≤ length segment) × Following segment map head at met × (length map ≡ length map₀)
 
 abbrev μ-loop : tie.MeasureT-loop
-μ-loop segment head at₀ met₀ at met = length segment - met
+μ-loop segment map₀ head at₀ met₀ map at met = length segment - met
 
--- the block at `at` passes its tests
-sound : (c : tie.Else3 Inv-loop μ-loop) →
-    let l = c .before .before .before in
-    let a = l .before .before .before .before .args in
-    blockSound (now (a .segment)) (chain (l .loop .met) (now (a .segment)) (a .head)) (l .loop .at) ≡ true
-sound c = sym (c .before .block-sound .ensures) ∙ not-false _ (c .if3 .left)
+-- the segment's bytes all have cells
+mapped-whole : (c : tie.Else2 Inv-loop μ-loop) →
+    let a = c .before .before .before .before .args in length (now (a .segment)) ≤ 16 * length (now (a .map))
+unfolding undefinedAddress
+mapped-whole c =
+    let p = c .before .before .before .before .pre in p .long (p .some (λ e. omega arith) (λ e. omega arith))
 
 returns : tie.Need-returns Inv-loop μ-loop
-returns c = let a = c .before .before .args in record { value = free-none _ _ (eq-eqb (a .head) 1 (omega arith)); chained = tt }
+unfolding chain
+returns c =
+    let start = c .before .before .before in
+    record { value = free-none _ _ (eq-eqb (start .args .head) 1 (omega arith)); mapped = map-none (start .pre .zeros); long = refl }
 
 returns-2 : tie.Need-returns-2 Inv-loop μ-loop
-unfolding undefinedAddress
+unfolding chain undefinedAddress
 returns-2 c =
-    let a = c .before .before .before .args in
-    record { value = free-undefined _ _ (ne-eqb (a .head) 1 (λ e. omega arith)) (eq-eqb (a .head) undefinedAddress (omega arith)); chained = tt }
+    let start = c .before .before .before .before in
+    let head = start .args .head in record {
+      value = free-undefined _ _ (ne-eqb head 1 (λ e. omega arith)) (eq-eqb head undefinedAddress (omega arith));
+      mapped = map-none (start .pre .zeros);
+      long = refl;
+    }
 
 loop-holds : tie.Need-loop-holds Inv-loop μ-loop
-unfolding follow undefinedAddress
+unfolding undefinedAddress
 loop-holds c =
-    let a = c .before .before .before .args in
-    (omega arith, refl, tt, free-start _ _ (ne-eqb (a .head) 1 (λ e. omega arith)) (ne-eqb (a .head) undefinedAddress (λ e. omega arith)))
+    let start = c .before .before .before .before in
+    let a = start .args in (
+      omega arith,
+      free-start (now (a .segment)) (now (a .map)) (a .head) (ne-eqb (a .head) 1 (λ e. omega arith)) (ne-eqb (a .head) undefinedAddress (λ e. omega arith))
+          (start .pre .zeros),
+      refl,
+    )
 
-block-sound-requires : tie.Need-block-sound-requires Inv-loop μ-loop
-block-sound-requires c κs = search needs
+add-block-requires : tie.Need-add-block-requires Inv-loop μ-loop
+add-block-requires c κs = let l = c .before .before in omega (arith, mapped-whole (l .before), l .loop .inv .2)
+
+same-length : tie.Need-same-length Inv-loop μ-loop
+same-length c = search needs
 
 returns-3 : tie.Need-returns-3 Inv-loop μ-loop
 returns-3 c =
-    let l = c .before .before .before in
-    let a = l .before .before .before .before .args in
-    record {
-      value = block-unsound (now (a .segment)) (a .head) (l .loop .met) (l .loop .at) (omega arith) (l .loop .inv .1) (l .loop .inv .3)
-          (sym (c .before .block-sound .ensures) ∙ not-true _ (c .if3 .taken));
-      chained = tt;
-    }
+    let at-add = c .before .before .before in
+    let l = at-add .before .before .before in
+    let t = at-add .add-block .ensures in
+    record { value = block-unsound (l .loop .inv .1) t (omega arith) (not-true _ (c .if3 .taken)); mapped = tt; long = t .long ∙ l .loop .inv .2 }
 
 u64-at-requires : tie.Need-u64-at-requires Inv-loop μ-loop
 u64-at-requires c κs =
-    let l = c .before .before .before in
-    let h = sound-fields (now (l .before .before .before .before .args .segment)) _ (l .loop .at) (sound c) in
-    omega arith
+    let at-add = c .before .before .before in
+    let l = at-add .before .before .before in
+    let h = block-fields (l .loop .inv .1) (at-add .add-block .ensures) (omega arith) (not-false _ (c .if3 .left)) in omega arith
 
 add-met : tie.Need-add-met Inv-loop μ-loop
 add-met c = search needs
 
+same-length-2 : tie.Need-same-length-2 Inv-loop μ-loop
+same-length-2 c = search needs
+
 returns-4 : tie.Need-returns-4 Inv-loop μ-loop
 returns-4 c =
-    let l = c .before .before .before .before .before in
-    let a = l .before .before .before .before .args in
-    record {
-      value =
-          block-last (now (a .segment)) (a .head) (l .loop .met) (l .loop .at) (omega arith) (l .loop .inv .1) (l .loop .inv .3) (sound (c .before .before))
-          (sym (c .before .u64-at .ensures .value) ∙ c .if4 .taken);
-      chained =
-          chained-more (now (a .segment)) (a .head) (l .loop .met) (l .loop .at) (omega arith) (l .loop .inv .1) (l .loop .inv .3) (sound (c .before .before))
-          (l .loop .inv .2);
+    let at-test = c .before .before in
+    let at-add = at-test .before .before .before in
+    let l = at-add .before .before .before in
+    let t = at-add .add-block .ensures in
+    let s = not-false _ (at-test .if3 .left) in record {
+      value = block-last (l .loop .inv .1) t (omega arith) s (sym (c .before .u64-at .ensures .value) ∙ c .if4 .taken);
+      mapped = block-mapped (l .loop .inv .1) t (omega arith) s;
+      long = t .long ∙ l .loop .inv .2;
     }
 
 loop-less : tie.Need-loop-less Inv-loop μ-loop
@@ -85,22 +96,20 @@ loop-less c = search needs
 
 loop-again : tie.Need-loop-again Inv-loop μ-loop
 loop-again c =
-    let l = c .before .before .before .before .before in
-    let a = l .before .before .before .before .args in
-    let u = c .before .u64-at .ensures .value in (
+    let at-test = c .before .before in
+    let at-add = at-test .before .before .before in
+    let l = at-add .before .before .before in
+    let t = at-add .add-block .ensures in (
       omega arith,
-      u ∙ follow-more (now (a .segment)) (a .head) (l .loop .met) (l .loop .at) (omega arith) (l .loop .inv .1) (l .loop .inv .3),
-      chained-more (now (a .segment)) (a .head) (l .loop .met) (l .loop .at) (omega arith) (l .loop .inv .1) (l .loop .inv .3) (sound (c .before .before))
-          (l .loop .inv .2),
-      rw u (block-more (now (a .segment)) (a .head) (l .loop .met) (l .loop .at) (omega arith) (l .loop .inv .1) (l .loop .inv .3) (sound (c .before .before))
-          (λ e. c .if4 .left (u ∙ e))),
+      block-more (l .loop .inv .1) t (omega arith) (not-false _ (at-test .if3 .left)) (c .before .u64-at .ensures .value) (c .if4 .left),
+      t .long ∙ l .loop .inv .2,
     )
 
+same-length-3 : tie.Need-same-length-3 Inv-loop μ-loop
+same-length-3 c = search needs
+
 returns-5 : tie.Need-returns-5 Inv-loop μ-loop
-returns-5 c =
-    let l = c .before in
-    let a = l .before .before .before .before .args in
-    record { value = free-long (now (a .segment)) (a .head) (l .loop .met) (l .loop .at) (omega arith) (l .loop .inv .3); chained = tt }
+returns-5 c = let l = c .before in record { value = free-long (l .loop .inv .1) (omega arith); mapped = tt; long = l .loop .inv .2 }
 
 pub free-list-spec : {M : Type 1} → statement M
 free-list-spec =
@@ -111,11 +120,14 @@ free-list-spec =
     returns
     returns-2
     loop-holds
-    block-sound-requires
+    add-block-requires
+    same-length
     returns-3
     u64-at-requires
     add-met
+    same-length-2
     returns-4
     loop-less
     loop-again
+    same-length-3
     returns-5)

@@ -7,10 +7,10 @@ use Rattle.key.proofs.check_keys.Statement.{statement}
 use Rattle.key.proofs.check_keys.Tie as tie
 
 abbrev Inv-loop : tie.InvT-loop
-Inv-loop image segment from n i₀ i = (i ≤ n) × KeysFrom image segment from n i
+Inv-loop image segment ended from n i₀ i = (i ≤ n) × KeysFrom image segment from n i
 
 abbrev μ-loop : tie.MeasureT-loop
-μ-loop image segment from n i₀ i = n - i
+μ-loop image segment ended from n i₀ i = n - i
 
 loop-holds : tie.Need-loop-holds Inv-loop μ-loop
 loop-holds c = (omega arith, keys-start _ _ _ _)
@@ -33,11 +33,11 @@ enum-known-f c = search needs
 fault-number-requires : tie.Need-fault-number-requires Inv-loop μ-loop
 fault-number-requires c κs = search needs
 
-mul-t13 : tie.Need-mul-t13 Inv-loop μ-loop
-mul-t13 c = search needs
+mul-t14 : tie.Need-mul-t14 Inv-loop μ-loop
+mul-t14 c = search needs
 
-add-t14 : tie.Need-add-t14 Inv-loop μ-loop
-add-t14 c = search needs
+add-t15 : tie.Need-add-t15 Inv-loop μ-loop
+add-t15 c = search needs
 
 returns : tie.Need-returns Inv-loop μ-loop
 returns c =
@@ -60,7 +60,7 @@ loop-again c =
     let k = c .before .before in
     let l = k .before .before .before in (
       omega arith,
-      keys-next _ _ _ _ (l .loop .i) (l .loop .inv .1) (omega arith) _ (k .before .u64-at .ensures .value) _ (c .enum-told .given .1)
+      keys-next _ _ _ _ (l .loop .i) (l .loop .inv .1) (omega arith) _ (k .before .u64-at .ensures .value) (c .enum-told .given .1)
           (k .key .ensures),
     )
 
@@ -80,8 +80,8 @@ check-keys-spec =
     key-requires
     enum-known-f
     fault-number-requires
-    mul-t13
-    add-t14
+    mul-t14
+    add-t15
     returns
     enum-told
     add-i

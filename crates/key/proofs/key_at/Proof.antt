@@ -1,33 +1,48 @@
--- A key that was sound before is read as that string.
-use Rattle.key.proofs.KeyLaws.{key-no-fault, key-found}
+-- A key that was sound before is read as that string, or as its beginning.
+use denote.Ref.{now}
+use Prim.Native.Nat.{_+_}
+use Rattle.format.specs.Limits.{nameMost}
+use Rattle.nul.specs.Nul.{NulWithin}
+use Rattle.key.proofs.KeyLaws.{key-starts, key-cut}
+use native.Mathlib.Omega.{arith}
 use borrow.Author.Needs.{needs}
 use Rattle.key.proofs.key_at.Statement.{statement}
 use Rattle.key.proofs.key_at.Tie as tie
 
+the-limits-requires : tie.Need-the-limits-requires
+the-limits-requires c κs = search needs
+
 u64-at-requires : tie.Need-u64-at-requires
 u64-at-requires c κs = search needs
 
-key-requires : tie.Need-key-requires
-key-requires c κs = search needs
+add-nul-within : tie.Need-add-nul-within
+unfolding nameMost
+add-nul-within c = omega (arith, c .before .before .the-limits .ensures .nameMostEqual)
 
-enum-told : tie.Need-enum-told
-enum-told c = search needs
+nul-within-requires : tie.Need-nul-within-requires
+nul-within-requires c κs =
+    let off = c .before in
+    let start = off .before .before .before .before in
+    omega (arith, key-starts (now (start .args .image)) _ _ _ (start .pre) (off .u64-at .ensures .value))
 
-enum-known-n : tie.Need-enum-known-n
-enum-known-n c = search needs
+sub-t8 : tie.Need-sub-t8
+sub-t8 c = search needs
 
 returns : tie.Need-returns
 returns c =
-    let k = c .before .before in
-    let s = k .before .before .before .before in
-    absurd (key-no-fault _ _ _ _ (s .pre) (k .before .u64-at .ensures .value) _ (c .enum-told .given .1) (k .key .ensures _))
-
-returns-2 : tie.Need-returns-2
-returns-2 c =
-    let k = c .before .before .before in
-    let s = k .before .before .before .before in
-    key-found _ _ _ _ (s .pre) (k .before .u64-at .ensures .value) _ (c .before .n .given .1) (k .key .ensures _)
+    let off = c .before .before in
+    let start = off .before .before .before .before in
+    let n : NulWithin (now (start .args .segment)) (off .u64-at .result) (nameMost + 1) (c .nul-within .result) =
+    rw (off .before .the-limits .ensures .nameMostEqual) at (c .nul-within .ensures) in
+    key-cut (now (start .args .image)) _ _ _ (start .pre) (off .u64-at .ensures .value) _ n
 
 pub key-at-spec : {M : Type 1} → statement M
 key-at-spec =
-    tie.close (tie.spec u64-at-requires key-requires enum-told enum-known-n returns returns-2)
+    tie.close
+    (tie.spec
+    the-limits-requires
+    u64-at-requires
+    add-nul-within
+    nul-within-requires
+    sub-t8
+    returns)

@@ -112,7 +112,10 @@ add-check-keys-2 c =
     let f = fields (c .before .before .before) in omega (arith, f .3, start .pre .1 .1)
 
 check-keys-requires : tie.Need-check-keys-requires
-check-keys-requires c κs = let f = fields (c .before .before .before) in omega (arith, f .0, f .3)
+check-keys-requires c κs =
+    let f = fields (c .before .before .before) in
+    let start = c .before .before .before .before .before .before .before .before .before .before .before .before in
+    (start .pre .1 .1 .1, omega (arith, f .0, f .3))
 
 enum-known-x-2 : tie.Need-enum-known-x-2
 enum-known-x-2 c = search needs

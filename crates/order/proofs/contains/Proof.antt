@@ -1,10 +1,10 @@
--- What the whole search finds is what is found from the ith byte on.
+-- What the whole search finds is what is found from the ith byte on; sixteen bytes without it move i.
 use denote.Ref.{now}
 use Prim.Native.Nat.{_≤_, _-_}
-use mathlib.Core.Path.{_≡_, refl}
+use mathlib.Core.Path.{_≡_, refl, sym, _∙_}
 use lib.ListN.{length, drop}
 use Rattle.format.specs.Bytes.{contains}
-use Rattle.order.proofs.Comparing.{contains-here, contains-next, contains-end}
+use Rattle.order.proofs.Sixteen.{contains-found, contains-behind}
 use borrow.Author.Needs.{needs}
 use native.Mathlib.Omega.{arith}
 use Rattle.order.proofs.contains.Statement.{statement}
@@ -19,14 +19,17 @@ abbrev μ-loop : tie.MeasureT-loop
 loop-holds : tie.Need-loop-holds Inv-loop μ-loop
 loop-holds c = (omega arith, refl)
 
-shared-slice-read-if1 : tie.Need-shared-slice-read-if1 Inv-loop μ-loop
-shared-slice-read-if1 c = search needs
+sub-loop : tie.Need-sub-loop Inv-loop μ-loop
+sub-loop c = search needs
+
+contains-16-requires : tie.Need-contains-16-requires Inv-loop μ-loop
+contains-16-requires c κs = search needs
 
 returns : tie.Need-returns Inv-loop μ-loop
 returns c =
     let l = c .before .before .before in
-    let a = l .before .args in
-    contains-here (a .x) (now (a .s)) (l .loop .i) _ (l .loop .inv .1) (omega arith) (omega arith)
+    let a = l .before .before .args in
+    contains-found (a .x) (now (a .s)) (l .loop .i) _ (l .loop .inv .1) (sym (c .if1 .taken) ∙ c .before .contains-16 .ensures)
 
 add-i : tie.Need-add-i Inv-loop μ-loop
 add-i c = search needs
@@ -37,14 +40,14 @@ loop-less c = search needs
 loop-again : tie.Need-loop-again Inv-loop μ-loop
 loop-again c =
     let l = c .before .before .before in
-    let a = l .before .args in
-    (omega arith, contains-next (a .x) (now (a .s)) (l .loop .i) _ (l .loop .inv .1) (omega arith) (λ e. omega arith))
+    let a = l .before .before .args in
+    (omega arith, contains-behind (a .x) (now (a .s)) (l .loop .i) _ (l .loop .inv .1) (sym (c .if1 .left) ∙ c .before .contains-16 .ensures))
+
+contains-from-requires : tie.Need-contains-from-requires Inv-loop μ-loop
+contains-from-requires c κs = search needs
 
 returns-2 : tie.Need-returns-2 Inv-loop μ-loop
-returns-2 c =
-    let l = c .before in
-    let a = l .before .args in
-    contains-end (a .x) (now (a .s)) (l .loop .i) _ (l .loop .inv .1) (omega arith)
+returns-2 c = c .contains-from .ensures ∙ sym (c .before .before .loop .inv .1)
 
 pub contains-spec : {M : Type 1} → statement M
 contains-spec =
@@ -53,9 +56,11 @@ contains-spec =
     Inv-loop
     μ-loop
     loop-holds
-    shared-slice-read-if1
+    sub-loop
+    contains-16-requires
     returns
     add-i
     loop-less
     loop-again
+    contains-from-requires
     returns-2)

@@ -10,12 +10,12 @@ use Rattle.sharing.proofs.share.Tie as tie
 -- a discovery that was counted leaves a place that has a mark
 marked : (c : tie.After-n) →
     let search = c .before .before .before .before .before .before .before .before .before in
-    search .find .result < length (now (search .before .before .before .before .before .args .marks))
+    search .find .result .place < length (now (search .before .before .before .before .before .args .marks))
 marked c =
     let count = c .before .before .before .before .before .before in
     let search = count .before .before .before in
     let s = search .before .before .before .before .before in
-    marked-place _ _ _ _ _ _ (s .pre) (search .find .ensures) _ _ _ (c .n .given .1) (count .count-at .ensures)
+    marked-place _ _ _ _ _ _ (s .pre) (search .find .ensures .found) _ _ _ (c .n .given .1) (count .count-at .ensures)
 
 find-requires : tie.Need-find-requires
 find-requires c κs = search needs
@@ -44,7 +44,7 @@ returns c =
     let count = arm .before .before .before .before .before .before in
     let search = count .before .before .before in
     let s = search .before .before .before .before .before in
-    share-other _ _ _ _ _ _ (s .pre) (search .find .ensures) _ _ _ (arm .n .given .1) (count .count-at .ensures) (c .if1 .taken)
+    share-other _ _ _ _ _ _ (s .pre) (search .find .ensures .found) _ _ _ (arm .n .given .1) (count .count-at .ensures) (c .if1 .taken)
 
 slice-write-marks : tie.Need-slice-write-marks
 slice-write-marks c = marked (c .before .before .before)
@@ -60,7 +60,7 @@ returns-2 c =
     let count = c .before .before .before .before .before .before in
     let search = count .before .before .before in
     let s = search .before .before .before .before .before in
-    share-full _ _ _ _ _ _ (s .pre) (search .find .ensures) _ _ (c .enum-told .given .1) (count .count-at .ensures)
+    share-full _ _ _ _ _ _ (s .pre) (search .find .ensures .found) _ _ (c .enum-told .given .1) (count .count-at .ensures)
 
 same-length-5 : tie.Need-same-length-5
 same-length-5 c = search needs
@@ -77,7 +77,7 @@ returns-3 c =
     let count = arm .before .before .before .before .before .before in
     let search = count .before .before .before in
     let s = search .before .before .before .before .before in
-    share-counted _ _ _ _ _ _ (s .pre) (search .find .ensures) _ _ _ (arm .n .given .1) (count .count-at .ensures) (c .if1 .left)
+    share-counted _ _ _ _ _ _ (s .pre) (search .find .ensures .found) _ _ _ (arm .n .given .1) (count .count-at .ensures) (c .if1 .left)
 
 pub share-spec : {M : Type 1} → statement M
 share-spec =

@@ -31,17 +31,17 @@ use Rattle.walk.proofs.numbers.u64_at.Reads as u64-at-reads
 use Rattle.subtree.proofs.+subtree.{statement}
 use Rattle.subtree.proofs.+subtree.Tie.{close}
 
-abbrev μ-subtree : Measures 6 subtree-kinds.ps ℕ
-μ-subtree κs a = a .1 .1 .1 .1 .1 .1 .1 .1 .0
+abbrev μ-subtree : Measures 7 subtree-kinds.ps ℕ
+μ-subtree κs a = a .1 .1 .1 .1 .1 .1 .1 .1 .1 .0
 
-abbrev subtree-at : ℕ → In 6 subtree-kinds.ps
-subtree-at t = and 6 subtree-kinds.ps (is 6 subtree-kinds.ps μ-subtree t) subtree.Pre
+abbrev subtree-at : ℕ → In 7 subtree-kinds.ps
+subtree-at t = and 7 subtree-kinds.ps (is 7 subtree-kinds.ps μ-subtree t) subtree.Pre
 
-abbrev subtree-below : ℕ → In 6 subtree-kinds.ps
-subtree-below t = and 6 subtree-kinds.ps (falls 6 subtree-kinds.ps _<_ μ-subtree t) subtree.Pre
+abbrev subtree-below : ℕ → In 7 subtree-kinds.ps
+subtree-below t = and 7 subtree-kinds.ps (falls 7 subtree-kinds.ps _<_ μ-subtree t) subtree.Pre
 
 abbrev subtree-Inv-loop : subtree-lts.InvT-loop
-subtree-Inv-loop image segment wanted list₀ addresses₀ counts₀ group range height at entries count objects s₀ from i₀ list addresses counts s i =
+subtree-Inv-loop image segment map wanted list₀ addresses₀ counts₀ group range height at entries count objects s₀ from i₀ list addresses counts s i =
     (i ≤ entries) × Sound segment list addresses counts group s × (length list ≡ length list₀) × (length addresses ≡ length addresses₀) ×
     (length counts ≡ length counts₀)
     × ((bounds : List Bound) → Tight segment range bounds →
@@ -52,7 +52,7 @@ subtree-Inv-loop image segment wanted list₀ addresses₀ counts₀ group range
     (stateOf segment addresses counts s)) (s .count) list)
 
 abbrev subtree-μ-loop : subtree-lts.MeasureT-loop
-subtree-μ-loop image segment wanted list₀ addresses₀ counts₀ group range height at entries count objects s₀ from i₀ list addresses counts s i = entries - i
+subtree-μ-loop image segment map wanted list₀ addresses₀ counts₀ group range height at entries count objects s₀ from i₀ list addresses counts s i = entries - i
 
 -- what the calls ask and tell, with the subtrees of a lower height among them
 abbrev claims : ℕ → subtree-lts.Claims
@@ -93,13 +93,13 @@ abbrev ChildRead : ℕ → Type 0
 ChildRead t = subtree-lts.After-u64-at (claims t) (subtree-at t) subtree.Post subtree-Inv-loop subtree-μ-loop
 
 abbrev begin : (t : ℕ) → Call t → Begin t
-begin t c = c .before .before .before .before .before .before .before .before .before
+begin t c = c .before .before .before .before .before .before .before .before .before .before
 
 abbrev call : (t : ℕ) → NodeRead t → Call t
 call t c = c .before .before .before .before
 
 abbrev node : (t : ℕ) → Loop t → NodeRead t
-node t c = c .before .before .before
+node t c = c .before .before .before .before
 
 abbrev loop : (t : ℕ) → ChildRead t → Loop t
 loop t c = c .before .before .before
@@ -120,7 +120,7 @@ branch-is t c =
     (c .entries .given .1) (at-read-branch .read-branch .ensures)
 
 above-zero : (t : ℕ) (c : Above t) →
-    let start = c .before .before .before .before .before .before .before in
+    let start = c .before .before .before .before .before .before .before .before in
     start .args .height ≡ suc (start .args .height - 1)
 above-zero t c = let h = c .if1 .left in omega arith
 
@@ -139,7 +139,7 @@ at-children : (t : ℕ) (c : NodeRead t) (bounds : List Bound) →
 at-children t c bounds =
     let at-read-branch = call t c in
     let place = at-read-branch .before .before in
-    let start = place .before .before .before .before .before .before .before in
+    let start = place .before .before .before .before .before .before .before .before in
     let b = branch-is t c in
     node-done (now (start .args .image)) _ _ _ _ (start .pre .1 .sound .lent)
     (groupOf (now (start .args .segment)) (now (start .args .wanted)) (start .args .group)) _ refl _ _ _ (above-zero t place) bounds
@@ -149,11 +149,11 @@ at-children t c bounds =
 
 -- the child's keys, and its address, lie inside the image
 keys-there : (t : ℕ) (c : Turn t) (j : ℕ) →
-    let at-entries = c .before .before .before .before in
+    let at-entries = c .before .before .before .before .before in
     let start = begin t (call t at-entries) in
     j < at-entries .entries .given .0 .0 + 1 → KeyAt (now (start .args .image)) (now (start .args .segment)) (start .args .at + 24 + 16 * j)
 keys-there t c j h =
-    let at-node = c .before .before .before .before in
+    let at-node = c .before .before .before .before .before in
     branch-is t at-node .fields .4 j h
 
 -- the keys on both sides of the child
@@ -200,23 +200,23 @@ at-child t c bounds h =
 
 subtree-symbol-node-requires : (t : ℕ) → subtree-lts.Need-symbol-node-requires (claims t) (subtree-at t) subtree.Post subtree-Inv-loop subtree-μ-loop
 subtree-symbol-node-requires t c κs =
-    let start = c .before .before .before .before .before .before .before .before .before .before in
+    let start = c .before .before .before .before .before .before .before .before .before .before .before in
     start .pre .1
 
 subtree-same-length : (t : ℕ) → subtree-lts.Need-same-length (claims t) (subtree-at t) subtree.Post subtree-Inv-loop subtree-μ-loop
 subtree-same-length t c =
     let at-symbol-node = c .before .before .before .before .before .before in
-    at-symbol-node .symbol-node .kept .1 .1 .1 .0
+    at-symbol-node .symbol-node .kept .1 .1 .1 .1 .0
 
 subtree-same-length-2 : (t : ℕ) → subtree-lts.Need-same-length-2 (claims t) (subtree-at t) subtree.Post subtree-Inv-loop subtree-μ-loop
 subtree-same-length-2 t c =
     let at-symbol-node = c .before .before .before .before .before .before in
-    at-symbol-node .symbol-node .kept .1 .1 .1 .1 .0
+    at-symbol-node .symbol-node .kept .1 .1 .1 .1 .1 .0
 
 subtree-same-length-3 : (t : ℕ) → subtree-lts.Need-same-length-3 (claims t) (subtree-at t) subtree.Post subtree-Inv-loop subtree-μ-loop
 subtree-same-length-3 t c =
     let at-symbol-node = c .before .before .before .before .before .before in
-    at-symbol-node .symbol-node .kept .1 .1 .1 .1 .1 .0
+    at-symbol-node .symbol-node .kept .1 .1 .1 .1 .1 .1 .0
 
 subtree-returns : (t : ℕ) → subtree-lts.Need-returns (claims t) (subtree-at t) subtree.Post subtree-Inv-loop subtree-μ-loop
 subtree-returns t c =
@@ -232,8 +232,8 @@ subtree-sub-read-branch t c = let h = above-zero t (c .before) in omega arith
 
 subtree-read-branch-requires : (t : ℕ) → subtree-lts.Need-read-branch-requires (claims t) (subtree-at t) subtree.Post subtree-Inv-loop subtree-μ-loop
 subtree-read-branch-requires t c κs =
-    let start = c .before .before .before .before .before .before .before .before in
-    (start .pre .1 .sound .lent, (start .pre .1 .fixed .file, start .pre .1 .fixed .internal))
+    let start = c .before .before .before .before .before .before .before .before .before in
+    (start .pre .1 .sound .lent, (start .pre .1 .fixed .file, (start .pre .1 .fixed .internal, start .pre .1 .fixed .known .last)))
 
 subtree-enum-known-x : (t : ℕ) → subtree-lts.Need-enum-known-x (claims t) (subtree-at t) subtree.Post subtree-Inv-loop subtree-μ-loop
 subtree-enum-known-x t c = search needs
@@ -243,58 +243,58 @@ subtree-enum-known-entries t c = search needs
 
 subtree-add-from : (t : ℕ) → subtree-lts.Need-add-from (claims t) (subtree-at t) subtree.Post subtree-Inv-loop subtree-μ-loop
 subtree-add-from t c =
-    let start = c .before .before .before .before .before .before .before .before .before .before .before .before .before .before .before in
-    let f = branch-is t (c .before .before) .fields in omega (arith, f .0, start .good .0 .0)
+    let start = c .before .before .before .before .before .before .before .before .before .before .before .before .before .before .before .before .before in
+    let f = branch-is t (c .before .before .before) .fields in omega (arith, f .0, start .good .0 .0)
 
 subtree-loop-holds : (t : ℕ) → subtree-lts.Need-loop-holds (claims t) (subtree-at t) subtree.Post subtree-Inv-loop subtree-μ-loop
 subtree-loop-holds t c =
-    let place = c .before .before .before .before .before .before .before .before .before .before .before .before .before .before .before in
+    let place = c .before .before .before .before .before .before .before .before .before .before .before .before .before .before .before .before .before in
     let p = place in
-    let m = at-children t (c .before .before) [] in
+    let m = at-children t (c .before .before .before) [] in
     let sound = sound-more _ _ _ _ (p .args .group) (p .args .state) _ _ (p .pre .1 .sound) (m .lent) (m .blocks) in
     (omega arith, sound, refl, refl, refl, λ bounds h. start _ _ _ _ _ _ (m .lent))
 
 subtree-mul-here : (t : ℕ) → subtree-lts.Need-mul-here (claims t) (subtree-at t) subtree.Post subtree-Inv-loop subtree-μ-loop
 subtree-mul-here t c =
-    let at-node = c .before .before .before .before in
+    let at-node = c .before .before .before .before .before in
     let start = begin t (call t at-node) in
     let f = branch-is t at-node .fields in omega (arith, f .2, start .pre .1 .fixed .internal, c .loop-test .taken)
 
 subtree-add-here : (t : ℕ) → subtree-lts.Need-add-here (claims t) (subtree-at t) subtree.Post subtree-Inv-loop subtree-μ-loop
 subtree-add-here t c =
-    let at-node = c .before .before .before .before in
+    let at-node = c .before .before .before .before .before in
     let start = begin t (call t at-node) in
     let f = branch-is t at-node .fields in omega (arith, f .0, f .2, c .loop-test .taken, start .good .0 .0)
 
 subtree-child-range-requires : (t : ℕ) → subtree-lts.Need-child-range-requires (claims t) (subtree-at t) subtree.Post subtree-Inv-loop subtree-μ-loop
 subtree-child-range-requires t c κs =
-    let start = c .before .before .before .before .before .before .before .before .before .before .before .before .before .before .before .before .before in
+    let start = c .before .before .before .before .before .before .before .before .before .before .before .before .before .before .before .before .before .before .before in
     let i = c .before .loop .i in
     let e : start .args .at + 24 + 16 * (i + 1) ≡ start .args .at + 24 + 16 * i + 16 = omega arith in
     (start .pre .1 .range, (keys-there t c i (omega (arith, c .loop-test .taken)), rw e at (keys-there t c (i + 1) (omega (arith, c .loop-test .taken)))))
 
 subtree-add-u64-at : (t : ℕ) → subtree-lts.Need-add-u64-at (claims t) (subtree-at t) subtree.Post subtree-Inv-loop subtree-μ-loop
 subtree-add-u64-at t c =
-    let at-node = c .before .before .before .before .before in
+    let at-node = c .before .before .before .before .before .before in
     let start = begin t (call t at-node) in
     let f = branch-is t at-node .fields in omega (arith, f .0, f .2, c .before .loop-test .taken, start .good .0 .0)
 
 subtree-u64-at-requires : (t : ℕ) → subtree-lts.Need-u64-at-requires (claims t) (subtree-at t) subtree.Post subtree-Inv-loop subtree-μ-loop
 subtree-u64-at-requires t c κs =
-    let at-node = c .before .before .before .before .before in
+    let at-node = c .before .before .before .before .before .before in
     let f = branch-is t at-node .fields in omega (arith, f .0, f .2, c .before .loop-test .taken)
 
 subtree-sub-subtree : (t : ℕ) → subtree-lts.Need-sub-subtree (claims t) (subtree-at t) subtree.Post subtree-Inv-loop subtree-μ-loop
 subtree-sub-subtree t c =
-    let place = c .before .before .before .before .before .before .before .before .before .before .before .before .before .before .before in
+    let place = c .before .before .before .before .before .before .before .before .before .before .before .before .before .before .before .before in
     let h = above-zero t place in omega arith
 
 subtree-subtree-requires : (t : ℕ) → subtree-lts.Need-subtree-requires (claims t) (subtree-at t) subtree.Post subtree-Inv-loop subtree-μ-loop
 subtree-subtree-requires t c κs =
     let at-child-range = c .before .before .before .before in
     let at-loop = at-child-range .before .before in
-    let place = at-loop .before .before .before .before .before .before .before .before .before in
-    let start = place .before .before .before .before .before .before .before in
+    let place = at-loop .before .before .before .before .before .before .before .before .before .before in
+    let start = place .before .before .before .before .before .before .before .before in
     let h = above-zero t place in (
       omega (arith, h, start .pre .0),
       record {
@@ -313,26 +313,26 @@ subtree-same-length-4 t c =
     let at-subtree = c .before .before .before .before .before .before .before .before .before in
     let at-loop = at-subtree .before .before .before .before .before .before .before in
     let at-read-branch = call t (node t at-loop) in
-    omega (arith, at-subtree .subtree .kept .1 .1 .1 .0, at-loop .loop .inv .2, at-read-branch .read-branch .kept .1 .1 .0)
+    omega (arith, at-subtree .subtree .kept .1 .1 .1 .1 .0, at-loop .loop .inv .2, at-read-branch .read-branch .kept .1 .1 .0)
 
 subtree-same-length-5 : (t : ℕ) → subtree-lts.Need-same-length-5 (claims t) (subtree-at t) subtree.Post subtree-Inv-loop subtree-μ-loop
 subtree-same-length-5 t c =
     let at-subtree = c .before .before .before .before .before .before .before .before .before in
     let at-loop = at-subtree .before .before .before .before .before .before .before in
-    omega (arith, at-subtree .subtree .kept .1 .1 .1 .1 .0, at-loop .loop .inv .3)
+    omega (arith, at-subtree .subtree .kept .1 .1 .1 .1 .1 .0, at-loop .loop .inv .3)
 
 subtree-same-length-6 : (t : ℕ) → subtree-lts.Need-same-length-6 (claims t) (subtree-at t) subtree.Post subtree-Inv-loop subtree-μ-loop
 subtree-same-length-6 t c =
     let at-subtree = c .before .before .before .before .before .before .before .before .before in
     let at-loop = at-subtree .before .before .before .before .before .before .before in
-    omega (arith, at-subtree .subtree .kept .1 .1 .1 .1 .1 .0, at-loop .loop .inv .4)
+    omega (arith, at-subtree .subtree .kept .1 .1 .1 .1 .1 .1 .0, at-loop .loop .inv .4)
 
 subtree-returns-2 : (t : ℕ) → subtree-lts.Need-returns-2 (claims t) (subtree-at t) subtree.Post subtree-Inv-loop subtree-μ-loop
 subtree-returns-2 t c =
     let at-subtree = c .before .before .before .before .before .before .before .before .before in
     let place = at-subtree .before .before .before .before in
     let at-child-range = place .before in
-    let place-2 = at-child-range .before .before .before .before .before in
+    let place-2 = at-child-range .before .before .before .before .before .before in
     record {
       walked = λ bounds h.
           callee-stopped _ _ _ (come-from (at-children t place-2 bounds) (at-child t place bounds h))
@@ -347,7 +347,7 @@ subtree-enum-known-next t c = search needs
 subtree-add-i : (t : ℕ) → subtree-lts.Need-add-i (claims t) (subtree-at t) subtree.Post subtree-Inv-loop subtree-μ-loop
 subtree-add-i t c =
     let at-loop-test = c .before .before .before .before .before .before .before .before .before .before .before .before .before .before .before in
-    let at-node = at-loop-test .before .before .before .before in
+    let at-node = at-loop-test .before .before .before .before .before in
     let start = begin t (call t at-node) in
     omega (arith, at-loop-test .loop-test .taken, branch-is t at-node .fields .2, start .pre .1 .fixed .internal)
 
@@ -367,11 +367,11 @@ subtree-loop-again t c =
     let v = at-loop .loop .inv in (
       omega (arith, at-loop-test .loop-test .taken),
       rw (c .before .next .given .1) at (at-subtree .subtree .ensures .sound),
-      omega (arith, k .1 .1 .1 .0, v .2),
-      omega (arith, k .1 .1 .1 .1 .0, v .3),
-      omega (arith, k .1 .1 .1 .1 .1 .0, v .4),
+      omega (arith, k .1 .1 .1 .1 .0, v .2),
+      omega (arith, k .1 .1 .1 .1 .1 .0, v .3),
+      omega (arith, k .1 .1 .1 .1 .1 .1 .0, v .4),
       λ bounds h.
-          callee-done _ _ _ (at-child t place bounds h) (k .1 .1 .1 .0)
+          callee-done _ _ _ (at-child t place bounds h) (k .1 .1 .1 .1 .0)
           (rw (c .before .next .given .1) at (at-subtree .subtree .ensures .walked (bound t place ∷ bounds)
           (at-child-range .child-range .ensures .tight bounds h))),
     )
@@ -385,7 +385,7 @@ subtree-returns-3 : (t : ℕ) → subtree-lts.Need-returns-3 (claims t) (subtree
 subtree-returns-3 t c =
     let at-read-branch = c .before .before .before .before .before in
     let place = at-read-branch .before .before in
-    let start = place .before .before .before .before .before .before .before in
+    let start = place .before .before .before .before .before .before .before .before in
     record {
       walked = λ bounds h.
           node-stopped _ _ _ _ _ (start .pre .1 .sound .lent) (groupOf (now (start .args .segment)) (now (start .args .wanted)) (start .args .group)) _ refl _
@@ -398,7 +398,7 @@ subtree-returns-3 t c =
 
 subtree-same-length-8 : (t : ℕ) → subtree-lts.Need-same-length-8 (claims t) (subtree-at t) subtree.Post subtree-Inv-loop subtree-μ-loop
 subtree-same-length-8 t c =
-    let at-read-branch = c .before .before .before .before .before .before .before .before in
+    let at-read-branch = c .before .before .before .before .before .before .before .before .before in
     omega (arith, c .before .loop .inv .2, at-read-branch .read-branch .kept .1 .1 .0)
 
 subtree-same-length-9 : (t : ℕ) → subtree-lts.Need-same-length-9 (claims t) (subtree-at t) subtree.Post subtree-Inv-loop subtree-μ-loop
@@ -409,7 +409,7 @@ subtree-same-length-10 t c = c .before .loop .inv .4
 
 subtree-returns-4 : (t : ℕ) → subtree-lts.Need-returns-4 (claims t) (subtree-at t) subtree.Post subtree-Inv-loop subtree-μ-loop
 subtree-returns-4 t c =
-    let place = c .before .before .before .before in
+    let place = c .before .before .before .before .before in
     record {
       walked = λ bounds h.
           returned (same-walk _ (children-end _ _ _ _ _ _ bounds _ _ (c .loop-test .left))

@@ -1,4 +1,6 @@
 -- The keys on both sides narrow the range.
+use mathlib.Core.Path.{sym, _∙_}
+use Rattle.subtree.proofs.SubtreeLaws.{within-alike}
 use borrow.Author.Needs.{needs}
 use Rattle.subtree.proofs.child_range.Statement.{statement}
 use Rattle.subtree.proofs.child_range.Tie as tie
@@ -16,10 +18,14 @@ narrowed-requires : tie.Need-narrowed-requires
 narrowed-requires c κs = search needs
 
 returns : tie.Need-returns
-returns c = record {
-  inside = c .narrowed .ensures .inside;
-  tight = λ bounds t. rw (← c .before .before .key-at .ensures .is, ← c .before .key-at2 .ensures .is) (c .narrowed .ensures .tight bounds t);
-}
+returns c =
+    let low = c .before .before .key-at .ensures in
+    let high = c .before .key-at2 .ensures in
+    let child = c .narrowed .ensures in
+    record {
+      inside = child .inside;
+      tight = λ bounds f t l. within-alike _ _ _ _ bounds t (sym (low .alike t l)) (sym (high .alike t l)) ∙ child .tight bounds f t l;
+    }
 
 pub child-range-spec : {M : Type 1} → statement M
 child-range-spec =

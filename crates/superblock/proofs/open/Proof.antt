@@ -11,7 +11,7 @@ use Rattle.format.specs.Bytes.{inRange, littleEndian, u64}
 use Rattle.format.specs.Superblock.{opened, signature, superblockSound}
 use Rattle.walk.proofs.Tests.{range-below, range-above, range-inside, field-equal, field-unequal}
 use Rattle.superblock.proofs.SuperblockLaws.{superblock-fits, opening-1, opening-2, opening-3}
-use Rattle.superblock.proofs.SuperblockLaws.{opening-4, opening-done, end-inside, end-small, size-least}
+use Rattle.superblock.proofs.SuperblockLaws.{opening-4, opening-done, end-inside, end-small, end-most, size-least}
 use native.Mathlib.Omega.{arith}
 use borrow.Author.Needs.{needs}
 use Rattle.superblock.proofs.open.Statement.{statement}
@@ -92,7 +92,14 @@ returns-6 c =
     let inside = end-inside image _ (f .0) sound in (
       ap opened (f .0) ∙ opening-done _ (in-range (third .before .before)) (signed third)
           (sym (fourth .before .superblock-read .ensures) ∙ not-false _ (fourth .if4 .left)) sound,
-      (f .1 .0, f .1 .1, inside, end-small image _ inside (in-range (third .before .before)), size-least image _ (f .0)),
+      (
+        f .1 .0,
+        f .1 .1,
+        inside,
+        end-small image _ inside (in-range (third .before .before)),
+        size-least image _ (f .0),
+        end-most image _ inside (in-range (third .before .before)),
+      ),
     )
 
 pub open-spec : {M : Type 1} → statement M

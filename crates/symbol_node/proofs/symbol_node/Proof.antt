@@ -24,11 +24,11 @@ use Rattle.symbol_node.proofs.symbol_node.Tie as tie
 
 -- the node lies inside the image
 whole : (c : tie.After-c) →
-    let start = c .before .before .before .before .before .before .before .before .before .before .before .before in
+    let start = c .before .before .before .before .before .before .before .before .before .before .before .before .before in
     start .args .at + (8 + 80 * start .args .group .«leaf_k») ≤ length (now (start .args .image))
 whole c =
     let at-enter = c .before .before .before .before in
-    let start = at-enter .before .before .before .before .before .before .before .before in
+    let start = at-enter .before .before .before .before .before .before .before .before .before in
     let i = symbols-inside (now (start .args .image)) _ _ _ _ _ (start .pre .sound .lent) _ _ (at-enter .enter .ensures .1)
     (groupOf (now (start .args .segment)) (now (start .args .wanted)) (start .args .group)) refl []
     (stateOf (now (start .args .segment)) (now (start .args .addresses)) (now (start .args .counts)) (start .args .state)) _
@@ -41,18 +41,18 @@ signed c = c .if1 .left
 
 lent : (c : tie.After-c) →
     let at-enter = c .before .before .before .before in
-    let start = at-enter .before .before .before .before .before .before .before .before in
+    let start = at-enter .before .before .before .before .before .before .before .before .before in
     Lent (at-enter .enter .last .1 .0) (c .c .given .0 .0) (start .args .group .room)
 lent c =
     let at-enter = c .before .before .before .before in
-    let start = at-enter .before .before .before .before .before .before .before .before in
+    let start = at-enter .before .before .before .before .before .before .before .before .before in
     symbols-lent (now (start .args .image)) _ _ _ _ _ (start .pre .sound .lent) _ _ (at-enter .enter .ensures .1)
     (groupOf (now (start .args .segment)) (now (start .args .wanted)) (start .args .group)) refl []
     (stateOf (now (start .args .segment)) (now (start .args .addresses)) (now (start .args .counts)) (start .args .state)) _
     (sym (c .c .given .1) ∙ at-enter .enter .ensures .0)
 
 abbrev first : tie.After-c → tie.Start
-first c = c .before .before .before .before .before .before .before .before .before .before .before .before
+first c = c .before .before .before .before .before .before .before .before .before .before .before .before .before
 
 -- the blocks entered, with the node as the last
 abbrev blocks : tie.After-c → List Block
@@ -96,17 +96,17 @@ links-fit c =
 
 mul-enter : tie.Need-mul-enter
 mul-enter c =
-    let start = c .before .before .before .before .before .before .before in
+    let start = c .before .before .before .before .before .before .before .before in
     omega (arith, start .pre .fixed .leaf)
 
 add-enter : tie.Need-add-enter
 add-enter c =
-    let start = c .before .before .before .before .before .before .before in
+    let start = c .before .before .before .before .before .before .before .before in
     omega (arith, start .pre .fixed .leaf)
 
 enter-requires : tie.Need-enter-requires
 enter-requires c κs =
-    let start = c .before .before .before .before .before .before .before in
+    let start = c .before .before .before .before .before .before .before .before in
     start .pre .sound .lent
 
 enum-known-x : tie.Need-enum-known-x
@@ -117,7 +117,7 @@ enum-known-c c = search needs
 
 u32-at-requires : tie.Need-u32-at-requires
 u32-at-requires c κs =
-    let start = c .before .before .before .before .before .before .before .before .before .before .before .before .before in
+    let start = c .before .before .before .before .before .before .before .before .before .before .before .before .before .before in
     let i = whole (c .before) in omega (arith, i, start .good .0 .0, start .pre .fixed .leaf)
 
 same-length : tie.Need-same-length
@@ -127,7 +127,7 @@ returns : tie.Need-returns
 unfolding SNOD littleEndian
 returns c =
     let at-enter = c .before .before .before .before .before .before .before in
-    let start = at-enter .before .before .before .before .before .before .before .before in
+    let start = at-enter .before .before .before .before .before .before .before .before .before in
     record {
       walked = λ bounds t. signature-wrong (now (start .args .image)) _ _ _ _ _ (start .pre .sound .lent) _ _ (at-enter .enter .ensures .1)
           (groupOf (now (start .args .segment)) (now (start .args .wanted)) (start .args .group)) refl bounds
@@ -138,13 +138,13 @@ returns c =
 
 add-if2 : tie.Need-add-if2
 add-if2 c =
-    let start = c .before .before .before .before .before .before .before .before .before .before .before .before .before .before .before in
+    let start = c .before .before .before .before .before .before .before .before .before .before .before .before .before .before .before .before in
     let i = whole (c .before .before .before) in omega (arith, i, start .good .0 .0, start .pre .fixed .leaf)
 
 shared-slice-read-if2 : tie.Need-shared-slice-read-if2
 shared-slice-read-if2 c =
     let place = c .before .before .before .before in
-    let start = place .before .before .before .before .before .before .before .before .before .before .before .before in
+    let start = place .before .before .before .before .before .before .before .before .before .before .before .before .before in
     let i = whole place in omega (arith, i, start .good .0 .0, start .pre .fixed .leaf)
 
 same-length-2 : tie.Need-same-length-2
@@ -154,7 +154,7 @@ returns-2 : tie.Need-returns-2
 returns-2 c =
     let at-c = c .before .before .before .before .before in
     let at-enter = at-c .before .before .before .before in
-    let start = at-enter .before .before .before .before .before .before .before .before in
+    let start = at-enter .before .before .before .before .before .before .before .before .before in
     record {
       walked = λ bounds t. version-wrong (now (start .args .image)) _ _ _ _ _ (start .pre .sound .lent) _ _ (at-enter .enter .ensures .1)
           (groupOf (now (start .args .segment)) (now (start .args .wanted)) (start .args .group)) refl bounds
@@ -166,13 +166,13 @@ returns-2 c =
 add-u16-at : tie.Need-add-u16-at
 add-u16-at c =
     let place = c .before .before .before .before .before in
-    let start = place .before .before .before .before .before .before .before .before .before .before .before .before in
+    let start = place .before .before .before .before .before .before .before .before .before .before .before .before .before in
     let i = whole place in omega (arith, i, start .good .0 .0, start .pre .fixed .leaf)
 
 u16-at-requires : tie.Need-u16-at-requires
 u16-at-requires c κs =
     let place = c .before .before .before .before .before in
-    let start = place .before .before .before .before .before .before .before .before .before .before .before .before in
+    let start = place .before .before .before .before .before .before .before .before .before .before .before .before .before in
     let i = whole place in omega (arith, i, start .good .0 .0, start .pre .fixed .leaf)
 
 same-length-3 : tie.Need-same-length-3
@@ -184,7 +184,7 @@ returns-3 c =
     let at-u32-at = place .before in
     let at-c = at-u32-at .before .before in
     let at-enter = at-c .before .before .before .before in
-    let start = at-enter .before .before .before .before .before .before .before .before in
+    let start = at-enter .before .before .before .before .before .before .before .before .before in
     record {
       walked = λ bounds t. count-low (now (start .args .image)) _ _ _ _ _ (start .pre .sound .lent) _ _ (at-enter .enter .ensures .1)
           (groupOf (now (start .args .segment)) (now (start .args .wanted)) (start .args .group)) refl bounds
@@ -197,7 +197,7 @@ returns-3 c =
 mul-if4 : tie.Need-mul-if4
 mul-if4 c =
     let place = c .before .before .before .before .before .before .before in
-    let start = place .before .before .before .before .before .before .before .before .before .before .before .before in
+    let start = place .before .before .before .before .before .before .before .before .before .before .before .before .before in
     let i = whole place in omega (arith, i, start .good .0 .0, start .pre .fixed .leaf)
 
 same-length-4 : tie.Need-same-length-4
@@ -209,7 +209,7 @@ returns-4 c =
     let at-u32-at = place .before in
     let at-c = at-u32-at .before .before in
     let at-enter = at-c .before .before .before .before in
-    let start = at-enter .before .before .before .before .before .before .before .before in
+    let start = at-enter .before .before .before .before .before .before .before .before .before in
     record {
       walked = λ bounds t. count-high (now (start .args .image)) _ _ _ _ _ (start .pre .sound .lent) _ _ (at-enter .enter .ensures .1)
           (groupOf (now (start .args .segment)) (now (start .args .wanted)) (start .args .group)) refl bounds
@@ -221,18 +221,18 @@ returns-4 c =
 
 add-entries : tie.Need-add-entries
 add-entries c =
-    let place = c .before .before .before .before .before .before .before .before .before .before .before in
-    let start = place .before .before .before .before .before .before .before .before .before .before .before .before in
+    let place = c .before .before .before .before .before .before .before .before .before .before .before .before in
+    let start = place .before .before .before .before .before .before .before .before .before .before .before .before .before in
     let i = whole place in omega (arith, i, start .good .0 .0, start .pre .fixed .leaf)
 
 entries-requires : tie.Need-entries-requires
 entries-requires c κs =
-    let at-if4 = c .before .before .before in
+    let at-if4 = c .before .before .before .before in
     let start = at-if4 .before .before .before .before .before .before .before .before in
     let p = first start .pre in
     let links = links-small _ (blocks start) _ (apart start) (inside start) (p .fixed .small) (links-fit at-if4) in (
       omega (arith, whole start, at-if4 .if4 .left),
-      (record { chained = p .fixed .chained; range = p .range; last = p .sound .last; table = p .sound .table }, links),
+      (record { known = p .fixed .known; range = p .range; last = p .sound .last; table = p .sound .table }, links),
     )
 
 same-length-5 : tie.Need-same-length-5
@@ -241,7 +241,7 @@ same-length-5 c = search needs
 returns-5 : tie.Need-returns-5
 returns-5 c =
     let at-enter = c .before .before .before .before .before in
-    let start = at-enter .before .before .before .before .before .before .before .before in
+    let start = at-enter .before .before .before .before .before .before .before .before .before in
     record {
       walked = λ bounds t. symbols-refused (now (start .args .image)) _ _ _ _ _ (start .pre .sound .lent) _ _ (at-enter .enter .ensures .1)
           (groupOf (now (start .args .segment)) (now (start .args .wanted)) (start .args .group)) refl bounds
@@ -262,7 +262,7 @@ same-length-8 c = search needs
 returns-6 : tie.Need-returns-6
 returns-6 c =
     let at-entries = c .before .before .before .before in
-    let at-if4 = at-entries .before .before .before .before in
+    let at-if4 = at-entries .before .before .before .before .before in
     let at-if3 = at-if4 .before in
     let at-u16-at = at-if3 .before in
     let at-if2 = at-u16-at .before in
@@ -270,7 +270,7 @@ returns-6 c =
     let at-u32-at = place .before in
     let at-c = at-u32-at .before .before in
     let at-enter = at-c .before .before .before .before in
-    let start = at-enter .before .before .before .before .before .before .before .before in
+    let start = at-enter .before .before .before .before .before .before .before .before .before in
     let S = start .args .state in
     let e = at-entries .entries in
     let after : State = record { count = at-c .c .given .0 .0; objects = S .objects; last = S .last; link = S .link } in
@@ -281,12 +281,12 @@ returns-6 c =
           (stateOf (now (start .args .segment)) (now (start .args .addresses)) (now (start .args .counts)) (start .args .state)) _
           (sym (at-c .c .given .1) ∙ at-enter .enter .ensures .0) _ (at-u32-at .u32-at .ensures) (signed place) (at-if2 .if2 .left) _
           (at-u16-at .u16-at .ensures) (omega (arith, at-if3 .if3 .left)) (at-if4 .if4 .left)
-          (now (start .args .segment)) (e .last .1 .1 .1 .0) (e .last .1 .1 .1 .1 .0) (e .result)
-          (kept-count (now (start .args .segment)) (now (start .args .addresses)) (now (start .args .counts)) after (at-u16-at .u16-at .result)
-          (e .last .1 .1 .1 .0) (e .last .1 .1 .1 .1 .0) (e .result) (e .ensures .kept))
+          (now (start .args .segment)) (e .last .1 .1 .1 .1 .0) (e .last .1 .1 .1 .1 .1 .0) (e .result)
+          (kept-count (now (start .args .segment)) (now (start .args .addresses)) (now (start .args .counts)) (start .args .group) after (at-u16-at .u16-at .result)
+          (e .last .1 .1 .1 .1 .0) (e .last .1 .1 .1 .1 .1 .0) (e .result) (e .ensures .kept))
           (e .ensures .walk bounds (80 * start .args .group .«leaf_k») t (omega (arith, at-if4 .if4 .left)) (let i = whole at-c in omega arith));
       sound = sound-after (now (start .args .segment)) (at-enter .enter .last .1 .0) (now (start .args .addresses)) (now (start .args .counts))
-          (start .args .group) after (at-u16-at .u16-at .result) (e .last .1 .1 .1 .0) (e .last .1 .1 .1 .1 .0) (e .result)
+          (start .args .group) after (at-u16-at .u16-at .result) (e .last .1 .1 .1 .1 .0) (e .last .1 .1 .1 .1 .1 .0) (e .result)
           (lent at-c) (apart at-c) (inside at-c) (links-fit at-if4) (e .ensures .kept);
     }
 

@@ -18,20 +18,20 @@ use Rattle.tree.proofs.tree.Tie as tie
 
 node-is : (c : tie.After-level) →
     let at-read-node = c .before .before .before .before in
-    let start = at-read-node .before .before .before .before .before .before .before .before .before .before in
+    let start = at-read-node .before .before .before .before .before .before .before .before .before .before .before in
     NodeIs (now (start .args .image)) (now (start .args .list)) (start .args .group) (start .args .state .count) (start .args .at)
     (at-read-node .read-node .last .1 .0)
     (NodeRead.the-variants.Read (c .level .given .0 .0) (c .level .given .0 .1 .0) (c .level .given .0 .1 .1 .0))
 node-is c =
     let at-read-node = c .before .before .before .before in
-    let start = at-read-node .before .before .before .before .before .before .before .before .before .before in
+    let start = at-read-node .before .before .before .before .before .before .before .before .before .before .before in
     subst (λ (r : NodeRead). NodeIs (now (start .args .image)) (now (start .args .list)) (start .args .group) (start .args .state .count) (start .args .at)
     (at-read-node .read-node .last .1 .0) r) (c .level .given .1)
     (at-read-node .read-node .ensures)
 
 -- an empty root
 no-entries : (c : tie.After-level) →
-    let start = c .before .before .before .before .before .before .before .before .before .before .before .before .before .before in
+    let start = c .before .before .before .before .before .before .before .before .before .before .before .before .before .before .before in
     u16 (now (start .args .image)) (start .args .at + 6) ≡ 0
 no-entries c =
     let at-if1 = c .before .before .before .before .before .before in
@@ -58,7 +58,7 @@ returns c =
     let at-subtree = c .before .before .before .before .before .before in
     let at-if1 = at-subtree .before .before .before .before in
     let at-root-height = at-if1 .before in
-    let start = at-root-height .before .before .before .before .before .before .before in
+    let start = at-root-height .before .before .before .before .before .before .before .before in
     let u = at-root-height .root-height .ensures .used (at-if1 .if1 .taken) in
     record {
       walked = rw (
@@ -87,7 +87,7 @@ returns-2 : tie.Need-returns-2
 returns-2 c =
     let place = c .before .before in
     let at-read-node = place .before .before .before .before in
-    let start = at-read-node .before .before .before .before .before .before .before .before .before .before in
+    let start = at-read-node .before .before .before .before .before .before .before .before .before .before .before in
     record {
       walked =
           empty-level-wrong (now (start .args .image)) (groupOf (now (start .args .segment)) (now (start .args .wanted)) (start .args .group))
@@ -103,7 +103,7 @@ same-length-5 c = search needs
 returns-3 : tie.Need-returns-3
 returns-3 c =
     let at-read-node = c .before .before .before .before .before in
-    let start = at-read-node .before .before .before .before .before .before .before .before .before .before in
+    let start = at-read-node .before .before .before .before .before .before .before .before .before .before .before in
     record {
       walked = root-stopped (now (start .args .image)) (groupOf (now (start .args .segment)) (now (start .args .wanted)) (start .args .group))
           (start .args .at) (stateOf (now (start .args .segment)) (now (start .args .addresses)) (now (start .args .counts)) (start .args .state)) _ _
@@ -117,9 +117,9 @@ same-length-6 c = search needs
 
 returns-4 : tie.Need-returns-4
 returns-4 c =
-    let at-walked = c .before .before .before in
+    let at-walked = c .before .before .before .before in
     let at-read-node = at-walked .before .before .before .before in
-    let start = at-read-node .before .before .before .before .before .before .before .before .before .before in
+    let start = at-read-node .before .before .before .before .before .before .before .before .before .before .before in
     let f = node-is at-walked .fields in
     let read = at-read-node .read-node in
     let group = groupOf (now (start .args .segment)) (now (start .args .wanted)) (start .args .group) in
@@ -131,7 +131,7 @@ returns-4 c =
       walked = empty-read (now (start .args .image)) (groupOf (now (start .args .segment)) (now (start .args .wanted)) (start .args .group))
           (start .args .at) (stateOf (now (start .args .segment)) (now (start .args .addresses)) (now (start .args .counts)) (start .args .state)) _ _
           (now (start .args .list)) _ (start .pre .1 .lent) _ refl (at-read-node .read-node .last .1 .0) _ (at-read-node .read-node .kept .1 .0)
-          (no-entries at-walked) (node-is at-walked .walked) _ (f .1) (c .before .if2 .left);
+          (no-entries at-walked) (node-is at-walked .walked) _ (f .1) (c .before .before .if2 .left);
       sound = sound-more _ _ _ _ (start .args .group) (start .args .state) _ _ (start .pre .1) (m .lent) (m .blocks);
     }
 

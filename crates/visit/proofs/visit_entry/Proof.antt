@@ -11,13 +11,16 @@ compare-requires c κs = search needs
 
 returns : tie.Need-returns
 returns c =
-    visit-compared _ _ _ (c .before .before .before .before .before .before .pre .0) _ _ _ _ _ _ _ (not-true _ (c .before .if1 .taken)) (c .compare .ensures)
+    visit-compared _ _ _ _ (c .before .before .before .before .before .before .pre .0) _ _ _ _ _ _ (not-true _ (c .before .if1 .taken)) (c .compare .ensures)
 
 returns-2 : tie.Need-returns-2
-returns-2 c = visit-passed _ _ _ (c .before .before .before .before .before .before .pre .0) _ _ _ _ _ _ (not-false _ (c .before .if1 .left)) (omega arith)
+returns-2 c = visit-passed _ _ _ _ (c .before .before .before .before .before .before .pre .0) _ _ _ _ _ (not-false _ (c .before .if1 .left)) (omega arith)
 
 discover-requires : tie.Need-discover-requires
-discover-requires c κs = search needs
+discover-requires c κs =
+    let audited = c .before .before .before in
+    let start = audited .before .before .before .before .before in
+    (start .pre .0 (not-false _ (audited .if1 .left)), start .pre .1)
 
 enum-told : tie.Need-enum-told
 enum-told c = search needs
@@ -35,7 +38,7 @@ returns-3 : tie.Need-returns-3
 returns-3 c =
     let d = c .before .before .before .before .before .before in
     let e = d .before .before .before in
-    visit-full _ _ _ (e .before .before .before .before .before .before .pre .0) _ _ _ _ _ _ (not-false _ (e .before .if1 .left)) (omega arith) _ _
+    visit-full _ _ _ _ (e .before .before .before .before .before .before .pre .0) _ _ _ _ _ (not-false _ (e .before .if1 .left)) (omega arith) _ _
     (c .enum-told .given .1) (d .discover .ensures)
 
 same-length-3 : tie.Need-same-length-3
@@ -48,7 +51,7 @@ returns-4 : tie.Need-returns-4
 returns-4 c =
     let d = c .before .before .before .before .before .before .before in
     let e = d .before .before .before in
-    visit-counted _ _ _ (e .before .before .before .before .before .before .pre .0) _ _ _ _ _ _ (not-false _ (e .before .if1 .left)) (omega arith) _ _ _
+    visit-counted _ _ _ _ (e .before .before .before .before .before .before .pre .0) _ _ _ _ _ (not-false _ (e .before .if1 .left)) (omega arith) _ _ _
     (c .before .n .given .1) (d .discover .ensures)
 
 pub visit-entry-spec : {M : Type 1} → statement M

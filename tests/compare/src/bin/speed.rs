@@ -1,17 +1,23 @@
-//! The audit through the C front end of the proved library against the separate reader, on the same images in the same
-//! process. All slices lent are cleared before every call; the clock runs during the call alone. A figure is the median
-//! over several runs of the median over many calls, in nanoseconds.
+//! The audit and the lookup through the C front end of the proved library against the separate reader, on the same images in
+//! the same process. All slices lent are cleared before every call; the clock runs during the call alone. A figure is the
+//! median over several runs of the median over many calls.
 
 use compare::generate::block_orders::{touching, ORDERS};
+use compare::generate::hostile::{Hostile, KINDS};
 use compare::generate::{limits, small};
 use compare::library;
-use compare::reader::front::{audit_bytes, BLOCK_BYTES, REPLY_WORDS};
+use compare::reader::front::{audit_bytes, lookup_bytes, BLOCK_BYTES, REPLY_WORDS};
 use compare::reader::MOST_BLOCKS;
 use std::hint::black_box;
 use std::time::{Duration, Instant};
 
-const RUNS: usize = 7;
-const TIME_OF_A_RUN: Duration = Duration::from_millis(150);
+/// So many runs of so long each: for an image of its own size, and for one at one of several sizes.
+const RUNS: (usize, Duration) = (7, Duration::from_millis(150));
+const SHORT_RUNS: (usize, Duration) = (5, Duration::from_millis(40));
+
+const KIB: usize = 1024;
+/// The last is twice the one before it.
+const SIZES: [usize; 4] = [64 * KIB, 256 * KIB, 512 * KIB, 1024 * KIB];
 
 struct Slices {
     blocks: Vec<u8>,
@@ -23,49 +29,117 @@ fn median(mut figures: Vec<u64>) -> u64 {
     figures[figures.len() / 2]
 }
 
-type Audit = fn(&[u8], &mut [u8], &mut [u8]) -> u32;
+/// A call on an image and a path.
+type Call = fn(&[u8], &[u8], &mut [u8], &mut [u8]) -> u32;
+
+const AUDIT: [Call; 2] = [
+    |image, _, blocks, reply| library::audit(image, blocks, reply),
+    |image, _, blocks, reply| audit_bytes(image, blocks, reply),
+];
+const LOOKUP: [Call; 2] = [library::lookup, lookup_bytes];
 
 /// One call on cleared slices: its time in nanoseconds.
-fn time(audit: Audit, image: &[u8], slices: &mut Slices) -> u64 {
+fn time(call: Call, asked: &Hostile, slices: &mut Slices) -> u64 {
     slices.blocks.fill(0);
     slices.reply.fill(0);
     black_box(&mut slices.blocks);
     let start = Instant::now();
-    let number = audit(black_box(image), &mut slices.blocks, &mut slices.reply);
+    let number = call(
+        black_box(&asked.image),
+        &asked.path,
+        &mut slices.blocks,
+        &mut slices.reply,
+    );
     let elapsed = start.elapsed();
     assert_eq!(black_box(number), 0);
     elapsed.as_nanos() as u64
 }
 
 /// The medians of library and reader in one run, their calls in turn.
-fn run(image: &[u8], slices: &mut Slices) -> (u64, u64) {
-    let (mut library_times, mut reader_times) = (Vec::new(), Vec::new());
+fn run(calls: [Call; 2], asked: &Hostile, lasting: Duration, slices: &mut Slices) -> [u64; 2] {
+    let mut times = [Vec::new(), Vec::new()];
     let start = Instant::now();
-    while start.elapsed() < TIME_OF_A_RUN || library_times.len() < 5 {
-        library_times.push(time(library::audit, image, slices));
-        reader_times.push(time(audit_bytes, image, slices));
+    while start.elapsed() < lasting || times[0].len() < 5 {
+        for (call, times) in calls.iter().zip(&mut times) {
+            times.push(time(*call, asked, slices));
+        }
     }
-    (median(library_times), median(reader_times))
+    times.map(median)
 }
 
-fn main() {
+fn measure(
+    calls: [Call; 2],
+    asked: &Hostile,
+    runs: (usize, Duration),
+    slices: &mut Slices,
+) -> [u64; 2] {
+    let times: Vec<[u64; 2]> = (0..runs.0)
+        .map(|_| run(calls, asked, runs.1, slices))
+        .collect();
+    [0, 1].map(|whose| median(times.iter().map(|times| times[whose]).collect()))
+}
+
+fn ratio(times: [u64; 2]) -> f64 {
+    times[0] as f64 / times[1] as f64
+}
+
+fn own_sizes(slices: &mut Slices) {
     let mut images = vec![("E", small::e().bytes), ("H", small::h().bytes)];
     images.extend(limits::all());
     for (name, order) in ORDERS {
         images.push((name, touching(order, MOST_BLOCKS).bytes));
     }
+    println!("| image | bytes | library, ns | plain reader, ns | ratio |");
+    println!("|---|---|---|---|---|");
+    for (name, image) in images {
+        let bytes = image.len();
+        let path = b"/".to_vec();
+        let times = measure(AUDIT, &Hostile { image, path }, RUNS, slices);
+        let [library, reader] = times;
+        println!(
+            "| {name} | {bytes} | {library} | {reader} | {:.2} |",
+            ratio(times)
+        );
+    }
+}
+
+/// Of every kind of hostile file the ratio at each size, both times at the last, and how much longer than at half of it.
+fn hostile(what: &str, calls: [Call; 2], wanted: &str, slices: &mut Slices) {
+    println!("\n| {what} | 64 KiB | 256 KiB | 512 KiB | 1 MiB | library, us | plain reader, us | twice the size |");
+    println!("|---|---|---|---|---|---|---|---|");
+    for (name, make) in KINDS {
+        if !name.contains(wanted) {
+            continue;
+        }
+        let times: Vec<[u64; 2]> = SIZES
+            .iter()
+            .map(|size| measure(calls, &make(*size), SHORT_RUNS, slices))
+            .collect();
+        let ratios: Vec<String> = times
+            .iter()
+            .map(|times| format!("{:.2}", ratio(*times)))
+            .collect();
+        let [half, whole] = [times[SIZES.len() - 2], times[SIZES.len() - 1]];
+        let growth = whole[0] as f64 / half[0] as f64;
+        let [library, reader] = whole.map(|time| time as f64 / 1000.0);
+        println!(
+            "| {name} | {} | {library:.1} | {reader:.1} | {growth:.2} |",
+            ratios.join(" | ")
+        );
+    }
+}
+
+/// Without an argument everything; with one the hostile files whose name has it.
+fn main() {
     let mut slices = Slices {
         blocks: vec![0; BLOCK_BYTES * MOST_BLOCKS],
         reply: vec![0; 8 * REPLY_WORDS],
     };
-    println!("| image | bytes | library, ns | plain reader, ns | ratio |");
-    println!("|---|---|---|---|---|");
-    for (name, image) in images {
-        let runs: Vec<(u64, u64)> = (0..RUNS).map(|_| run(&image, &mut slices)).collect();
-        let library = median(runs.iter().map(|run| run.0).collect());
-        let reader = median(runs.iter().map(|run| run.1).collect());
-        let ratio = library as f64 / reader as f64;
-        let bytes = image.len();
-        println!("| {name} | {bytes} | {library} | {reader} | {ratio:.2} |");
+    let wanted = std::env::args().nth(1);
+    if wanted.is_none() {
+        own_sizes(&mut slices);
     }
+    let wanted = wanted.unwrap_or_default();
+    hostile("audit", AUDIT, &wanted, &mut slices);
+    hostile("lookup", LOOKUP, &wanted, &mut slices);
 }

@@ -22,6 +22,10 @@ pub struct Block {
 }
 
 impl Block {
+    fn end(&self) -> u64 {
+        self.address + self.length
+    }
+
     pub fn words(&self) -> [u64; BLOCK_WORDS] {
         [self.address, self.length, self.part as u64, self.owner]
     }
@@ -45,8 +49,8 @@ impl Blocks {
             end_of_file: superblock.end,
             room,
             owner: 0,
-            entered: Vec::with_capacity(room.min(64)),
-            by_address: Vec::with_capacity(room.min(64)),
+            entered: Vec::with_capacity(room),
+            by_address: Vec::with_capacity(room),
         }
     }
 
@@ -93,7 +97,7 @@ impl Blocks {
     /// "To enter a block: 5, 6, 13". No block is empty. Gives the block's place in the image.
     pub fn enter(&mut self, part: Part, address: u64, length: u64) -> Walked<Range<usize>> {
         let end = self.end(part, address, length)?;
-        let before = self.by_address.partition_point(|block| block.1 <= address);
+        let before = self.before(address);
         let apart = match self.by_address.get(before) {
             Some(next) => end <= next.0,
             None => true,
@@ -123,9 +127,19 @@ impl Blocks {
         Ok(address as usize..end as usize)
     }
 
+    /// How many blocks end at an address or before it. Most files are written upwards, so that all do.
+    fn before(&self, address: u64) -> usize {
+        match self.by_address.last() {
+            Some(last) if last.1 > address => {
+                self.by_address.partition_point(|block| block.1 <= address)
+            }
+            _ => self.by_address.len(),
+        }
+    }
+
     /// "the address of the first block entered that it meets"
     fn first_met(&self, address: u64, end: u64) -> u64 {
-        let meets = |block: &&Block| block.address < end && address < block.address + block.length;
+        let meets = |block: &&Block| block.address < end && address < block.end();
         let met = self.entered.iter().find(meets);
         met.expect("a block that is met").address
     }

@@ -5,10 +5,11 @@ use super::bytes::{u16_at, u32_at, u64_at};
 use super::heap::{self, Heap};
 use super::refusal::{ask, Located, Part, Read, Refusal, Site, Walked};
 use super::superblock::Superblock;
+use super::text::Text;
 
 /// A sound entry of a symbol node.
 pub struct Link<'a> {
-    pub name: &'a [u8],
+    pub name: Text<'a>,
     pub target: Target,
 }
 
@@ -21,12 +22,12 @@ pub enum Target {
 /// What the keys of all nodes above ask of a name: above `low`, at most `high`.
 #[derive(Clone, Copy)]
 struct Bounds<'a> {
-    low: &'a [u8],
-    high: Option<&'a [u8]>,
+    low: Text<'a>,
+    high: Option<Text<'a>>,
 }
 
 impl<'a> Bounds<'a> {
-    fn within(&self, low: &'a [u8], high: &'a [u8]) -> Bounds<'a> {
+    fn within(&self, low: Text<'a>, high: Text<'a>) -> Bounds<'a> {
         Bounds {
             low: self.low.max(low),
             high: Some(self.high.map_or(high, |outer| outer.min(high))),
@@ -39,7 +40,7 @@ struct Walk<'a, 'b, F> {
     superblock: &'b Superblock,
     blocks: &'b mut Blocks,
     heap: Heap<'a>,
-    last: &'a [u8],
+    last: Text<'a>,
     each: F,
 }
 
@@ -61,11 +62,11 @@ where
         superblock,
         blocks,
         heap,
-        last: &[],
+        last: Text::EMPTY,
         each,
     };
     let everything = Bounds {
-        low: &[],
+        low: Text::EMPTY,
         high: None,
     };
     walk.node(tree, None, everything)
@@ -108,7 +109,7 @@ where
     }
 
     /// The key whose offset stands there in a node.
-    fn key(&self, node: &[u8], address: u64, at: usize) -> Walked<&'a [u8]> {
+    fn key(&self, node: &[u8], address: u64, at: usize) -> Walked<Text<'a>> {
         let key = self.heap.key(u64_at(node, at));
         key.at(Site::inside(address, at))
     }
@@ -135,22 +136,28 @@ where
         let in_range = (1..=2 * self.superblock.leaf_k).contains(&u64::from(count));
         ask(in_range, Refusal::BadTree).at(whole)?;
         // From here on a name has to be above the last one and above the key.
-        self.last = self.last.max(bounds.low);
-        let entries = node[8..].chunks_exact(40).take(usize::from(count));
-        for (number, entry) in entries.enumerate() {
+        let mut last = self.last.max(bounds.low);
+        let (entries, _) = node[8..].as_chunks();
+        for (number, entry) in entries[..usize::from(count)].iter().enumerate() {
             let site = Site::inside(address, 8 + 40 * number);
-            self.entry(entry, bounds.high).at(site)?;
+            last = self.entry(entry, last, bounds.high).at(site)?;
         }
+        self.last = last;
         Ok(())
     }
 
     /// "for a symbol entry: name, its place among names and keys, type, link value, then, in the audit only, the
     /// discovery of an object"
-    fn entry(&mut self, entry: &[u8], high: Option<&'a [u8]>) -> Read<()> {
+    #[inline(always)]
+    fn entry(
+        &mut self,
+        entry: &[u8; 40],
+        last: Text<'a>,
+        high: Option<Text<'a>>,
+    ) -> Read<Text<'a>> {
         let name = self.heap.name(u64_at(entry, 0))?;
-        let in_place = name > self.last && high.is_none_or(|high| name <= high);
+        let in_place = name > last && high.is_none_or(|high| name <= high);
         ask(in_place, Refusal::BadTree)?;
-        self.last = name;
         // "Types 0 and 1 are hard links; 2 is a symbolic link [..]. Others give 8."
         let target = match u32_at(entry, 16) {
             0 | 1 => Target::Hard(u64_at(entry, 8)),
@@ -160,6 +167,7 @@ where
             }
             _ => return Err(Refusal::BadTree),
         };
-        (self.each)(Link { name, target })
+        (self.each)(Link { name, target })?;
+        Ok(name)
     }
 }

@@ -120,48 +120,54 @@ impl<'a> Messages<'a> {
         &mut self,
         block: &'a [u8],
         place: usize,
-        mut at: usize,
+        at: usize,
         each: &mut F,
     ) -> Walked<()>
     where
         F: FnMut(&'a [u8]) -> Read<()>,
     {
-        while at < block.len() {
+        let mut rest = &block[at..];
+        while !rest.is_empty() {
+            let at = block.len() - rest.len();
             let site = Site::inside(place as u64, at);
-            let length = self.read_message(&block[at..], site, each);
-            at += length.at(site)?;
+            rest = self.read_message(rest, site, each).at(site)?;
         }
         Ok(())
     }
 
-    /// The first message of the rest of a block; gives its length.
-    fn read_message<F>(&mut self, rest: &'a [u8], site: Site, each: &mut F) -> Read<usize>
+    /// The first message of the rest of a block; gives what is behind it.
+    fn read_message<F>(&mut self, rest: &'a [u8], site: Site, each: &mut F) -> Read<&'a [u8]>
     where
         F: FnMut(&'a [u8]) -> Read<()>,
     {
-        ask(rest.len() >= 8, Refusal::BadHeader)?;
-        let kind = u16_at(rest, 0);
+        let (head, rest) = rest.split_first_chunk().ok_or(Refusal::BadHeader)?;
+        // One load: "type 2, size 2, flags 1, reserved 3".
+        let head = u64::from_le_bytes(*head);
+        let kind = head as u16;
         ask(read_here(kind), Refusal::NotRead)?;
-        let size = usize::from(u16_at(rest, 2));
+        let size = (head >> 16) as u16;
         // "size a multiple of 8"
         ask(size.is_multiple_of(8), Refusal::BadHeader)?;
-        ask(rest.len() - 8 >= size, Refusal::BadHeader)?;
+        let parts = rest.split_at_checked(usize::from(size));
+        let (bytes, rest) = parts.ok_or(Refusal::BadHeader)?;
         // "The shared flag (bit 1) is allowed on 0x0003 only, else 3."
-        let shared = rest[4] & 2 != 0;
+        let shared = head >> 32 & 2 != 0;
         ask(!shared || kind == 0x0003, Refusal::NotRead)?;
-        let body = Body {
-            bytes: &rest[8..8 + size],
-            place: site.place as usize + 8,
-            block: site.block,
-            shared,
-        };
-        if kind == 0x000c {
-            each(body.bytes)?;
-        } else {
-            self.take(kind, body)?;
+        match kind {
+            0x000c => each(bytes)?,
+            0x0001 | 0x0003 | 0x0008 | 0x0010 | 0x0011 => {
+                let body = Body {
+                    bytes,
+                    place: site.place as usize + 8,
+                    block: site.block,
+                    shared,
+                };
+                self.take(kind, body)?;
+            }
+            _ => {}
         }
         self.total += 1;
-        Ok(8 + size)
+        Ok(rest)
     }
 
     fn take(&mut self, kind: u16, body: Body<'a>) -> Read<()> {

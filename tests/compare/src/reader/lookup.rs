@@ -5,6 +5,7 @@ use super::group::{self, Target};
 use super::header::{self, Header, Kind};
 use super::refusal::{ask, Located, Read, Refusal, Site, Stop, Walked, NOWHERE};
 use super::superblock::{self, Superblock};
+use super::text::Text;
 
 #[derive(Clone, PartialEq, Eq, Debug, Default)]
 pub struct LookupReply {
@@ -109,6 +110,7 @@ fn step(
         return Err(Stop::Fault(Refusal::NoGroup, NOWHERE));
     };
     let mut found = None;
+    let component = Text::new(component);
     group::walk(image, superblock, &mut blocks, (tree, heap), |link| {
         if link.name == component {
             found = Some(link.target);

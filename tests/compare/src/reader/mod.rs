@@ -7,6 +7,7 @@ mod bytes;
 mod dataset;
 mod describe;
 pub mod front;
+mod gaps;
 mod group;
 mod header;
 mod heap;
@@ -17,6 +18,7 @@ mod refusal;
 mod report;
 mod superblock;
 mod table;
+mod text;
 
 pub use audit::{audit, audit_stop, AuditReply};
 pub use blocks::{Block, BLOCK_WORDS, MOST_BLOCKS, SUPERBLOCK_OWNER};

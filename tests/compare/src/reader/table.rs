@@ -61,6 +61,7 @@ impl Table {
     }
 
     /// "A hard link to a new address adds an object."
+    #[inline]
     pub fn link(&mut self, address: u64) -> Read<()> {
         let mut slot = own_slot(address);
         while self.slots[slot] != 0 {

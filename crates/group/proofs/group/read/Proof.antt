@@ -1,50 +1,46 @@
--- The heap, then the tree in its segment.
+-- The heap, then what stands behind it.
 use denote.Ref.{now}
-use mathlib.Core.Path.{_≡_, subst}
-use Prim.Native.Nat.{_+_, _-_}
-use Rattle.format.specs.Bytes.{part}
+use mathlib.Core.Path.{_≡_, refl, subst}
 use Rattle.format.specs.Walk.{run}
-use Rattle.format.specs.Heap.{heapWalk}
 use Rattle.walk.specs.Lent.{blocksOf, Walked}
 use Rattle.laws.proofs.SumOfLengths.{grown-apart, grown-inside, grown-lengths}
-use Rattle.heap.specs.Segment.{heapEnd, segmentOf, SoundHeap, SoundRead}
-use Rattle.heap.specs.declared.segment.HeapRead
-use Rattle.heap.specs.declared.segment.HeapRead.{HeapRead}
-use Rattle.visit.specs.Visit.{visitBoth, bothOf}
-use Rattle.visit.specs.declared.Link.the-variants.{Absent}
-use Rattle.heap.proofs.SegmentLaws.{part-between}
-use Rattle.group.proofs.GroupLaws.{heap-stopped, at-tree, tree-ended, sound-ready}
+use Rattle.heap.specs.Header.{openWalk, openHeap, openEnd, SegmentInside, OpenedInside}
+use Rattle.heap.specs.declared.header.HeapOpened
+use Rattle.heap.specs.declared.header.HeapOpened.{HeapOpened}
+use Rattle.visit.specs.Visit.{visitBoth, bothOf, noLink}
+use Rattle.group.specs.Group.{groupEnd}
+use Rattle.group.proofs.GroupLaws.{heap-stopped, at-contents, contents-ended}
 use native.Mathlib.Omega.{arith}
 use borrow.Author.Needs.{needs}
 use Rattle.group.proofs.group.read.Statement.{statement}
 use Rattle.group.proofs.group.read.Tie as tie
 
--- the heap was read, and it is sound
-heap-is : (c : tie.After-h) →
-    let at-read = c .before .before .before .before in
-    let start = at-read .before .before .before .before .before .before .before in
-    Walked (now (start .args .list)) (at-read .read .last .1 .1 .0)
-    (heapEnd (now (start .args .image)) (HeapRead.the-variants.Read (c .h .given .0 .0) (c .h .given .0 .1 .0)))
-    (run (now (start .args .image)) (start .args .reading .«end_of_file») (start .args .reading .room) (heapWalk (start .args .heap))
-    (blocksOf (start .args .count) (now (start .args .list)))) × SoundHeap (now (start .args .image)) (c .h .given .0 .0)
-heap-is c =
-    let at-read = c .before .before .before .before in
-    let start = at-read .before .before .before .before .before .before .before in
-    subst (λ (r : HeapRead). Walked (now (start .args .list)) (at-read .read .last .1 .1 .0) (heapEnd (now (start .args .image)) r)
-    (run (now (start .args .image)) (start .args .reading .«end_of_file») (start .args .reading .room) (heapWalk (start .args .heap))
-    (blocksOf (start .args .count) (now (start .args .list)))) × SoundRead (now (start .args .image)) r) (c .h .given .1) (at-read .read .ensures)
+-- the function's start, where the heap was opened
+abbrev start : tie.After-open → tie.Start
+start c = c .before .before .before .before .before .before .before
 
--- the slice is the heap's segment
-slice : (c : tie.After-h) →
-    let start = c .before .before .before .before .before .before .before .before .before .before .before in
-    part (now (start .args .image)) (c .h .given .0 .0 .segment) (c .h .given .0 .0 .segment + c .h .given .0 .0 .size - c .h .given .0 .0 .segment) ≡
-    segmentOf (now (start .args .image)) (c .h .given .0 .0)
-slice c =
-    let start = c .before .before .before .before .before .before .before .before .before .before .before in
-    part-between (now (start .args .image)) (c .h .given .0 .0 .segment) (c .h .given .0 .0 .size)
+-- where the heap is known, it was opened
+abbrev opening : tie.After-h → tie.After-open
+opening c = c .before .before .before .before
 
-read-requires : tie.Need-read-requires
-read-requires c κs = search needs
+-- the heap was entered, and its segment lies inside the file
+opened : (c : tie.After-h) →
+    let s = start (opening c) in
+    Walked (now (s .args .list)) (opening c .«open» .last .1 .1 .0)
+    (openEnd (now (s .args .image)) (HeapOpened.the-variants.Opened (c .h .given .0 .0) (c .h .given .0 .1 .0)))
+    (run (now (s .args .image)) (s .args .reading .«end_of_file») (s .args .reading .room) (openWalk (s .args .heap))
+    (blocksOf (s .args .count) (now (s .args .list))))
+    × SegmentInside (now (s .args .image)) (s .args .reading .«end_of_file») (c .h .given .0 .0)
+opened c =
+    let s = start (opening c) in
+    subst
+    (λ (r : HeapOpened). Walked (now (s .args .list)) (opening c .«open» .last .1 .1 .0) (openEnd (now (s .args .image)) r)
+    (run (now (s .args .image)) (s .args .reading .«end_of_file») (s .args .reading .room) (openWalk (s .args .heap))
+    (blocksOf (s .args .count) (now (s .args .list)))) × OpenedInside (now (s .args .image)) (s .args .reading .«end_of_file») r)
+    (c .h .given .1) (opening c .«open» .ensures)
+
+open-requires : tie.Need-open-requires
+open-requires c κs = search needs
 
 enum-known-x : tie.Need-enum-known-x
 enum-known-x c = search needs
@@ -52,45 +48,27 @@ enum-known-x c = search needs
 enum-known-h : tie.Need-enum-known-h
 enum-known-h c = search needs
 
-add-end : tie.Need-add-end
-add-end c =
-    let start = c .before .before .before .before .before .before .before .before .before .before .before .before .before in
-    omega (arith, heap-is (c .before .before) .1 .inside, start .good .0 .0)
-
-sub-tree : tie.Need-sub-tree
-sub-tree c = search needs
-
-part-tree-start : tie.Need-part-tree-start
-part-tree-start c = search needs
-
-part-tree-end : tie.Need-part-tree-end
-part-tree-end c = omega (arith, heap-is (c .before .before) .1 .inside)
-
-tree-requires : tie.Need-tree-requires
-tree-requires c κs =
-    let place = c .before .before .before .before .before .before in
-    let at-read = place .before .before .before .before in
-    let start = at-read .before .before .before .before .before .before .before in
-    let s = heap-is place in
-    let q = slice place in
-    let st = start .pre .0 in
-    let rd = start .pre .1 in
-    let a = at-tree (now (start .args .image)) (start .args .reading .«end_of_file») (start .args .reading .room) (now (start .args .list))
-    (start .args .count) (rd .lent)
-    (start .args .reading .«leaf_k») (start .args .reading .«internal_k») (start .args .tree) (start .args .heap)
-    (visitBoth (start .args .reading .auditing) (now (start .args .wanted)))
-    (bothOf (now (start .args .addresses)) (now (start .args .counts)) (start .args .objects) Absent) (at-read .read .last .1 .1 .0) _ _
-    (at-read .read .kept .1 .1 .0) (s .0) in
-    let g = a .blocks in (
-      record { file = st .file; small = st .small; leaf = st .leaf; internal = st .internal; chained = rw q (s .1 .chained) },
-      record {
-        lent = a .lent;
-        last = omega arith;
-        table = rd .table;
-        apart = grown-apart g (rd .apart);
-        inside = grown-inside g (rd .inside);
-        links = omega (arith, rd .links, grown-lengths g);
-      },
+read-in-requires : tie.Need-read-in-requires
+read-in-requires c κs =
+    let h = c .before .before .before .before in
+    let s = start (opening h) in
+    let ready = s .pre .1 in
+    let a =
+    at-contents (now (s .args .image)) _ _ (now (s .args .list)) _ (ready .lent) (s .args .reading .«leaf_k») (s .args .reading .«internal_k») (s .args .tree)
+    (s .args .heap) (visitBoth (s .args .reading .auditing) (now (s .args .wanted)))
+    (bothOf (now (s .args .addresses)) (now (s .args .counts)) (s .args .objects) noLink) (opening h .«open» .last .1 .1 .0)
+    (openHeap (now (s .args .image)) (h .h .given .0 .0)) _ (opening h .«open» .kept .1 .1 .0) (opened h .0) in (
+      s .pre .0,
+      (
+        record {
+          lent = a .lent;
+          table = ready .table;
+          apart = grown-apart (a .blocks) (ready .apart);
+          inside = grown-inside (a .blocks) (ready .inside);
+          links = omega (arith, ready .links, grown-lengths (a .blocks));
+        },
+        opened h .1,
+      ),
     )
 
 same-length : tie.Need-same-length
@@ -98,11 +76,11 @@ same-length c = search needs
 
 returns : tie.Need-returns
 returns c =
-    let at-read = c .before .before .before .before .before in
-    let start = at-read .before .before .before .before .before .before .before in
+    let opened = c .before .before .before .before .before in
+    let s = start opened in
     record {
-      walked = heap-stopped (now (start .args .image)) _ _ (now (start .args .list)) _ (start .pre .1 .lent) _ _ _ _ _ _
-          (at-read .read .last .1 .1 .0) _ (rw (c .before .x .given .1) at (at-read .read .ensures .0));
+      walked = heap-stopped (now (s .args .image)) _ _ (now (s .args .list)) _ (s .pre .1 .lent) _ _ _ _ _ _ (opened .«open» .last .1 .1 .0) _
+          (rw (c .before .x .given .1) at (opened .«open» .ensures .0));
       ready = tt;
     }
 
@@ -117,32 +95,25 @@ same-length-4 c = search needs
 
 returns-2 : tie.Need-returns-2
 returns-2 c =
-    let at-tree = c .before .before .before .before .before .before in
-    let at-h = at-tree .before .before .before .before .before .before .before in
-    let at-read = at-h .before .before .before .before in
-    let start = at-read .before .before .before .before .before .before .before in
-    let s = heap-is at-h in
+    let read = c .before .before .before .before .before .before in
+    let h = read .before .before .before .before .before in
+    let s = start (opening h) in
     record {
       walked =
-          tree-ended (now (start .args .image)) _ _ (now (start .args .list)) _ (start .pre .1 .lent) _ _ _ _ _ (now (start .args .wanted))
-          (now (start .args .addresses)) (now (start .args .counts)) _ (at-h .h .given .0 .0) (at-h .h .given .0 .1 .0) (at-read .read .last .1 .1 .0)
-          (at-read .read .kept .1 .1 .0) (s .0) _ _ _ (at-tree .tree .result) (at-tree .tree .kept .1 .1 .1 .0)
-          (rw (slice at-h) at (at-tree .tree .ensures .walked));
-      ready = sound-ready _ _ _ _ _ (at-tree .tree .result) (at-tree .tree .ensures .sound);
+          contents-ended (now (s .args .image)) _ _ (now (s .args .list)) _ (s .pre .1 .lent) _ _ _ _ _ _ (opening h .«open» .last .1 .1 .0)
+          (openHeap (now (s .args .image)) (h .h .given .0 .0)) _ (opening h .«open» .kept .1 .1 .0) (opened h .0) (groupEnd _ _) _ (read .read-in .result)
+          (λ t. (_, refl)) (λ x. refl) (read .read-in .kept .1 .1 .0) (read .read-in .ensures .walked);
+      ready = read .read-in .ensures .ready;
     }
 
 pub read-spec : {M : Type 1} → statement M
 read-spec =
     tie.close
     (tie.spec
-    read-requires
+    open-requires
     enum-known-x
     enum-known-h
-    add-end
-    sub-tree
-    part-tree-start
-    part-tree-end
-    tree-requires
+    read-in-requires
     same-length
     returns
     same-length-2

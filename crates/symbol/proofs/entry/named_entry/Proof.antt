@@ -6,36 +6,48 @@ use borrow.Author.Tests.{not-true, not-false}
 use Rattle.format.specs.Names.{below}
 use Rattle.heap.proofs.SegmentLaws.{part-between}
 use Rattle.range.specs.Range.{nameIn, rangeHolds}
-use Rattle.symbol.proofs.EntryLaws.{same-value, same-visit, order-refused, range-refused, type-refused, link-refused, visit-refused, visited}
+use Rattle.range.proofs.RangeLaws.{floor-passed, floor-refused, high-refused}
+use Rattle.symbol.proofs.EntryLaws.{same-value, same-visit, place-refused, type-refused, link-refused, visit-refused, visited}
 use borrow.Author.Needs.{needs}
+use native.Mathlib.Omega.{arith}
 use Rattle.symbol.proofs.entry.named_entry.Statement.{statement}
 use Rattle.symbol.proofs.entry.named_entry.Tie as tie
 
--- the name is above the last one, and in the range
-rises : (c : tie.Else1) → let a = c .before .before .before .before .before .before .before .before .args in true ≡ below
-    (nameIn (now (a .segment)) (a .state .last)) (nameIn (now (a .segment)) (a .name))
-rises c = sym (not-false _ (c .if1 .left)) ∙ c .before .name-below .ensures
+-- the function's start, where the name was compared
+abbrev start : tie.After-name-below → tie.Start
+start c = c .before .before .before .before .before .before .before
 
-held : (c : tie.Else2) → let a = c .before .before .before .before .before .before .before .before .before .before .args in true ≡ rangeHolds
-    (now (a .segment)) (a .range) (nameIn (now (a .segment)) (a .name))
-held c = sym (not-false _ (c .if2 .left)) ∙ c .before .holds .ensures
+-- the name is above the last one, and in the range
+passed : (c : tie.Else2) →
+    let a = start (c .before .before .before) .args in
+    (below (nameIn (now (a .segment)) (a .state .last)) (nameIn (now (a .segment)) (a .name)) ≡ true)
+    × (rangeHolds (now (a .segment)) (a .range) (nameIn (now (a .segment)) (a .name)) ≡ true)
+passed c =
+    let most = c .before in
+    let above = most .before in
+    let s = start (above .before) in
+    floor-passed (now (s .args .segment)) _ _ (s .args .floor) _ (s .pre .1 .1 .1 .0)
+    (sym (above .before .name-below .ensures) ∙ not-false _ (above .if1 .left)) (sym (most .at-most .ensures) ∙ not-false _ (c .if2 .left))
 
 name-below-requires : tie.Need-name-below-requires
 name-below-requires c κs = search needs
 
 returns : tie.Need-returns
 returns c =
-    order-refused _ _ _ _ _ _ _ _ _ _ _ _ (c .before .before .before .before .before .before .before .before .pre .1 .1 .1)
-    (sym (not-true _ (c .if1 .taken)) ∙ c .before .name-below .ensures)
+    let s = start (c .before) in
+    place-refused _ _ _ _ _ _ _ _ _ _ _ _ (s .pre .1 .1 .1 .1)
+    (floor-refused (now (s .args .segment)) _ _ (s .args .floor) _ (s .pre .1 .1 .1 .0) (sym (c .before .name-below .ensures) ∙ not-true _ (c .if1 .taken)))
 
-holds-requires : tie.Need-holds-requires
-holds-requires c κs = search needs
+at-most-requires : tie.Need-at-most-requires
+at-most-requires c κs = search needs
 
 returns-2 : tie.Need-returns-2
 returns-2 c =
-    let one = c .before .before in
-    let s = one .before .before .before .before .before .before .before .before in
-    range-refused _ _ _ _ _ _ _ _ _ _ _ _ (s .pre .1 .1 .1) (rises one) (sym (not-true _ (c .if2 .taken)) ∙ c .before .holds .ensures)
+    let above = c .before .before in
+    let s = start (above .before) in
+    place-refused _ _ _ _ _ _ _ _ _ _ _ _ (s .pre .1 .1 .1 .1)
+    (high-refused (now (s .args .segment)) _ _ (s .args .floor) _ (s .pre .1 .1 .1 .0)
+    (sym (above .before .name-below .ensures) ∙ not-false _ (above .if1 .left)) (sym (c .before .at-most .ensures) ∙ not-true _ (c .if2 .taken)))
 
 add-u32-at : tie.Need-add-u32-at
 add-u32-at c = search needs
@@ -46,9 +58,8 @@ u32-at-requires c κs = search needs
 returns-3 : tie.Need-returns-3
 returns-3 c =
     let two = c .before .before in
-    let one = two .before .before in
-    let s = one .before .before .before .before .before .before .before .before in
-    type-refused _ _ _ _ _ _ _ _ _ _ _ _ (s .pre .1 .1 .1) (rises one) (held two) (c .before .u32-at .result) (c .before .u32-at .ensures .value)
+    let s = start (two .before .before .before) in
+    type-refused _ _ _ _ _ _ _ _ _ _ _ _ (s .pre .1 .1 .1 .1) (passed two .0) (passed two .1) (c .before .u32-at .result) (c .before .u32-at .ensures .value)
     (c .if3 .taken)
 
 check-value-requires : tie.Need-check-value-requires
@@ -76,10 +87,15 @@ part-visit-entry-start : tie.Need-part-visit-entry-start
 part-visit-entry-start c = search needs
 
 part-visit-entry-end : tie.Need-part-visit-entry-end
-part-visit-entry-end c = search needs
+part-visit-entry-end c =
+    let sound = c .before .before .before .before .before in
+    omega (arith, start (sound .before .before .before .before .before .before .before .before) .pre .1 .1 .1 .1 .inside)
 
 visit-entry-requires : tie.Need-visit-entry-requires
-visit-entry-requires c κs = search needs
+visit-entry-requires c κs =
+    let sound = c .before .before .before .before .before .before in
+    let s = start (sound .before .before .before .before .before .before .before .before) in
+    (s .pre .1 .0 .table, s .pre .1 .1 .0)
 
 enum-told-2 : tie.Need-enum-told-2
 enum-told-2 c = search needs
@@ -92,11 +108,10 @@ returns-4 c =
     let value = c .before .before .before in
     let three = value .before in
     let two = three .before .before in
-    let one = two .before .before in
-    let s = one .before .before .before .before .before .before .before .before in
-    link-refused _ _ _ _ _ _ _ _ _ _ _ _ (s .pre .1 .1 .1) (rises one) (held two) (three .before .u32-at .result) (three .before .u32-at .ensures .value)
+    let s = start (two .before .before .before) in
+    link-refused _ _ _ _ _ _ _ _ _ _ _ _ (s .pre .1 .1 .1 .1) (passed two .0) (passed two .1) (three .before .u32-at .result) (three .before .u32-at .ensures .value)
     (three .if3 .left) _
-    (same-value _ _ _ _ _ _ (c .before .n .given .1) (value .check-value .ensures))
+    (same-value _ _ _ _ _ (c .before .n .given .1) (value .check-value .ensures _ (s .pre .1 .0 .known .mapped) (s .pre .1 .0 .known .marked)))
 
 same-length : tie.Need-same-length
 same-length c = search needs
@@ -107,16 +122,15 @@ same-length-2 c = search needs
 returns-5 : tie.Need-returns-5
 returns-5 c =
     let visit = c .before .before .before .before .before .before in
-    let header = visit .before .before .before .before in
+    let header = visit .before .before .before .before .before in
     let sound = header .before .before in
     let value = sound .before .before in
     let three = value .before in
     let two = three .before .before in
-    let one = two .before .before in
-    let s = one .before .before .before .before .before .before .before .before in
-    visit-refused _ _ _ _ _ _ _ _ _ _ _ _ (s .pre .1 .1 .1) (rises one) (held two) (three .before .u32-at .result) (three .before .u32-at .ensures .value)
+    let s = start (two .before .before .before) in
+    visit-refused _ _ _ _ _ _ _ _ _ _ _ _ (s .pre .1 .1 .1 .1) (passed two .0) (passed two .1) (three .before .u32-at .result) (three .before .u32-at .ensures .value)
     (three .if3 .left)
-    (same-value _ _ _ _ _ _ (sound .enum-told .given .1) (value .check-value .ensures)) (header .u64-at .result) (header .u64-at .ensures .value)
+    (same-value _ _ _ _ _ (sound .enum-told .given .1) (value .check-value .ensures _ (s .pre .1 .0 .known .mapped) (s .pre .1 .0 .known .marked))) (header .u64-at .result) (header .u64-at .ensures .value)
     (same-visit (part-between (now (s .args .segment)) (s .args .name .at) (s .args .name .size)) (c .enum-told2 .given .1) (visit .visit-entry .ensures))
 
 same-length-3 : tie.Need-same-length-3
@@ -128,16 +142,15 @@ same-length-4 c = search needs
 returns-6 : tie.Need-returns-6
 returns-6 c =
     let visit = c .before .before .before .before .before .before .before in
-    let header = visit .before .before .before .before in
+    let header = visit .before .before .before .before .before in
     let sound = header .before .before in
     let value = sound .before .before in
     let three = value .before in
     let two = three .before .before in
-    let one = two .before .before in
-    let s = one .before .before .before .before .before .before .before .before in
-    visited _ _ _ _ _ _ _ _ _ _ _ _ (s .pre .1 .1 .1) (rises one) (held two) (three .before .u32-at .result) (three .before .u32-at .ensures .value)
+    let s = start (two .before .before .before) in
+    visited _ _ _ _ _ _ _ _ _ _ _ _ (s .pre .1 .1 .1 .1) (passed two .0) (passed two .1) (three .before .u32-at .result) (three .before .u32-at .ensures .value)
     (three .if3 .left)
-    (same-value _ _ _ _ _ _ (sound .enum-told .given .1) (value .check-value .ensures)) (header .u64-at .result) (header .u64-at .ensures .value) _ _
+    (same-value _ _ _ _ _ (sound .enum-told .given .1) (value .check-value .ensures _ (s .pre .1 .0 .known .mapped) (s .pre .1 .0 .known .marked))) (header .u64-at .result) (header .u64-at .ensures .value) _ _
     (same-visit (part-between (now (s .args .segment)) (s .args .name .at) (s .args .name .size)) (c .before .objects .given .1) (visit .visit-entry .ensures))
 
 pub named-entry-spec : {M : Type 1} → statement M
@@ -146,7 +159,7 @@ named-entry-spec =
     (tie.spec
     name-below-requires
     returns
-    holds-requires
+    at-most-requires
     returns-2
     add-u32-at
     u32-at-requires

@@ -1,25 +1,28 @@
 -- The name, and with a sound one what follows it.
 use denote.Ref.{now}
-use Rattle.names.proofs.NameLaws.{same-read}
 use Rattle.symbol.specs.Entry.{NameSound}
-use Rattle.symbol.proofs.EntryLaws.{name-sound, name-refused}
+use Rattle.symbol.proofs.EntryLaws.{same-text, name-sound, name-refused}
 use borrow.Author.Needs.{needs}
 use Rattle.symbol.proofs.entry.one_entry.Statement.{statement}
 use Rattle.symbol.proofs.entry.one_entry.Tie as tie
 
+-- the function's start, where the name was read
+abbrev start : tie.After-name → tie.Start
+start c = c .before .before .before .before .before .before .before .before
+
 -- the entry's name
 named : (c : tie.After-n) →
-    let a = c .before .before .before .before .before .before .before .before .before .args in
+    let a = start (c .before .before) .args in
     NameSound (now (a .image)) (now (a .segment)) (a .group) (a .at) (record { at = c .before .before .before .u64-at .result; size = c .n .given .0 .0 })
 named c =
     let name = c .before .before in
-    name-sound _ _ _ _ _ _ (name .before .u64-at .ensures .value) (same-read (c .n .given .1) (name .name .ensures))
+    name-sound _ _ _ _ _ _ (name .before .u64-at .ensures .value) (same-text (c .n .given .1) (name .name .ensures _ (start name .pre .1 .0 .known .mapped)))
 
 u64-at-requires : tie.Need-u64-at-requires
 u64-at-requires c κs = search needs
 
 name-requires : tie.Need-name-requires
-name-requires c κs = search needs
+name-requires c κs = c .before .before .before .before .before .before .before .pre .1 .0 .known .last
 
 enum-known-f : tie.Need-enum-known-f
 enum-known-f c = search needs
@@ -31,14 +34,15 @@ enum-known-n : tie.Need-enum-known-n
 enum-known-n c = search needs
 
 named-entry-requires : tie.Need-named-entry-requires
-named-entry-requires c κs = let s = c .before .before .before .before .before .before .before .before .before .before .before .before in
-    (s .pre .0, (s .pre .1 .0, (s .pre .1 .1, named (c .before .before .before))))
+named-entry-requires c κs =
+    let s = start (c .before .before .before .before .before) in
+    (s .pre .0, (s .pre .1 .0, (s .pre .1 .1 .0, (s .pre .1 .1 .1, named (c .before .before .before)))))
 
 returns : tie.Need-returns
 returns c =
     let name = c .before .before .before .before in
     name-refused _ _ _ _ _ _ _ _ _ _ _ (name .before .u64-at .result) (name .before .u64-at .ensures .value) (c .before .before .f .given .0 .0) _
-    (c .fault-number .ensures) (same-read (c .before .before .f .given .1) (name .name .ensures) .value)
+    (c .fault-number .ensures) (same-text (c .before .before .f .given .1) (name .name .ensures _ (start name .pre .1 .0 .known .mapped)) .value)
 
 same-length : tie.Need-same-length
 same-length c = search needs

@@ -1,0 +1,5 @@
+pub mod AddLaws
+pub mod CellLaws
+pub mod CellWrites
+pub mod RangeLaws
+pub mod SearchLaws

@@ -1,0 +1,2 @@
+pub mod NulLaws
+pub mod Search

@@ -1,0 +1,92 @@
+-- The cells from c on are marked.
+use denote.Ref.{now}
+use Prim.Native.Nat.{_-_, _≤_}
+use mathlib.Core.List.{List}
+use mathlib.Core.Path.{_≡_, refl}
+use lib.ListN.{length, length-set}
+use Rattle.format.specs.Blocks.{Block}
+use Rattle.free_map.specs.FreeMap.{MapOf}
+use Rattle.string_ends.proofs.MarkLaws.{MarkedFrom, cell-of, marked-none, marked-before, marked-all}
+use borrow.Author.Needs.{needs}
+use native.Mathlib.Omega.{arith}
+use Rattle.string_ends.proofs.mark.Statement.{statement}
+use Rattle.string_ends.proofs.mark.Tie as tie
+
+abbrev Inv-loop : tie.InvT-loop
+Inv-loop segment map₀ c₀ map c =
+    (length map ≡ length map₀) × (c ≤ length map) × ((bs : List Block) → MapOf map₀ segment bs → MarkedFrom map segment bs c)
+
+abbrev μ-loop : tie.MeasureT-loop
+μ-loop segment map₀ c₀ map c = c
+
+loop-holds : tie.Need-loop-holds Inv-loop μ-loop
+loop-holds c =
+    let start = c .before .before in
+    (refl, omega arith, λ bs m. marked-none _ (now (start .args .segment)) bs (start .pre) m)
+
+cell-requires : tie.Need-cell-requires Inv-loop μ-loop
+cell-requires c κs = search needs
+
+ends-at-requires : tie.Need-ends-at-requires Inv-loop μ-loop
+ends-at-requires c κs = search needs
+
+sub-c : tie.Need-sub-c Inv-loop μ-loop
+sub-c c = search needs
+
+slice-read-remarked : tie.Need-slice-read-remarked Inv-loop μ-loop
+slice-read-remarked c = search needs
+
+remarked-requires : tie.Need-remarked-requires Inv-loop μ-loop
+remarked-requires c κs = search needs
+
+slice-write-map : tie.Need-slice-write-map Inv-loop μ-loop
+slice-write-map c = search needs
+
+loop-less : tie.Need-loop-less Inv-loop μ-loop
+loop-less c = search needs
+
+loop-again : tie.Need-loop-again Inv-loop μ-loop
+loop-again c =
+    let judged = c .before .before in
+    let l = judged .before .before .before .before .loop in
+    let seg = now (judged .before .before .before .before .before .before .before .args .segment) in
+    let same = length-set (l .map) (l .c - 1) (c .remarked .result) in
+    let made = c .remarked .result in (
+      omega (arith, same),
+      omega (arith, same),
+      λ bs m.
+          let rest : MarkedFrom (l .map) seg bs (l .c) = l .inv .2 bs m in
+          let here = cell-of (l .map) seg bs (l .c) (rest .bytes) (rest .marks (l .c) (omega arith)) in
+          let ends = judged .ends-at .ensures bs (rw (judged .before .cell .ensures) here) in
+          marked-before (l .map) seg bs (l .c) made (omega arith) (omega arith) rest (rw ends at (c .remarked .ensures)),
+    )
+
+same-length : tie.Need-same-length Inv-loop μ-loop
+same-length c = search needs
+
+returns : tie.Need-returns Inv-loop μ-loop
+returns c =
+    let l = c .before .loop in
+    let start = c .before .before .before .before in
+    let none : l .c ≡ 0 = omega arith in
+    λ bs m.
+    let made = rw none at (l .inv .2 bs m) in
+    (made .bytes, marked-all (l .map) (now (start .args .segment)) bs (omega arith) made)
+
+pub mark-spec : {M : Type 1} → statement M
+mark-spec =
+    tie.close
+    (tie.spec
+    Inv-loop
+    μ-loop
+    loop-holds
+    cell-requires
+    ends-at-requires
+    sub-c
+    slice-read-remarked
+    remarked-requires
+    slice-write-map
+    loop-less
+    loop-again
+    same-length
+    returns)
