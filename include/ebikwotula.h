@@ -8,7 +8,8 @@
  *
  * A call keeps no pointer, allocates nothing and has no state, so that calls are safe side by side as long as no slice that
  * one of them writes is lent to another. The stack that a call takes is bounded; what it takes in all, as measured, is given
- * below.
+ * below. The time of an audit, a mending and a report grows with the image's length, or a little faster, whatever the bytes;
+ * that of a lookup and a description with the length times the path's components, since for each of them a group is read anew.
  *
  * Words. A word is an unsigned number of 64 bits, written as 8 bytes, the lowest byte first, on every machine. Word k of
  * a slice is its bytes 8 * k to 8 * k + 7. A slice has as many words as it has whole eights of bytes. Every byte
@@ -26,7 +27,7 @@ extern "C" {
 
 /* The version of this header. It is raised with every change of a word, an answer, a limit or the stack, and not with a new
  * call; ebikwotula_version gives that of the library. */
-#define EBIKWOTULA_VERSION 4
+#define EBIKWOTULA_VERSION 5
 
 /* The limits: the length of an image, in bytes; the objects that are counted; the blocks that one walk enters; the length of
  * a path and of a component, in bytes; the dimensions of a dataset. */

@@ -1,6 +1,6 @@
 -- The version of what the C calls take and give.
 use Prim.Native.Nat.{ℕ}
 
--- raised with every change of a word, an answer or a limit
+-- raised with every change of a word, an answer, a limit or the stack
 abbrev pub version : ℕ
-version = 4
+version = 5
