@@ -18,17 +18,18 @@ use Rattle.walk.specs.Lent.{blocksOf, placesOf, handed}
 use Rattle.walk.proofs.BlockList.{length-blocksOf}
 use Rattle.laws.proofs.Simulation.{walked-done, walked-refused}
 use Rattle.ledger.specs.Links.{addressesOf}
-use Rattle.ledger.specs.Table.{linkedOf}
-use Rattle.ledger.specs.Report.{countedPlaces, Empty, Places, Readable, StoredRead}
+use Rattle.ledger.specs.Index.{indexWords}
+use Rattle.ledger.specs.Table.{linkedOf, Table}
+use Rattle.ledger.specs.Report.{countedPlaces, Empty, Copied, Readable, StoredRead}
 use Rattle.ledger.specs.declared.report.Ledger.{Ledger}
-use Rattle.ledger.proofs.TableLaws.{length-linkedOf}
-use Rattle.ledger.proofs.ReportLaws.{counted-law, empty-law, places-none}
+use Rattle.ledger.proofs.TableLaws.{length-linkedOf, table-none}
+use Rattle.ledger.proofs.ReportLaws.{counted-law, empty-law, counted-copied, readable-copied}
 use Rattle.superblock.specs.Superblock.{superblockOf}
 use Rattle.superblock.specs.declared.Superblock.{Superblock}
 use Rattle.object.specs.Object.{Bounded}
 use Rattle.object.specs.declared.object.ObjectRead.the-variants.{Done, Stopped}
 use Rattle.links.proofs.HeadersInside.{headers-inside}
-use Rattle.audit.specs.Audit.{refusedWith, Lists, ImageWalked, AuditedIs, AuditIs}
+use Rattle.audit.specs.Audit.{refusedWith, EmptyTable, Lists, ImageWalked, AuditedIs, AuditIs}
 use Rattle.audit.specs.declared.Audited.{Audited}
 use Rattle.walk.proofs.Handed.{handed-none}
 
@@ -55,7 +56,6 @@ module _ (im : List ℕ) (lent : ℕ) (ws addresses stored counts : List ℕ) wh
     reply = rw (e, handed-none lent ws);
     fits = omega arith;
     readable = none-readable im addresses;
-    addressesRest = λ h. absurd (omega arith);
     storedRest = λ h. absurd (omega arith);
     countsRest = λ h. absurd (omega arith);
   }
@@ -90,13 +90,16 @@ module _ (im ws : List ℕ) (s : Superblock) (count objects : ℕ) (ws₁ addres
   abbrev os : List Linked
   os = linkedOf objects addresses counts
 
+  abbrev table : Table addresses counts objects
+  table = w .ready .table refl
+
   pub ran : run im (s .«end_of_file») (placesOf (length ws)) (auditWalk (superblockOf s)) [] ≡ done os (blocksOf count ws₁)
   ran = walked-done ws ws₁ os count _ (w .walked)
 
   -- the stored counts lie inside the image
   pub readable : Bounded im s → Readable im addresses objects
   readable b = record {
-    listed = omega (arith, w .ready .places .fits, w .ready .places .addressesLong);
+    listed = omega (arith, table .fits, table .addressesLong);
     inside = λ k h.
         let i = headers-inside im (placesOf (length ws)) (superblockOf s) os (blocksOf count ws₁) ran k (rw length-linkedOf h) in
         omega (arith, rw (getD-addresses objects k addresses counts h) at i, b .2);
@@ -117,17 +120,19 @@ module _ (im ws : List ℕ) (s : Superblock) (count objects : ℕ) (ws₁ addres
       let o = run-opened im lent _ (superblockOf s) fit e ∙ ran in
       record {
         reply = rw (o, length-blocksOf, counted-law im objects addresses stored counts (r .read), list-is lent);
-        fits = w .ready .places .fits;
+        fits = table .fits;
         readable = readable b;
-        addressesRest = λ h k m. w .ready .places .addressesZero k m;
         storedRest = λ h k m. r .rest k m ∙ rw z (getD-zeros objectsMost k);
-        countsRest = λ h k m. w .ready .places .countsZero k m;
+        countsRest = λ h k m. table .countsZero k m;
       }
 
--- lists of zeros are places of no object, with room for every object's stored count
-module _ (addresses stored counts : List ℕ) (l : Lists addresses stored counts) where
-  pub lists-places : Places addresses counts 0
-  lists-places = rw (l .addressesEmpty, l .countsEmpty) (places-none objectsMost objectsMost (omega arith) (omega arith))
+-- zeros are an empty table, if there are enough
+pub empty-table : (n : ℕ) → indexWords ≤ n → EmptyTable (replicate n 0)
+empty-table n h = record { long = rw length-replicate h; zeros = rw length-replicate refl }
+
+-- lists of zeros are a table of no object, with room for every object's stored count
+pub lists-table : (addresses stored counts : List ℕ) → Lists addresses stored counts → Table addresses counts 0
+lists-table addresses stored counts l = table-none addresses counts (l .addressesEmpty .long) (l .addressesEmpty .zeros) (l .countsEmpty)
 
 pub stored-room : (addresses stored counts : List ℕ) (n : ℕ) → Lists addresses stored counts → n ≤ objectsMost → n ≤ length stored
 stored-room addresses stored counts n l h = rw (l .storedEmpty, length-replicate) h
@@ -148,14 +153,15 @@ module _ (im : List ℕ) (lent : ℕ) (ws addresses stored counts : List ℕ) (r
         countsRest = λ k m. rw (e .countsZero) (getD-zeros objectsMost k);
       }
 
-  pub full-reply : 0 < r .objects →
-      let l : Ledger = record { objects = r .objects; addresses = addresses; stored = stored; «true_counts» = counts } in
+  -- the addresses are copied out of the table
+  pub full-reply : 0 < r .objects → (zeros copy : List ℕ) → zeros ≡ replicate objectsMost 0 → Copied addresses zeros (r .objects) copy →
+      let l : Ledger = record { objects = r .objects; addresses = copy; stored = stored; «true_counts» = counts } in
       AuditIs im lent ws (record { number = r .number; met = r .met; «block_count» = r .«block_count»; ledger = l })
-  full-reply z = record {
-    reply = h .reply;
+  full-reply z zeros copy e c = record {
+    reply = rw (counted-copied addresses stored counts zeros copy (r .objects) c) (h .reply);
     fits = h .fits;
-    readable = h .readable;
-    addressesRest = h .addressesRest z;
+    readable = readable-copied im addresses zeros copy (r .objects) c (rw (e, length-replicate) (h .fits)) (h .readable);
+    addressesRest = λ k m. c .rest k m ∙ rw e (getD-zeros objectsMost k);
     storedRest = h .storedRest z;
     countsRest = h .countsRest z;
   }

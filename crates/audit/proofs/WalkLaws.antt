@@ -1,7 +1,7 @@
 -- The audit's walk: the superblock, then all objects.
 use Prim.Native.Nat.{ℕ, zero, suc, _≤_, _<_, _^_}
 use mathlib.Core.List.{List, [], _∷_}
-use mathlib.Core.Path.{_≡_, refl, ap, _∙_}
+use mathlib.Core.Path.{_≡_, ap, _∙_}
 use native.Mathlib.Omega.{arith}
 use lib.ListN.{length, replicate, length-replicate}
 use Rattle.format.specs.Limits.{objectsMost}
@@ -15,12 +15,8 @@ use Rattle.walk.specs.Lent.{blocksOf, lengthSum, placesOf, Lent, ended, stopped
 use Rattle.laws.proofs.SumOfLengths.{grown-apart, grown-inside}
 use Rattle.laws.proofs.Simulation.{Simulation, start, returned, walked-done, callee-done, callee-stopped}
 use Rattle.ledger.specs.Links.{linkSum}
-use Rattle.ledger.specs.Table.{linkedOf, Table, Started}
-use Rattle.ledger.specs.Index.{tableWords}
-use Rattle.ledger.specs.Report.{Places, Copied}
+use Rattle.ledger.specs.Table.{linkedOf, Started}
 use Rattle.ledger.proofs.LedgerLaws.{sum-first}
-use Rattle.ledger.proofs.TableLaws.{table-none}
-use Rattle.ledger.proofs.ReportLaws.{places-copied, ledger-copied}
 use Rattle.sharing.specs.Sharing.{foundOf}
 use Rattle.superblock.specs.Superblock.{superblockOf}
 use Rattle.superblock.specs.declared.Superblock.{Superblock}
@@ -28,7 +24,7 @@ use Rattle.object.proofs.ObjectLaws.{room-lent, listed-ready}
 use Rattle.object.specs.Object.{Listed, FoundWalked}
 use Rattle.object.specs.declared.object.ObjectRead.{ObjectRead}
 use Rattle.object.specs.declared.object.ObjectRead.the-variants.{Done, Stopped}
-use Rattle.audit.specs.Audit.{TableWalked, ImageWalked}
+use Rattle.audit.specs.Audit.{ImageWalked}
 
 -- the superblock, where it was entered, is the only block
 one-entered : (answer : ℕ) (f : ℕ → Refusal) (b : Block) (bs : List Block) →
@@ -48,7 +44,7 @@ module _ (im ws : List ℕ) (s : Superblock) (room : ℕ) (is : room ≡ placesO
 
   -- the superblock can't be entered
   pub superblock-stopped : (addresses counts : List ℕ) (x : Refusal) → Walked ws ws₁ (stopped x) (run im eof room (superblockWalk (superblockOf s)) []) →
-      TableWalked im ws s ws₁ addresses counts (Stopped x)
+      ImageWalked im ws s ws₁ addresses counts (Stopped x)
   unfolding auditWalk blocksOf
   superblock-stopped addresses counts x h = record {
     walked = rw (← is) (callee-stopped ws₁ (superblockWalk (superblockOf s)) _
@@ -96,7 +92,7 @@ module _ (im ws : List ℕ) (s : Superblock) (room : ℕ) (is : room ≡ placesO
 
       pub objects-read : (ws₂ addresses₂ counts₂ marks₂ : List ℕ) (r : ObjectRead) → length ws₂ ≡ length ws₁ →
           FoundWalked im ws₁ addresses counts marks s room (objectsWalk (superblockOf s) objectsMost 0) n 1 ws₂ addresses₂ counts₂ marks₂ r →
-          TableWalked im ws s ws₂ addresses₂ counts₂ r
+          ImageWalked im ws s ws₂ addresses₂ counts₂ r
       unfolding blocksOf
       objects-read ws₂ addresses₂ counts₂ marks₂ (Done count objects) long l =
           let k = rw root-found at (l .walked) in
@@ -104,29 +100,3 @@ module _ (im ws : List ℕ) (s : Superblock) (room : ℕ) (is : room ≡ placesO
       objects-read ws₂ addresses₂ counts₂ marks₂ (Stopped x) long l =
           let k = rw root-found at (l .walked) in
           record { walked = rw (← is) (callee-stopped ws₂ _ _ at-objects k); ready = tt }
-
--- Zeros are a table of no object.
-pub table-empty : (addresses counts : List ℕ) → Places addresses counts 0 → Table (replicate tableWords 0) counts 0
-table-empty addresses counts p = table-none tableWords counts (omega arith) (p .countsLong) (λ k. p .countsZero k (omega arith))
-
--- What was walked with a table of the walk's own: a refusal, or objects whose addresses are copied to their places.
-module _ (im ws : List ℕ) (s : Superblock) (ws′ table counts : List ℕ) where
-  pub stopped-out : (addresses : List ℕ) (x : Refusal) → TableWalked im ws s ws′ table counts (Stopped x) →
-      ImageWalked im ws s ws′ addresses counts (Stopped x)
-  stopped-out addresses x w = record { walked = w .walked; ready = tt }
-
-  pub objects-room : (addresses counts₀ : List ℕ) (count objects : ℕ) → TableWalked im ws s ws′ table counts (Done count objects) →
-      Places addresses counts₀ 0 → (objects ≤ length table) × (objects ≤ length addresses)
-  objects-room addresses counts₀ count objects w p =
-      let t = w .ready .table refl in
-      (omega (arith, t .fits, t .addressesLong), omega (arith, t .fits, p .addressesLong))
-
-  pub handed-out : (addresses counts₀ addresses′ : List ℕ) (count objects : ℕ) → TableWalked im ws s ws′ table counts (Done count objects) →
-      Places addresses counts₀ 0 → Copied table addresses objects addresses′ → ImageWalked im ws s ws′ addresses′ counts (Done count objects)
-  handed-out addresses counts₀ addresses′ count objects w p c = record {
-    walked = rw (ledger-copied table counts addresses counts₀ addresses′ objects (w .ready .table refl) p c) (w .walked);
-    ready = record {
-      lent = w .ready .lent;
-      places = places-copied table counts addresses counts₀ addresses′ objects (w .ready .table refl) p c;
-    };
-  }

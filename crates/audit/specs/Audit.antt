@@ -10,14 +10,15 @@ use Rattle.format.specs.Walk.{answerOf, metOf, run}
 use Rattle.format.specs.Ledger.{Linked}
 use Rattle.format.specs.Audit.{auditWalk}
 use Rattle.format.specs.Answers.{AuditReply, audit}
-use Rattle.walk.specs.Lent.{placesOf, Lent, Ended, ended, stopped, Walked}
+use Rattle.walk.specs.Lent.{placesOf, Ended, ended, stopped, Walked}
 use Rattle.superblock.specs.Superblock.{superblockOf}
 use Rattle.superblock.specs.declared.Superblock.{Superblock}
+use Rattle.ledger.specs.Index.{indexWords}
 use Rattle.ledger.specs.Table.{linkedOf}
 use Rattle.group.specs.Group.{Ready}
 use Rattle.object.specs.declared.object.ObjectRead.{ObjectRead}
 use Rattle.object.specs.declared.object.ObjectRead.the-variants.{Done, Stopped}
-use Rattle.ledger.specs.Report.{countedPlaces, countedOf, Places, Readable}
+use Rattle.ledger.specs.Report.{countedPlaces, countedOf, Readable}
 use Rattle.audit.specs.declared.Audited.{Audited}
 use Rattle.audit.specs.declared.Reply.{Reply}
 
@@ -35,27 +36,18 @@ ReadyIf ws addresses counts eof room (Done count objects) = Ready true ws addres
 ReadyIf ws addresses counts eof room (Stopped r) = Unit {0}
 
 -- the walk of an opened image was walked, in the whole of the list lent, with this table of objects
-pub record TableWalked (im ws : List ℕ) (s : Superblock) (ws′ addresses′ counts′ : List ℕ) (r : ObjectRead) : Type 0 where
+pub record ImageWalked (im ws : List ℕ) (s : Superblock) (ws′ addresses′ counts′ : List ℕ) (r : ObjectRead) : Type 0 where
   pub walked : Walked ws ws′ (ledgerEnd addresses′ counts′ r) (run im (s .«end_of_file») (placesOf (length ws)) (auditWalk (superblockOf s)) [])
   pub ready : ReadyIf ws′ addresses′ counts′ (s .«end_of_file») (placesOf (length ws)) r
 
--- the blocks stand in the working list, and the objects in the places that are handed out
-pub record HandedOut (ws addresses counts : List ℕ) (room count objects : ℕ) : Type 0 where
-  pub lent : Lent ws count room
-  pub places : Places addresses counts objects
-
-abbrev pub HandedOutIf : List ℕ → List ℕ → List ℕ → ℕ → ObjectRead → Type 0
-HandedOutIf ws addresses counts room (Done count objects) = HandedOut ws addresses counts room count objects
-HandedOutIf ws addresses counts room (Stopped r) = Unit {0}
-
--- the walk of an opened image was walked, in the whole of the list lent, and its objects were handed out
-pub record ImageWalked (im ws : List ℕ) (s : Superblock) (ws′ addresses′ counts′ : List ℕ) (r : ObjectRead) : Type 0 where
-  pub walked : Walked ws ws′ (ledgerEnd addresses′ counts′ r) (run im (s .«end_of_file») (placesOf (length ws)) (auditWalk (superblockOf s)) [])
-  pub ready : HandedOutIf ws′ addresses′ counts′ (placesOf (length ws)) r
+-- a list of zeros with room for all addresses and for their order
+pub record EmptyTable (addresses : List ℕ) : Type 0 where
+  pub long : indexWords ≤ length addresses
+  pub zeros : addresses ≡ replicate (length addresses) 0
 
 -- "kept in a table of 256 places that starts empty"
 pub record Lists (addresses stored counts : List ℕ) : Type 0 where
-  pub addressesEmpty : addresses ≡ replicate objectsMost 0
+  pub addressesEmpty : EmptyTable addresses
   pub storedEmpty : stored ≡ replicate objectsMost 0
   pub countsEmpty : counts ≡ replicate objectsMost 0
 
@@ -74,12 +66,11 @@ replyOf ws addresses stored counts r = record {
 }
 
 -- The reply is the definition's, its objects have places, and the count of each lies inside the image. Where there are objects, all other
--- places are zeros; no reply shows what a refusal leaves there.
+-- counts are zeros; no reply shows what a refusal leaves there, nor what stands behind the addresses.
 pub record AuditedIs (im : List ℕ) (lent : ℕ) (ws addresses stored counts : List ℕ) (r : Audited) : Type 0 where
   pub reply : replyOf ws addresses stored counts r ≡ audit im lent
   pub fits : r .objects ≤ objectsMost
   pub readable : Readable im addresses (r .objects)
-  pub addressesRest : 0 < r .objects → ZerosFrom (r .objects) addresses
   pub storedRest : 0 < r .objects → ZerosFrom (r .objects) stored
   pub countsRest : 0 < r .objects → ZerosFrom (r .objects) counts
 

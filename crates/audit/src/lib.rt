@@ -21,9 +21,8 @@ ghost use lib.ListN.{length};
 ghost use Rattle.format.specs.Blocks.{roomOf};
 ghost use Rattle.walk.specs.Lent.{placesOf, handed};
 ghost use Rattle.ledger.specs.Table.{Table};
-ghost use Rattle.ledger.specs.Report.{Places};
 ghost use Rattle.object.specs.Object.{Bounded};
-ghost use Rattle.audit.specs.Audit.{refusedWith, TableWalked, ImageWalked, Lists, AuditedIs, AuditIs};
+ghost use Rattle.audit.specs.Audit.{refusedWith, ImageWalked, Lists, AuditedIs, AuditIs};
 
 // The answer, with 6 the first block met, and the numbers of blocks entered and of objects found, 0 where the answer isn't.
 pub struct Audited {
@@ -47,29 +46,29 @@ fn refused(refusal: Refusal) -> Audited
 
 // The audit's walk, with the table of objects lent: the superblock, then all objects from the root on. The superblock's root entry is
 // the root's first link, and nothing else is known of any object yet.
-fn walk_table(
+pub fn walk_image(
     image: &[u8],
     list: &mut [u64],
-    objects_table: &mut [u64],
+    addresses: &mut [u64],
     true_counts: &mut [u32],
     superblock: Superblock,
 ) -> ObjectRead
     requires { ⌜ Bounded (now image) superblock ⌝ }
-    requires { ⌜ Table (now «objects_table») (now «true_counts») 0 ⌝ }
+    requires { ⌜ Table (now addresses) (now «true_counts») 0 ⌝ }
     ensures { λ r.
-        ⌜ TableWalked (now (image .entry)) (now (list .entry)) superblock (now (list .exit)) (now («objects_table» .exit)) (now («true_counts» .exit)) r ⌝ }
+        ⌜ ImageWalked (now (image .entry)) (now (list .entry)) superblock (now (list .exit)) (now (addresses .exit)) (now («true_counts» .exit)) r ⌝ }
 {
     let room = blocks::places(list.len());
     match superblock::enter_superblock(superblock, list, room) {
         Entry::Refused(x) => ObjectRead::Stopped(x),
         Entry::Entered(n) => {
             let root = superblock.root;
-            table::start(objects_table, true_counts, root);
+            table::start(addresses, true_counts, root);
             let mut marks = [0u8; OBJECTS_MOST];
             objects::read(
                 image,
                 list,
-                objects_table,
+                addresses,
                 true_counts,
                 &mut marks,
                 superblock,
@@ -81,32 +80,8 @@ fn walk_table(
     }
 }
 
-// The audit's walk. The table of objects has their order and guesses behind the addresses: so it is the walk's own, and the addresses are
-// copied out of it.
-pub fn walk_image(
-    image: &[u8],
-    list: &mut [u64],
-    addresses: &mut [u64],
-    true_counts: &mut [u32],
-    superblock: Superblock,
-) -> ObjectRead
-    requires { ⌜ Bounded (now image) superblock ⌝ }
-    requires { ⌜ Places (now addresses) (now «true_counts») 0 ⌝ }
-    ensures { λ r.
-        ⌜ ImageWalked (now (image .entry)) (now (list .entry)) superblock (now (list .exit)) (now (addresses .exit)) (now («true_counts» .exit)) r ⌝ }
-{
-    let mut objects_table = [0u64; TABLE_WORDS];
-    match walk_table(image, list, &mut objects_table, true_counts, superblock) {
-        ObjectRead::Stopped(x) => ObjectRead::Stopped(x),
-        ObjectRead::Done { count, objects } => {
-            report::copy_addresses(&objects_table, addresses, objects);
-            ObjectRead::Done { count, objects }
-        }
-    }
-}
-
-// The audit in a working list, with the ledger's arrays lent: its objects stand in them, and its blocks at the head of the list. A
-// refusal leaves in the list and in the counts what it came to.
+// The audit in a working list, with the table of objects and the stored counts lent: its objects stand at their heads, and its blocks at
+// the head of the list. A refusal leaves in the list and in the table what it came to.
 pub fn audit_into(
     image: &[u8],
     list: &mut [u64],
@@ -146,17 +121,24 @@ pub struct Reply {
     pub ledger: Ledger,
 }
 
-// The audit of an image in a working list, which has its blocks at its head.
+// The audit of an image in a working list, which has its blocks at its head. The ledger has the addresses alone, without what stands
+// behind them in the table.
 pub fn audit_in(image: &[u8], list: &mut [u64]) -> Reply
     ensures { λ r. ⌜ r .«block_count» ≤ placesOf (length (now (list .entry))) ⌝ }
     ensures { λ r.
         ⌜ ((lent : ℕ) → roomOf lent ≡ placesOf (length (now (list .entry))) → AuditIs (now (image .entry)) lent
         (handed lent (r .«block_count») (now (list .exit))) r) ⌝ }
 {
-    let mut addresses = [0u64; OBJECTS_MOST];
+    let mut objects_table = [0u64; TABLE_WORDS];
     let mut stored = [0u32; OBJECTS_MOST];
     let mut true_counts = [0u32; OBJECTS_MOST];
-    let r = audit_into(image, list, &mut addresses, &mut stored, &mut true_counts);
+    let r = audit_into(
+        image,
+        list,
+        &mut objects_table,
+        &mut stored,
+        &mut true_counts,
+    );
     let number = r.number;
     let met = r.met;
     let block_count = r.block_count;
@@ -169,6 +151,8 @@ pub fn audit_in(image: &[u8], list: &mut [u64]) -> Reply
             ledger: report::empty(),
         };
     }
+    let mut addresses = [0u64; OBJECTS_MOST];
+    report::copy_addresses(&objects_table, &mut addresses, objects);
     Reply {
         number,
         met,

@@ -3,6 +3,8 @@ use format::OBJECTS_MOST;
 use format::answers;
 use front::FEW_BLOCKS;
 use front::FEW_WORDS;
+use ledger::search::INDEX_WORDS;
+use ledger::search::TABLE_WORDS;
 use walk::blocks::WORK_WORDS;
 use walk::blocks::work_words;
 ghost use mathlib.Core.Path.{_≡_};
@@ -13,6 +15,7 @@ ghost use Rattle.format.specs.Bytes.{overwrite};
 ghost use Rattle.format.specs.Limits.{objectsMost, blocksMost};
 ghost use Rattle.format.specs.Front.{wordBytes, paddedBytes, objectWords, CReply, cAudit};
 ghost use Rattle.ledger.specs.Report.{countedPlaces};
+ghost use Rattle.audit.specs.Audit.{EmptyTable};
 ghost use Rattle.front_audit.specs.Room.{Roomy};
 ghost use Rattle.front_audit.specs.With.{AuditsWith};
 ghost use Rattle.front.specs.Few.{fewBlocks};
@@ -51,28 +54,29 @@ fn write_reply(
     words::clear_from(reply, 16 + 24 * i);
 }
 
-// The audit with room for so many blocks in a list.
+// The audit with room for so many blocks in a list, and with the table of objects in another.
 fn audit_with(
     image: &[u8],
     list: &mut [u64],
+    addresses: &mut [u64],
     blocks: &mut [u8],
     reply: &mut [u8],
     room: usize,
 ) -> u32
     requires { ⌜ workWords room ≤ length (now list) ⌝ }
+    requires { ⌜ EmptyTable (now addresses) ⌝ }
     requires { ⌜ 4 * room ≤ length (now blocks) / 8 ⌝ }
     requires { ⌜ 2 + 3 * objectsMost ≤ length (now reply) / 8 ⌝ }
     ensures { λ r. ⌜ AuditsWith (now (image .entry)) (length (now (blocks .entry))) (length (now (reply .entry))) room
         (record { number = r; list = now (blocks .exit); reply = now (reply .exit) }) ⌝ }
 {
-    let mut addresses = [0u64; OBJECTS_MOST];
     let mut stored = [0u32; OBJECTS_MOST];
     let mut true_counts = [0u32; OBJECTS_MOST];
     let n = work_words(room);
     let r = audit::audit_into(
         image,
         &mut list[..n],
-        &mut addresses,
+        addresses,
         &mut stored,
         &mut true_counts,
     );
@@ -85,14 +89,15 @@ fn audit_with(
         reply,
         r.block_count,
         r.objects,
-        &addresses,
+        addresses,
         &stored,
         &true_counts,
     );
     0
 }
 
-// The audit with a list for few blocks, and with one for all.
+// The audit with a list for few blocks and a table without guesses, and with both for all. A small file is audited as quickly without
+// guesses, and the shorter table stays in the processor's nearest memory.
 fn audit_few(image: &[u8], blocks: &mut [u8], reply: &mut [u8], room: usize) -> u32
     requires { ⌜ room ≤ fewBlocks ⌝ }
     requires { ⌜ 4 * room ≤ length (now blocks) / 8 ⌝ }
@@ -101,7 +106,8 @@ fn audit_few(image: &[u8], blocks: &mut [u8], reply: &mut [u8], room: usize) -> 
         (record { number = r; list = now (blocks .exit); reply = now (reply .exit) }) ⌝ }
 {
     let mut list = [0u64; FEW_WORDS];
-    audit_with(image, &mut list, blocks, reply, room)
+    let mut addresses = [0u64; INDEX_WORDS];
+    audit_with(image, &mut list, &mut addresses, blocks, reply, room)
 }
 
 fn audit_all(image: &[u8], blocks: &mut [u8], reply: &mut [u8], room: usize) -> u32
@@ -112,7 +118,8 @@ fn audit_all(image: &[u8], blocks: &mut [u8], reply: &mut [u8], room: usize) -> 
         (record { number = r; list = now (blocks .exit); reply = now (reply .exit) }) ⌝ }
 {
     let mut list = [0u64; WORK_WORDS];
-    audit_with(image, &mut list, blocks, reply, room)
+    let mut addresses = [0u64; TABLE_WORDS];
+    audit_with(image, &mut list, &mut addresses, blocks, reply, room)
 }
 
 // The audit with room for so many blocks, in the smaller list that has it.

@@ -2,6 +2,8 @@
 use format::OBJECTS_MOST;
 use front::FEW_BLOCKS;
 use front::FEW_WORDS;
+use ledger::search::INDEX_WORDS;
+use ledger::search::TABLE_WORDS;
 use report::Reported;
 use walk::blocks::WORK_WORDS;
 use walk::blocks::work_words;
@@ -11,6 +13,7 @@ ghost use lib.ListN.{length};
 ghost use Rattle.format.specs.Limits.{blocksMost};
 ghost use Rattle.format.specs.Front.{paddedBytes, CReply};
 ghost use Rattle.format.specs.Report.{cReport};
+ghost use Rattle.audit.specs.Audit.{EmptyTable};
 ghost use Rattle.front.specs.Few.{fewBlocks};
 ghost use Rattle.front_report.specs.With.{wordsOf, ReportsWith};
 ghost use Rattle.walk.specs.Lent.{workWords};
@@ -39,28 +42,30 @@ fn write_reply(reply: &mut [u8], reported: Reported)
     words::spill(&words, reply);
 }
 
-// The report with room for so many blocks in a list. It returns the audit's answer, which shows whether there was room.
+// The report with room for so many blocks in a list, and with the table of objects in another. It returns the audit's answer, which shows
+// whether there was room.
 fn report_with(
     image: &[u8],
     list: &mut [u64],
+    addresses: &mut [u64],
     blocks: &mut [u8],
     reply: &mut [u8],
     room: usize,
 ) -> u32
     requires { ⌜ workWords room ≤ length (now list) ⌝ }
+    requires { ⌜ EmptyTable (now addresses) ⌝ }
     requires { ⌜ 4 * room ≤ length (now blocks) / 8 ⌝ }
     requires { ⌜ 8 ≤ length (now reply) / 8 ⌝ }
     ensures { λ r. ⌜ ReportsWith (now (image .entry)) (length (now (blocks .entry))) (length (now (reply .entry))) room
         (record { answer = r; list = now (blocks .exit); reply = now (reply .exit) }) ⌝ }
 {
-    let mut addresses = [0u64; OBJECTS_MOST];
     let mut stored = [0u32; OBJECTS_MOST];
     let mut true_counts = [0u32; OBJECTS_MOST];
     let n = work_words(room);
     let r = report::report_into(
         image,
         &mut list[..n],
-        &mut addresses,
+        addresses,
         &mut stored,
         &mut true_counts,
     );
@@ -70,7 +75,7 @@ fn report_with(
     r.answer as u32
 }
 
-// The report with a list for few blocks, and with one for all.
+// The report with a list for few blocks and a table without guesses, and with both for all, as the audit has them.
 fn report_few(image: &[u8], blocks: &mut [u8], reply: &mut [u8], room: usize) -> u32
     requires { ⌜ room ≤ fewBlocks ⌝ }
     requires { ⌜ 4 * room ≤ length (now blocks) / 8 ⌝ }
@@ -79,7 +84,8 @@ fn report_few(image: &[u8], blocks: &mut [u8], reply: &mut [u8], room: usize) ->
         (record { answer = r; list = now (blocks .exit); reply = now (reply .exit) }) ⌝ }
 {
     let mut list = [0u64; FEW_WORDS];
-    report_with(image, &mut list, blocks, reply, room)
+    let mut addresses = [0u64; INDEX_WORDS];
+    report_with(image, &mut list, &mut addresses, blocks, reply, room)
 }
 
 fn report_all(image: &[u8], blocks: &mut [u8], reply: &mut [u8], room: usize) -> u32
@@ -90,7 +96,8 @@ fn report_all(image: &[u8], blocks: &mut [u8], reply: &mut [u8], room: usize) ->
         (record { answer = r; list = now (blocks .exit); reply = now (reply .exit) }) ⌝ }
 {
     let mut list = [0u64; WORK_WORDS];
-    report_with(image, &mut list, blocks, reply, room)
+    let mut addresses = [0u64; TABLE_WORDS];
+    report_with(image, &mut list, &mut addresses, blocks, reply, room)
 }
 
 // The report with room for so many blocks, in the smaller list that has it.

@@ -55,7 +55,7 @@ contentsWalk leafK internalK tree o visit found = do
 
 -- how many cells the shorter maps have
 unfoldable pub fewCells : ℕ
-fewCells = 1024
+fewCells = 128
 
 unfoldable pub manyCells : ℕ
 manyCells = 8192

@@ -14,8 +14,8 @@ ghost use Rattle.format.specs.Limits.{imageMost};
 ghost use Rattle.heap.specs.Header.{SegmentInside};
 ghost use Rattle.group.specs.Group.{Settings, Ready, ContentsAre, fewCells, manyCells};
 
-// So many cells of 16 bytes: for segments below 16 KiB, for those below 128 KiB, and for all.
-const FEW_CELLS: usize = 1024;
+// So many cells of 16 bytes: for segments below 2 KiB, for those below 128 KiB, and for all.
+const FEW_CELLS: usize = 128;
 
 const MANY_CELLS: usize = 8192;
 

@@ -4,16 +4,15 @@ use mathlib.Core.List.{List, []}
 use mathlib.Core.Path.{_≡_, refl, ap, sym, subst, _∙_}
 use native.Mathlib.Omega.{arith}
 use borrow.Author.Count.{below-more}
-use lib.ListN.{length, getD, set, drop, replicate, length-set, length-replicate}
+use lib.ListN.{length, getD, set, drop, length-set}
 use lib.Seq.{getD-set-same, getD-set-other}
-use Rattle.format.specs.Limits.{objectsMost}
 use Rattle.format.specs.Bytes.{u32}
 use Rattle.format.specs.Audit.{countedIn}
 use Rattle.walk.specs.Numbers.{Number}
-use Rattle.ledger.specs.Table.{linkedOf, Table}
-use Rattle.ledger.specs.Report.{countedPlaces, countedOf, Empty, Places, Copied, StoredRead}
+use Rattle.ledger.specs.Table.{linkedOf}
+use Rattle.ledger.specs.Report.{countedPlaces, countedOf, Empty, Copied, Readable, StoredRead}
 use Rattle.ledger.specs.declared.report.Ledger.{Ledger}
-use Rattle.ledger.proofs.TableLaws.{getD-tail, linked-same, zeros-at}
+use Rattle.ledger.proofs.TableLaws.{getD-tail}
 
 -- with the stored counts read, the places are the objects that the definition reports
 pub counted-law : (im : List ℕ) (n : ℕ) (xs ss ts : List ℕ) → ((k : ℕ) → k < n → getD ss k 0 ≡ u32 im (getD xs k 0 + 4)) →
@@ -43,19 +42,18 @@ stored-more im xs ss ss′ i v r h n = record {
 pub stored-all : (im xs ss ss′ : List ℕ) (i n : ℕ) → StoredRead im xs i ss ss′ → i ≡ n → StoredRead im xs n ss ss′
 stored-all im xs ss ss′ i n r e = subst (λ (k : ℕ). StoredRead im xs k ss ss′) e r
 
+-- objects are known by the first addresses alone
+counted-same : (n : ℕ) (xs xs′ ss ts : List ℕ) → ((k : ℕ) → k < n → getD xs′ k 0 ≡ getD xs k 0) → countedPlaces n xs′ ss ts ≡ countedPlaces n xs ss ts
+unfolding countedPlaces
+counted-same zero xs xs′ ss ts h = refl
+counted-same (suc n) xs xs′ ss ts h =
+    let i : countedPlaces n (drop 1 xs′) (drop 1 ss) (drop 1 ts) ≡ countedPlaces n (drop 1 xs) (drop 1 ss) (drop 1 ts) =
+    counted-same n (drop 1 xs) (drop 1 xs′) (drop 1 ss) (drop 1 ts) (λ k l. getD-tail xs′ k ∙ h (suc k) (omega arith) ∙ sym (getD-tail xs k)) in
+    rw (h 0 (omega arith), i)
+
 pub empty-law : (l : Ledger) → Empty l → countedOf l ≡ []
 unfolding countedPlaces
 empty-law l e = rw (e .none)
-
--- lists of zeros are places of no object
-pub places-none : (n m : ℕ) → objectsMost ≤ n → objectsMost ≤ m → Places (replicate n 0) (replicate m 0) 0
-places-none n m h k = record {
-  fits = omega arith;
-  addressesLong = rw length-replicate h;
-  countsLong = rw length-replicate k;
-  addressesZero = λ i q. zeros-at n i;
-  countsZero = λ i q. zeros-at m i;
-}
 
 -- no address is copied yet; then one more
 pub copied-none : (xs ys : List ℕ) → Copied xs ys 0 ys
@@ -71,16 +69,9 @@ copied-more xs ys ys′ i c h = record {
 pub copied-all : (xs ys ys′ : List ℕ) (i n : ℕ) → Copied xs ys i ys′ → i ≡ n → Copied xs ys n ys′
 copied-all xs ys ys′ i n c e = subst (λ (k : ℕ). Copied xs ys k ys′) e c
 
--- the addresses of a table were copied to places of no object, which then hold the same ledger
-module _ (xs ts ys us ys′ : List ℕ) (n : ℕ) (t : Table xs ts n) (p : Places ys us 0) (c : Copied xs ys n ys′) where
-  pub places-copied : Places ys′ ts n
-  places-copied = record {
-    fits = t .fits;
-    addressesLong = rw (c .long) (p .addressesLong);
-    countsLong = t .countsLong;
-    addressesZero = λ k h. c .rest k h ∙ p .addressesZero k (omega arith);
-    countsZero = t .countsZero;
-  }
+-- the objects are the same with the addresses copied, and the counts can be read by these
+pub counted-copied : (xs ss ts ys ys′ : List ℕ) (n : ℕ) → Copied xs ys n ys′ → countedPlaces n ys′ ss ts ≡ countedPlaces n xs ss ts
+counted-copied xs ss ts ys ys′ n c = counted-same n xs ys′ ss ts (c .copied)
 
-  pub ledger-copied : linkedOf n ys′ ts ≡ linkedOf n xs ts
-  ledger-copied = linked-same n xs ys′ ts (c .copied)
+pub readable-copied : (im xs ys ys′ : List ℕ) (n : ℕ) → Copied xs ys n ys′ → n ≤ length ys → Readable im xs n → Readable im ys′ n
+readable-copied im xs ys ys′ n c h r = record { listed = rw (c .long) h; inside = λ k l. rw (c .copied k l) (r .inside k l) }

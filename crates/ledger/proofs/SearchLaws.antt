@@ -1,5 +1,5 @@
 -- Laws of the search for an address: the halving, and what the place and a guess decide.
-use Prim.Native.Nat.{ℕ, _+_, _-_, _*_, _/_, _≤_, _<_}
+use Prim.Native.Nat.{ℕ, _+_, _-_, _/_, _≤_, _<_}
 use mathlib.Core.List.{List}
 use mathlib.Core.Logic.{⊎-elim}
 use mathlib.Core.Path.{_≡_, sym, ap, _∙_}
@@ -9,12 +9,12 @@ use lib.ListN.{length, getD}
 use Rattle.format.specs.Limits.{objectsMost}
 use Rattle.ordering.specs.Order.{wordsFrom}
 use Rattle.ordering.proofs.OrderLaws.{below-or-not}
-use Rattle.ledger.specs.Index.{tableWords, guessAt, addressIn, Sorted, Indexed, Placed, Halving, Found, Guessed, Sought}
+use Rattle.ledger.specs.Index.{indexWords, tableWords, guessAt, addressIn, Sorted, Indexed, Placed, Halving, Found, Guessed, Sought}
 use Rattle.ledger.specs.declared.search.Place.{Place}
 use Rattle.ledger.specs.declared.search.Search.{Search}
 
--- a guess stands behind the order, and in the list
-pub guess-from : (a : ℕ) → 2 * objectsMost ≤ guessAt a
+-- a guess stands behind the order, and in a list that has guesses
+pub guess-from : (a : ℕ) → indexWords ≤ guessAt a
 unfolding guessAt
 guess-from a = omega arith
 

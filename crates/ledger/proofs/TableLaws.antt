@@ -1,5 +1,5 @@
 -- Laws of the table in two lists of words: what a store makes of the ledger that they hold, and what a search in them decides.
-use Prim.Native.Nat.{ℕ, zero, suc, _+_, _*_, _≤_, _<_}
+use Prim.Native.Nat.{ℕ, zero, suc, _+_, _≤_, _<_}
 use mathlib.Core.Bool.{true, false}
 use mathlib.Core.List.{List, [], _∷_, _++_}
 use mathlib.Core.Path.{_≡_, refl, ap, sym, _∙_}
@@ -14,12 +14,12 @@ use Rattle.format.specs.Result.{value}
 use Rattle.format.specs.Ledger.{Linked, linked, inLedger, addLink}
 use Rattle.ledger.specs.Links.{linkSum}
 use Rattle.ordering.proofs.RunLaws.{ordering-none}
-use Rattle.ledger.specs.Index.{tableWords, guessAt, Indexed, Placed, Found, Addable, Added}
+use Rattle.ledger.specs.Index.{indexWords, withGuess, Indexed, Placed, Found, Addable, Added}
 use Rattle.ledger.specs.Table.{linkedOf, Table, Discovered, Started}
 use Rattle.ledger.specs.declared.table.Discovery.the-variants.{Counted, Full}
 use Rattle.ledger.proofs.LedgerLaws.{add-here, add-later, in-here, in-later, count-known}
 use Rattle.ledger.proofs.LedgerLaws.{count-new, count-full, count-sum}
-use Rattle.ledger.proofs.AddLaws.{guess-kept, order-same}
+use Rattle.ledger.proofs.AddLaws.{guess-kept, guess-long, order-same}
 
 pub length-linkedOf : (n : ℕ) (xs ts : List ℕ) → length (linkedOf n xs ts) ≡ n
 unfolding linkedOf
@@ -138,8 +138,8 @@ module _ (xs ts : List ℕ) (n a : ℕ) (xs′ : List ℕ) (t : Table xs ts n) (
 
 -- A search that found a place or none, and what is then done to the table.
 module _ (xs ts : List ℕ) (n a r : ℕ) (t : Table xs ts n) (f : Found xs n a r) where
-  -- one link more, and the object is the guess for its address
-  pub discover-known : (xs′ : List ℕ) (o : ℕ) → xs′ ≡ set xs (guessAt a) o → r < n → Discovered xs ts n a xs′ (set ts r (getD ts r 0 + 1)) (Counted n)
+  -- one link more, and the object is the guess for its address, where there are guesses
+  pub discover-known : (xs′ : List ℕ) (o : ℕ) → xs′ ≡ withGuess xs a o → r < n → Discovered xs ts n a xs′ (set ts r (getD ts r 0 + 1)) (Counted n)
   discover-known xs′ o e h =
       let i : n ≤ length xs = omega (arith, t .fits, t .addressesLong) in
       let j : n ≤ length ts = omega (arith, t .fits, t .countsLong) in
@@ -159,11 +159,11 @@ module _ (xs ts : List ℕ) (n a r : ℕ) (t : Table xs ts n) (f : Found xs n a 
         countsSame = length-set ts r (getD ts r 0 + 1);
       }
     where
-      kept : (k : ℕ) → k < 2 * objectsMost → getD xs′ k 0 ≡ getD xs k 0
+      kept : (k : ℕ) → k < indexWords → getD xs′ k 0 ≡ getD xs k 0
       kept k l = rw e (guess-kept xs a o k l)
 
       long : length xs′ ≡ length xs
-      long = ap length e ∙ length-set xs (guessAt a) o
+      long = ap length e ∙ guess-long xs a o
 
   out : n ≤ r → inLedger a (linkedOf n xs ts) ≡ false
   out h = linked-out a n xs ts (omega (arith, t .fits, t .addressesLong)) (omega (arith, t .fits, t .countsLong)) (λ k m. f .before k (omega arith))
@@ -219,18 +219,18 @@ module _ (root : ℕ) (xs ts : List ℕ) (t : Table xs ts 0) where
     countsSame = length-set ts 0 1;
   }
 
-pub zeros-at : (n k : ℕ) → _≡_ {A = ℕ} (getD (replicate n 0) k 0) 0
+zeros-at : (n k : ℕ) → _≡_ {A = ℕ} (getD (replicate n 0) k 0) 0
 zeros-at zero k = refl
 zeros-at (suc n) zero = refl
 zeros-at (suc n) (suc k) = zeros-at n k
 
 -- words of zeros are a table of no object
-pub table-none : (n : ℕ) (ts : List ℕ) → tableWords ≤ n → objectsMost ≤ length ts → ((k : ℕ) → getD ts k 0 ≡ 0) → Table (replicate n 0) ts 0
-table-none n ts h k z = record {
+pub table-none : (xs ts : List ℕ) → indexWords ≤ length xs → xs ≡ replicate (length xs) 0 → ts ≡ replicate objectsMost 0 → Table xs ts 0
+table-none xs ts h e f = record {
   fits = omega arith;
-  addressesLong = rw length-replicate h;
-  countsLong = k;
-  addressesZero = λ i q m. zeros-at n i;
-  countsZero = λ i q. z i;
+  addressesLong = h;
+  countsLong = rw (f, length-replicate) (omega arith);
+  addressesZero = λ k q m. ap (λ (l : List ℕ). getD l k 0) e ∙ zeros-at (length xs) k;
+  countsZero = λ k q. rw f (zeros-at objectsMost k);
   ordering = ordering-none _ _;
 }

@@ -1,24 +1,34 @@
--- The addresses of the objects in a list of words. Behind them stands their order, and behind that a table of guesses.
+-- The addresses of the objects in a list of words. Behind them stands their order, and behind that, in a longer list, a table of guesses.
 use Prim.Native.Nat.{ℕ, _+_, _*_, _/_, _%_, _^_, _≤_, _<_}
 use mathlib.Core.List.{List}
 use mathlib.Core.Path.{_≡_}
-use lib.ListN.{length, getD}
+use lib.Dec.{leb}
+use lib.ListN.{length, getD, set}
+use Rattle.format.specs.Bytes.{if_then_else_}
 use Rattle.format.specs.Limits.{objectsMost}
 use Rattle.ordering.specs.Order.{Ordering, wordsFrom}
 use Rattle.ledger.specs.declared.search.Place.{Place}
 use Rattle.ledger.specs.declared.search.Search.{Search}
 
--- the guesses, two for each object
+-- the guesses, four for each object
 abbrev pub guesses : ℕ
-guesses = 2 * objectsMost
+guesses = 4 * objectsMost
+
+-- the words of the addresses and of the order
+abbrev pub indexWords : ℕ
+indexWords = 2 * objectsMost
 
 -- all words: the addresses, the order, the guesses
 abbrev pub tableWords : ℕ
-tableWords = 2 * objectsMost + guesses
+tableWords = indexWords + guesses
 
 -- where the guess for an address stands; addresses that lie near each other have guesses of their own
 unfoldable pub guessAt : ℕ → ℕ
-guessAt address = 2 * objectsMost + (address / 8 + address / (8 * guesses)) % guesses
+guessAt address = indexWords + (address / 8 + address / (8 * guesses)) % guesses
+
+-- the list with an object as the guess for its address, where it has guesses
+unfoldable pub withGuess : List ℕ → ℕ → ℕ → List ℕ
+withGuess addresses address object = if leb tableWords (length addresses) then set addresses (guessAt address) object else addresses
 
 -- object o has a lower address than p
 abbrev pub Lower : List ℕ → ℕ → ℕ → Type 0
@@ -33,10 +43,10 @@ pub record Sorted (addresses : List ℕ) (from n : ℕ) : Type 0 where
   pub inside : from + n ≤ length addresses
   pub ordering : Ordering (Lower addresses) (wordsFrom addresses from) n
 
--- the objects in use, with their order, and room for all that there may be and for the guesses
+-- the objects in use, with their order, and room for all that there may be
 pub record Indexed (addresses : List ℕ) (objects : ℕ) : Type 0 where
   pub fits : objects ≤ objectsMost
-  pub long : tableWords ≤ length addresses
+  pub long : indexWords ≤ length addresses
   pub ordering : Ordering (Lower addresses) (wordsFrom addresses objectsMost) objects
 
 -- so many of n objects have a lower address, and the others don't

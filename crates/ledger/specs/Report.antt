@@ -26,14 +26,6 @@ pub record Empty (l : Ledger) : Type 0 where
   pub storedZero : l .stored ≡ replicate objectsMost 0
   pub countsZero : l .«true_counts» ≡ replicate objectsMost 0
 
--- the objects handed out: two lists with room for every object, so many of them there, and zeros behind these
-pub record Places (addresses counts : List ℕ) (objects : ℕ) : Type 0 where
-  pub fits : objects ≤ objectsMost
-  pub addressesLong : objectsMost ≤ length addresses
-  pub countsLong : objectsMost ≤ length counts
-  pub addressesZero : (k : ℕ) → objects ≤ k → getD addresses k 0 ≡ 0
-  pub countsZero : (k : ℕ) → objects ≤ k → getD counts k 0 ≡ 0
-
 -- the first n words are those of another list, and the rest stay
 pub record Copied (from to : List ℕ) (n : ℕ) (to′ : List ℕ) : Type 0 where
   pub copied : (k : ℕ) → k < n → getD to′ k 0 ≡ getD from k 0

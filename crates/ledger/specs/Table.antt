@@ -7,7 +7,7 @@ use Rattle.format.specs.Limits.{objectsMost}
 use Rattle.format.specs.Result.{Result, value, answer}
 use Rattle.format.specs.Ledger.{Linked, linked, countLink}
 use Rattle.ordering.specs.Order.{Ordering, wordsFrom}
-use Rattle.ledger.specs.Index.{tableWords, Lower}
+use Rattle.ledger.specs.Index.{indexWords, Lower}
 use Rattle.ledger.specs.declared.table.Discovery.{Discovery}
 use Rattle.ledger.specs.declared.table.Discovery.the-variants.{Counted, Full}
 
@@ -17,10 +17,10 @@ linkedOf zero addresses counts = []
 linkedOf (suc n) addresses counts = linked (getD addresses 0 0) (getD counts 0 0) ∷ linkedOf n (drop 1 addresses) (drop 1 counts)
 
 -- Two lists with room for every object, so many of them there, and zeros in the places behind these. Behind the places of the
--- addresses stands their order; a guess may be any number.
+-- addresses stands their order; a guess, where the list has guesses, may be any number.
 pub record Table (addresses counts : List ℕ) (objects : ℕ) : Type 0 where
   pub fits : objects ≤ objectsMost
-  pub addressesLong : tableWords ≤ length addresses
+  pub addressesLong : indexWords ≤ length addresses
   pub countsLong : objectsMost ≤ length counts
   pub addressesZero : (k : ℕ) → objects ≤ k → k < objectsMost → getD addresses k 0 ≡ 0
   pub countsZero : (k : ℕ) → objects ≤ k → getD counts k 0 ≡ 0

@@ -1,30 +1,35 @@
-// The search for an address among those of the objects. A guess is tried first; what it misses is found in the order of the
-// addresses, by halving.
+// The search for an address among those of the objects. A guess is tried first, where the list has guesses; what it misses is found
+// in the order of the addresses, by halving.
 use format::OBJECTS_MOST;
 ghost use mathlib.Core.Path.{_≡_};
-ghost use Prim.Native.Nat.{_≤_};
-ghost use lib.ListN.{length, set};
-ghost use Rattle.ledger.specs.Index.{tableWords, guessAt, Sorted, Indexed, Halving, Guessed, Sought, Addable, Added};
+ghost use Rattle.ledger.specs.Index.{guessAt, withGuess, Sorted, Indexed, Halving, Guessed, Sought, Addable, Added};
 
-// The guesses: two for each object, so that few addresses share one.
-pub const GUESSES: usize = 2 * OBJECTS_MOST;
+// The guesses: four for each object, so that few addresses share one.
+pub const GUESSES: usize = 4 * OBJECTS_MOST;
 
-// The words of the list of addresses: for each object one for its address and one for its number in the order, and the guesses.
-pub const TABLE_WORDS: usize = 2 * OBJECTS_MOST + GUESSES;
+// The words of a list of addresses without guesses: for each object one for its address and one for its number in the order. That is
+// enough for a small file, where a longer list costs more than its guesses save.
+pub const INDEX_WORDS: usize = 2 * OBJECTS_MOST;
+
+// The words of a list of addresses with guesses.
+pub const TABLE_WORDS: usize = INDEX_WORDS + GUESSES;
 
 // Where the guess for an address stands. Most headers lie at multiples of 8.
 fn guess_at(address: u64) -> usize
     ensures { λ r. ⌜ r ≡ guessAt address ⌝ }
 {
     let spread = address / 8 + address / (8 * GUESSES as u64);
-    2 * OBJECTS_MOST + spread as usize % GUESSES
+    INDEX_WORDS + spread as usize % GUESSES
 }
 
-// The object that the guess for an address is, or `objects` if that one has another address.
+// The object that the guess for an address is, or `objects` if that one has another address or there are no guesses.
 fn guessed(addresses: &[u64], objects: usize, address: u64) -> usize
     requires { ⌜ Indexed (now addresses) objects ⌝ }
     ensures { λ r. ⌜ Guessed (now (addresses .entry)) objects address r ⌝ }
 {
+    if addresses.len() < TABLE_WORDS {
+        return objects;
+    }
     let guess = addresses[guess_at(address)] as usize;
     if objects <= guess {
         return objects;
@@ -117,11 +122,13 @@ pub fn find(addresses: &[u64], objects: usize, address: u64) -> Search
     }
 }
 
-// Makes an object the guess for its address.
+// Makes an object the guess for its address, where the list has guesses.
 pub fn remember(addresses: &mut [u64], address: u64, object: usize)
-    requires { ⌜ tableWords ≤ length (now addresses) ⌝ }
-    ensures { λ _. ⌜ now (addresses .exit) ≡ set (now (addresses .entry)) (guessAt address) object ⌝ }
+    ensures { λ _. ⌜ now (addresses .exit) ≡ withGuess (now (addresses .entry)) address object ⌝ }
 {
+    if addresses.len() < TABLE_WORDS {
+        return;
+    }
     addresses[guess_at(address)] = object as u64;
 }
 

@@ -1,85 +1,59 @@
--- A name, of which one byte more is looked at than it may have.
-use Prim.Native.Nat.{ℕ, _+_, _-_, _≤_, _<_}
+-- A name, by how many bytes it has and the map of the free bytes.
+use Prim.Native.Nat.{ℕ, _+_, _<_}
 use mathlib.Core.Bool.{Bool, true, false}
-use mathlib.Core.List.{List}
-use mathlib.Core.Path.{_≡_, refl, ap, sym, _∙_}
+use mathlib.Core.List.{List, [], _∷_}
+use mathlib.Core.Path.{_≡_, refl, sym, _∙_}
 use native.Mathlib.Omega.{arith}
-use borrow.Author.Tests.{ltb-true, ltb-false}
-use lib.Dec.{ltb}
 use lib.ListN.{length, drop}
-use Rattle.format.specs.Limits.{nameMost}
 use Rattle.format.specs.Bytes.{part}
 use Rattle.format.specs.Blocks.{Block, overlapsAny}
+use Rattle.format.specs.Limits.{nameMost}
 use Rattle.format.specs.Names.{badForm, inFreeBlock, text, fault, beforeNul, stringAt, keyText, nameText, isName}
-use Rattle.walk.proofs.Parts.{part-length}
-use Rattle.walk.proofs.Tests.{all-fails, range-above}
 use Rattle.heap.specs.Segment.{heapWith}
-use Rattle.nul.specs.Nul.{NulWithin, LastNul}
+use Rattle.nul.specs.Nul.{LastNul}
 use Rattle.nul.proofs.NulLaws.{ends}
-use Rattle.names.proofs.NameLaws.{key-sound, name-bad, name-free, free-hit, free-missed}
+use Rattle.free_map.specs.FreeMap.{MapOf}
+use Rattle.free_map.proofs.RangeLaws.{no-map}
+use Rattle.names.specs.Sizes.{nameSize}
+use Rattle.names.proofs.NameLaws.{key-sound, name-bad, name-free, free-hit, free-missed, string-length}
+use Rattle.names.proofs.SizeLaws.{name-none, name-some}
 
--- a string that is too long is no name
-long-name : (t : List ℕ) → nameMost < length t → isName t ≡ false
-unfolding isName
-long-name t h = sym (all-fails _ (range-above 1 nameMost (length t) h))
+-- the name at off, which ends in the segment and has n bytes, or is none
+module _ (seg : List ℕ) (ended off : ℕ) (bs : List Block) (l : LastNul seg ended) (h : off < ended) {n : ℕ} (e : n ≡ nameSize seg off) where
+  pub name-formless : n ≡ 0 → fault badForm ≡ nameText (heapWith seg bs) off
+  name-formless z = name-bad (heapWith seg bs) off (key-sound seg ended off bs l h) (name-none seg off (ends seg ended off l h) (sym e ∙ z))
 
-name-short : (t : List ℕ) → isName t ≡ true → length t ≤ nameMost
-name-short t e = go (ltb nameMost (length t)) refl
-  where
-    go : (u : Bool) → ltb nameMost (length t) ≡ u → length t ≤ nameMost
-    go true p = let f = long-name t (ltb-true nameMost (length t) p) in let z : _≡_ {A = ℕ} 0 1 = cc in absurd (omega arith)
-    go false p = ltb-false nameMost (length t) p
+  module _ (p : n ≡ 0 → ⊥) where
+    form : isName (stringAt seg off) ≡ true
+    form = name-some seg off (ends seg ended off l h) (λ z. p (e ∙ z)) .0
 
--- the name at off, where the bytes up to `end` were looked at
-module _ (seg : List ℕ) (ended off : ℕ) (bs : List Block) (l : LastNul seg ended) (h : off < ended) {end : ℕ}
-    (w : NulWithin seg off (nameMost + 1) end) where
-  -- how many bytes stand before the NUL
-  whole : ℕ
-  whole = beforeNul (drop off seg)
+    whole : n ≡ beforeNul (drop off seg)
+    whole = e ∙ name-some seg off (ends seg ended off l h) (λ z. p (e ∙ z)) .1
 
-  -- how many were looked at
-  looked : length (part seg off (end - off)) ≡ end - off
-  unfolding whole
-  looked = part-length seg off (end - off) (omega (arith, w .value, w .inside))
+    pub name-inside : off + n < length seg
+    name-inside = omega (arith, whole, ends seg ended off l h)
 
-  -- all of them were looked at, or there are too many
-  same-form : isName (part seg off (end - off)) ≡ isName (part seg off whole)
-  unfolding whole
-  same-form = go (ltb nameMost whole) refl
-    where
-      go : (t : Bool) → ltb nameMost whole ≡ t → isName (part seg off (end - off)) ≡ isName (part seg off whole)
-      go true p =
-          let m : nameMost < whole = ltb-true nameMost whole p in
-          long-name (part seg off (end - off)) (omega (arith, looked, w .value))
-          ∙ sym (long-name (part seg off whole) (omega (arith, part-length seg off whole (omega (arith, ends seg ended off l h)))))
-      go false p =
-          let m : whole ≤ nameMost = ltb-false nameMost whole p in
-          let e : end - off ≡ whole = omega (arith, w .value) in
-          ap (λ (n : ℕ). isName (part seg off n)) e
+    -- the bytes read are the string
+    string : part seg off n ≡ stringAt seg off
+    unfolding stringAt
+    string = rw whole
 
-  -- the string that stands there
-  sound : text (part seg off whole) ≡ keyText (heapWith seg bs) off
-  unfolding whole stringAt
-  sound = key-sound seg ended off bs l h
+    sized : length (part seg off n) ≡ n
+    sized = rw string (string-length seg off (omega (arith, ends seg ended off l h)) ∙ sym whole)
 
-  pub name-formless : isName (part seg off (end - off)) ≡ false → fault badForm ≡ nameText (heapWith seg bs) off
-  name-formless e = name-bad (heapWith seg bs) off sound (sym same-form ∙ e)
+    read : text (part seg off n) ≡ keyText (heapWith seg bs) off
+    read = rw string (key-sound seg ended off bs l h)
 
-  -- the bytes looked at are a name, so that they are all
-  module _ (e : isName (part seg off (end - off)) ≡ true) where
-    all-looked : end - off ≡ whole
-    unfolding whole
-    all-looked = omega (arith, name-short _ e, looked, w .value)
+    formed : isName (part seg off n) ≡ true
+    formed = rw string form
 
-    read : text (part seg off (end - off)) ≡ keyText (heapWith seg bs) off
-    read = rw all-looked sound
+    pub name-hit : overlapsAny bs off (n + 1) ≡ true → fault inFreeBlock ≡ nameText (heapWith seg bs) off
+    name-hit o = free-hit (heapWith seg bs) off (part seg off n) (rw sized o) ∙ name-free (heapWith seg bs) off read formed
 
-    pub name-inside : off + (end - off) < length seg
-    unfolding whole
-    name-inside = omega (arith, all-looked, ends seg ended off l h)
+    pub name-missed : overlapsAny bs off (n + 1) ≡ false → text (part seg off n) ≡ nameText (heapWith seg bs) off
+    name-missed o = free-missed (heapWith seg bs) off (part seg off n) (rw sized o) ∙ name-free (heapWith seg bs) off read formed
 
-    pub name-hit : overlapsAny bs off (end - off + 1) ≡ true → fault inFreeBlock ≡ nameText (heapWith seg bs) off
-    name-hit o = free-hit (heapWith seg bs) off (part seg off (end - off)) (rw looked o) ∙ name-free (heapWith seg bs) off read e
-
-    pub name-missed : overlapsAny bs off (end - off + 1) ≡ false → text (part seg off (end - off)) ≡ nameText (heapWith seg bs) off
-    name-missed o = free-missed (heapWith seg bs) off (part seg off (end - off)) (rw looked o) ∙ name-free (heapWith seg bs) off read e
+    -- a map of no cells
+    pub name-unmapped : (map : List ℕ) → length map ≡ 0 → MapOf map seg bs → text (part seg off n) ≡ nameText (heapWith seg bs) off
+    name-unmapped [] z m = name-missed (no-map off (n + 1) m (omega (arith, name-inside)) (omega arith))
+    name-unmapped (x ∷ map) z m = absurd (omega arith)

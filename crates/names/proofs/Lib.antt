@@ -1,3 +1,5 @@
 pub mod NameLaws
 pub mod ValueLaws
+pub mod StartLaws
+pub mod SizeLaws
 pub mod FormLaws

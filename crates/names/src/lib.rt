@@ -3,17 +3,19 @@
 use free_map::meets;
 use nul::nul_within;
 use order::contains;
-use order::same;
 use string_ends::ends_outside;
 ghost use mathlib.Core.Path.{_≡_};
 ghost use mathlib.Core.List.{List};
+ghost use Prim.Native.Nat.{_+_, _<_};
+ghost use lib.ListN.{length, drop};
 ghost use Rattle.format.specs.Blocks.{Block};
-ghost use Rattle.format.specs.Names.{isName, keyText, nameText, valueText};
+ghost use Rattle.format.specs.Names.{beforeNul, keyText, nameText, valueText};
 ghost use Rattle.nul.specs.Nul.{LastNul};
 ghost use Rattle.free_map.specs.FreeMap.{MapOf};
 ghost use Rattle.string_ends.specs.Ends.{Marked};
 ghost use Rattle.heap.specs.Segment.{heapWith};
 ghost use Rattle.names.specs.Texts.{TextRead, CheckedAs};
+ghost use Rattle.names.specs.Sizes.{StartRead, nameSize};
 
 // What can be wrong with a string, in this order.
 pub enum NameFault {
@@ -35,6 +37,16 @@ pub enum Checked {
     Fault(NameFault),
 }
 
+// What the first 16 bytes of a string tell.
+enum Start {
+    // It has so many bytes, and no '/'.
+    Ends(usize),
+    // It has a '/'.
+    Slash,
+    // Neither a NUL nor a '/' is among them.
+    GoesOn,
+}
+
 // A key: any string that ends in a NUL inside the segment.
 pub fn key(segment: &[u8], ended: usize, off: u64) -> Checked
     requires { ⌜ LastNul (now segment) ended ⌝ }
@@ -49,24 +61,71 @@ pub fn key(segment: &[u8], ended: usize, off: u64) -> Checked
     Checked::Sound
 }
 
-// Whether these bytes may be a name: 1 to 255 of them, no '/', and not ".".
-fn is_name(t: &[u8]) -> bool
-    ensures { λ r. ⌜ r ≡ isName (now (t .entry)) ⌝ }
+// Reads at most 16 bytes of a string, each once.
+fn first_bytes(segment: &[u8], off: usize) -> Start
+    requires { ⌜ off + beforeNul (drop off (now segment)) < length (now segment) ⌝ }
+    ensures { λ r. ⌜ StartRead (now (segment .entry)) off r ⌝ }
 {
-    let limits = format::the_limits();
-    if t.len() < 1 {
-        return false;
+    let mut k: usize = 0;
+    while k < 16 {
+        let x = segment[off + k];
+        if x == 0 {
+            return Start::Ends(k);
+        }
+        if x == b'/' {
+            return Start::Slash;
+        }
+        k += 1;
     }
-    if limits.name_most < t.len() {
-        return false;
-    }
-    if contains(b'/', t) {
-        return false;
-    }
-    !same(t, b".")
+    Start::GoesOn
 }
 
-// A name of a group. One byte more than a name may have is looked at: a longer string has no other fault.
+// How many bytes a name has whose `n` bytes are no '/'; 0 if it is ".".
+fn short_size(segment: &[u8], off: usize, n: usize) -> usize
+    requires { ⌜ off + beforeNul (drop off (now segment)) < length (now segment) ⌝ }
+    requires { ⌜ StartRead (now segment) off (Start.Ends n) ⌝ }
+    ensures { λ r. ⌜ r ≡ nameSize (now (segment .entry)) off ⌝ }
+{
+    if n != 1 {
+        return n;
+    }
+    if segment[off] == b'.' {
+        return 0;
+    }
+    1
+}
+
+// How many bytes a name has that goes on behind its first 16. One byte more than a name may have is looked at: a longer string has no other fault.
+fn long_size(segment: &[u8], off: usize) -> usize
+    requires { ⌜ off + beforeNul (drop off (now segment)) < length (now segment) ⌝ }
+    requires { ⌜ StartRead (now segment) off Start.GoesOn ⌝ }
+    ensures { λ r. ⌜ r ≡ nameSize (now (segment .entry)) off ⌝ }
+{
+    let limits = format::the_limits();
+    let from = off + 16;
+    let end = nul_within(segment, from, limits.name_most - 15);
+    if limits.name_most < end - off {
+        return 0;
+    }
+    if contains(b'/', &segment[from..end]) {
+        return 0;
+    }
+    end - off
+}
+
+// How many bytes the name at `off` has; 0 if the string there is no name: 1 to 255 bytes, no '/', and not ".".
+fn name_size(segment: &[u8], off: usize) -> usize
+    requires { ⌜ off + beforeNul (drop off (now segment)) < length (now segment) ⌝ }
+    ensures { λ r. ⌜ r ≡ nameSize (now (segment .entry)) off ⌝ }
+{
+    match first_bytes(segment, off) {
+        Start::Ends(n) => short_size(segment, off, n),
+        Start::Slash => 0,
+        Start::GoesOn => long_size(segment, off),
+    }
+}
+
+// A name of a group.
 pub fn name(segment: &[u8], map: &[u8], ended: usize, off: u64) -> Text
     requires { ⌜ LastNul (now segment) ended ⌝ }
     ensures { λ r. ⌜ ((bs : List Block) → MapOf (now (map .entry)) (now (segment .entry)) bs → TextRead (now (segment .entry)) off r
@@ -75,16 +134,18 @@ pub fn name(segment: &[u8], map: &[u8], ended: usize, off: u64) -> Text
     match key(segment, ended, off) {
         Checked::Fault(f) => Text::Fault(f),
         Checked::Sound => {
-            let limits = format::the_limits();
             let start = off as usize;
-            let end = nul_within(segment, start, limits.name_most + 1);
-            if !is_name(&segment[start..end]) {
+            let size = name_size(segment, start);
+            if size == 0 {
                 return Text::Fault(NameFault::BadForm);
             }
-            if meets(map, start, end - start + 1) {
+            if map.len() == 0 {
+                return Text::Sound(size);
+            }
+            if meets(map, start, size + 1) {
                 return Text::Fault(NameFault::InFreeBlock);
             }
-            Text::Sound(end - start)
+            Text::Sound(size)
         }
     }
 }

@@ -1,38 +1,14 @@
 -- The loops that compare bytes, before the ith byte: `whole` is what they will have found. One turn of each, by the ith bytes.
 use Prim.Native.Nat.{ℕ, _+_, _≤_, _<_}
 use mathlib.Core.Bool.{Bool, true, false}
-use mathlib.Core.List.{List, []}
+use mathlib.Core.List.{List}
 use mathlib.Core.Path.{_≡_, refl, ap, sym, _∙_}
 use native.Mathlib.Numerals.{add-one}
-use borrow.Author.Tests.{ltb-true, ltb-false, eq-eqb, ne-eqb}
-use lib.Dec.{ltb}
+use borrow.Author.Tests.{eq-eqb, ne-eqb}
 use lib.ListN.{length, getD, drop, drop-of-length-le}
 use lib.Seq.{drop-cons}
 use Rattle.format.specs.Bytes.{sameBytes, contains}
-use Rattle.format.specs.Names.{below}
-use Rattle.order.proofs.OrderLaws.{below-first, below-rest, below-not, same-equal}
-
-module _ (a b : List ℕ) (i : ℕ) (whole : Bool) (e : whole ≡ below (drop i a) (drop i b)) where
-  pub below-shorter : i < length a → length b ≤ i → false ≡ whole
-  unfolding below
-  below-shorter h k = sym (e ∙ rw (drop-cons a i 0 h, drop-of-length-le b {i = i} k))
-
-  pub below-less : i < length a → i < length b → getD a i 0 < getD b i 0 → true ≡ whole
-  below-less h k l = sym (e ∙ rw (drop-cons a i 0 h, drop-cons b i 0 k) (below-first _ _ _ _ l))
-
-  pub below-greater : i < length a → i < length b → getD b i 0 < getD a i 0 → false ≡ whole
-  below-greater h k l = sym (e ∙ rw (drop-cons a i 0 h, drop-cons b i 0 k) (below-not _ _ _ _ l))
-
-  pub below-equal : i < length a → i < length b → getD a i 0 ≡ getD b i 0 → whole ≡ below (drop (i + 1) a) (drop (i + 1) b)
-  below-equal h k l = e ∙ rw (drop-cons a i 0 h, drop-cons b i 0 k, add-one) (below-rest _ _ _ _ l)
-
-  pub below-end : length a ≤ i → ltb i (length b) ≡ whole
-  unfolding below
-  below-end h = go (ltb i (length b)) refl ∙ sym (e ∙ rw (drop-of-length-le a {i = i} h))
-    where
-      go : (t : Bool) → ltb i (length b) ≡ t → ltb i (length b) ≡ below [] (drop i b)
-      go true p = p ∙ rw (drop-cons b i 0 (ltb-true i (length b) p))
-      go false p = p ∙ rw (drop-of-length-le b {i = i} (ltb-false i (length b) p))
+use Rattle.order.proofs.OrderLaws.{same-equal}
 
 -- lists of different lengths don't hold the same bytes
 pub same-lengths : (a b : List ℕ) → (length a ≡ length b → ⊥) → false ≡ sameBytes a b

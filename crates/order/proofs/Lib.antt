@@ -2,3 +2,4 @@ pub mod OrderLaws
 pub mod Comparing
 pub mod Parts
 pub mod Sixteen
+pub mod Differ

@@ -61,14 +61,14 @@ pub none-found : (x : ℕ) (s : List ℕ) (at n : ℕ) → at + n ≤ length s �
 none-found x s at n h e k l q =
     contains-none x (part s at n) e k (omega (arith, part-long s at n h)) (getD-take n (drop at s) k 0 l ∙ getD-drop at s k 0 ∙ q)
 
--- both begin with no bytes, and with sixteen more
+-- both begin with no bytes, and with so many more
 pub same-none : (a b : List ℕ) → SameStart a b 0
 same-none a b = record { first = omega arith; second = omega arith; same = refl }
 
-pub same-more : (a b : List ℕ) (n : ℕ) → n + 16 ≤ length a → n + 16 ≤ length b → SameStart a b n →
-    sameBytes (part a n 16) (part b n 16) ≡ true → SameStart a b (n + 16)
-same-more a b n h l s e =
-    record { first = h; second = l; same = rw (take-add n 16 a, take-add n 16 b, s .same, same-equal (part a n 16) (part b n 16) e) }
+pub same-more : (a b : List ℕ) (n m : ℕ) → n + m ≤ length a → n + m ≤ length b → SameStart a b n →
+    sameBytes (part a n m) (part b n m) ≡ true → SameStart a b (n + m)
+same-more a b n m h l s e =
+    record { first = h; second = l; same = rw (take-add n m a, take-add n m b, s .same, same-equal (part a n m) (part b n m) e) }
 
 -- the bytes that both begin with decide nothing
 module _ (a b : List ℕ) (n : ℕ) (s : SameStart a b n) where

@@ -1,11 +1,11 @@
-// Strings compared bytewise: sixteen bytes at a time, then byte by byte. The loops over sixteen bytes have no way out, so that they are compiled to
-// vector instructions. A string of fewer bytes is compared byte by byte from its start.
+// Strings compared bytewise: sixteen bytes at a time, eight once, then byte by byte. The loops over sixteen and eight bytes have no way out, so that
+// they are compiled to vector instructions. A string of fewer bytes is compared byte by byte from its start.
 ghost use mathlib.Core.Path.{_≡_};
-ghost use Prim.Native.Nat.{_+_, _≤_};
+ghost use Prim.Native.Nat.{_+_, _≤_, min};
 ghost use lib.ListN.{length, drop};
 ghost use Rattle.format.specs.Bytes.{part, sameBytes, contains};
 ghost use Rattle.format.specs.Names.{below};
-ghost use Rattle.order.specs.Same.{SameStart};
+ghost use Rattle.order.specs.Same.{SameStart, FirstDiffer};
 
 // Whether the 16 bytes at `at` are the same in both.
 fn same_16(a: &[u8], b: &[u8], at: usize) -> bool
@@ -40,35 +40,80 @@ fn same_start(a: &[u8], b: &[u8]) -> usize
     i
 }
 
-// Whether the first is strictly below the second, where they begin with so many same bytes.
-fn below_from(a: &[u8], b: &[u8], from: usize) -> bool
-    requires { ⌜ SameStart (now a) (now b) from ⌝ }
-    ensures { λ r. ⌜ r ≡ below (now (a .entry)) (now (b .entry)) ⌝ }
+// Whether the 8 bytes at `at` are the same in both.
+fn same_8(a: &[u8], b: &[u8], at: usize) -> bool
+    requires { ⌜ (at + 8 ≤ length (now a)) × (at + 8 ≤ length (now b)) ⌝ }
+    ensures { λ r. ⌜ r ≡ sameBytes (part (now (a .entry)) at 8) (part (now (b .entry)) at 8) ⌝ }
 {
+    let mut differ: u8 = 0;
+    let mut k: usize = 0;
+    while k < 8 {
+        if a[at + k] != b[at + k] {
+            differ = 1;
+        }
+        k += 1;
+    }
+    differ == 0
+}
+
+// So many bytes that both begin with, in whole eights.
+fn same_eights(a: &[u8], b: &[u8]) -> usize
+    ensures { λ r. ⌜ SameStart (now (a .entry)) (now (b .entry)) r ⌝ }
+{
+    if a.len() < 8 {
+        return 0;
+    }
+    let i = same_start(a, b);
+    if a.len() - i < 8 {
+        return i;
+    }
+    if b.len() - i < 8 {
+        return i;
+    }
+    if !same_8(a, b, i) {
+        return i;
+    }
+    i + 8
+}
+
+// The lesser of two lengths.
+fn lesser(m: usize, n: usize) -> usize
+    ensures { λ r. ⌜ r ≡ min m n ⌝ }
+{
+    if m < n {
+        return m;
+    }
+    n
+}
+
+// Where two strings that begin with so many same bytes differ first; the shorter one's length if they don't.
+fn differ_from(a: &[u8], b: &[u8], from: usize) -> usize
+    requires { ⌜ SameStart (now a) (now b) from ⌝ }
+    ensures { λ r. ⌜ FirstDiffer (now (a .entry)) (now (b .entry)) r ⌝ }
+{
+    let end = lesser(a.len(), b.len());
     let mut i = from;
-    while i < a.len() {
-        if b.len() <= i {
-            return false;
-        }
-        if a[i] < b[i] {
-            return true;
-        }
-        if b[i] < a[i] {
-            return false;
+    while i < end {
+        if a[i] != b[i] {
+            return i;
         }
         i += 1;
     }
-    i < b.len()
+    i
 }
 
 // Whether the first is strictly below the second. A beginning is below the whole.
 pub fn below(a: &[u8], b: &[u8]) -> bool
     ensures { λ r. ⌜ r ≡ below (now (a .entry)) (now (b .entry)) ⌝ }
 {
-    if a.len() < 16 {
-        return below_from(a, b, 0);
+    let i = differ_from(a, b, same_eights(a, b));
+    if b.len() <= i {
+        return false;
     }
-    below_from(a, b, same_start(a, b))
+    if a.len() <= i {
+        return true;
+    }
+    a[i] < b[i]
 }
 
 // Whether both hold the same bytes, where they have one length and begin with so many same bytes.
@@ -94,10 +139,7 @@ pub fn same(a: &[u8], b: &[u8]) -> bool
     if a.len() != b.len() {
         return false;
     }
-    if a.len() < 16 {
-        return same_from(a, b, 0);
-    }
-    same_from(a, b, same_start(a, b))
+    same_from(a, b, same_eights(a, b))
 }
 
 // Whether `x` is one of the 16 bytes at `at`.

@@ -1,12 +1,13 @@
--- The report with its ledger: an empty one where there are no objects, else the lists.
+-- The report with its ledger: an empty one where there are no objects, else the lists, with the addresses copied.
 use Prim.Native.Nat.{ℕ, _<_}
 use mathlib.Core.List.{List}
-use mathlib.Core.Path.{_≡_}
+use mathlib.Core.Path.{_≡_, _∙_}
 use native.Mathlib.Omega.{arith}
+use lib.ListN.{replicate}
 use Rattle.format.specs.Limits.{objectsMost}
-use Rattle.ledger.specs.Report.{countedPlaces, Empty}
+use Rattle.ledger.specs.Report.{countedPlaces, Empty, Copied}
 use Rattle.ledger.specs.declared.report.Ledger.{Ledger}
-use Rattle.ledger.proofs.ReportLaws.{empty-law}
+use Rattle.ledger.proofs.ReportLaws.{empty-law, counted-copied}
 use Rattle.audit.proofs.ReplyLaws.{getD-zeros}
 use Rattle.report.specs.Report.{ReportedIs, ReportIs}
 use Rattle.report.specs.declared.Reported.{Reported}
@@ -33,12 +34,13 @@ module _ (im : List ℕ) (lent : ℕ) (ws addresses stored counts : List ℕ) (r
         countsRest = λ k m. rw (e .countsZero) (getD-zeros objectsMost k);
       }
 
-  pub full-reply : 0 < r .objects →
-      ReportIs im lent ws (withLedger r (record { objects = r .objects; addresses = addresses; stored = stored; «true_counts» = counts }))
-  full-reply z = record {
-    reply = h .reply;
+  -- the addresses are copied out of the table
+  pub full-reply : 0 < r .objects → (zeros copy : List ℕ) → zeros ≡ replicate objectsMost 0 → Copied addresses zeros (r .objects) copy →
+      ReportIs im lent ws (withLedger r (record { objects = r .objects; addresses = copy; stored = stored; «true_counts» = counts }))
+  full-reply z zeros copy e c = record {
+    reply = rw (counted-copied addresses stored counts zeros copy (r .objects) c) (h .reply);
     fits = h .fits;
-    addressesRest = h .addressesRest z;
+    addressesRest = λ k m. c .rest k m ∙ rw e (getD-zeros objectsMost k);
     storedRest = h .storedRest z;
     countsRest = h .countsRest z;
   }

@@ -17,6 +17,7 @@ use Rattle.walk.specs.Lent.{blocksOf, placesOf, handed, stopped, Walked}
 use Rattle.walk.proofs.BlockList.{lent-none, length-blocksOf, words-blocks}
 use Rattle.laws.proofs.Growth.{Grown, run-grown}
 use Rattle.laws.proofs.Simulation.{walked-refused}
+use Rattle.ledger.specs.Table.{Table}
 use Rattle.ledger.specs.Report.{countedPlaces, StoredRead}
 use Rattle.ledger.proofs.ReportLaws.{counted-law}
 use Rattle.superblock.specs.Superblock.{superblockOf}
@@ -40,7 +41,6 @@ no-objects r f ws addresses stored counts e z =
     record {
       reply = ap (replyOf ws addresses stored counts) e;
       fits = omega (arith, none);
-      addressesRest = λ h. absurd (omega (arith, h, none));
       storedRest = λ h. absurd (omega (arith, h, none));
       countsRest = λ h. absurd (omega (arith, h, none));
     }
@@ -124,6 +124,9 @@ module _ (im ws : List ℕ) (s : Superblock) (b : Bounded im s) where
 
   -- the walk is done
   module _ (count objects : ℕ) (ws₁ addresses counts : List ℕ) (w : ImageWalked im ws s ws₁ addresses counts (Done count objects)) where
+    abbrev table : Table addresses counts objects
+    table = w .ready .table refl
+
     pub done-is : (stored₀ stored : List ℕ) → stored₀ ≡ replicate objectsMost 0 → StoredRead im addresses objects stored₀ stored →
         (block : ListedBlock) → listedOf block ≡ noBlock →
         Reports im (placesOf (length ws)) s ws₁ addresses stored counts
@@ -138,9 +141,8 @@ module _ (im ws : List ℕ) (s : Superblock) (b : Bounded im s) where
           counted-law im objects addresses stored counts (q .read),
           list-is im ws s count objects ws₁ addresses counts w lent,
         ) refl;
-        fits = w .ready .places .fits;
-        addressesRest = λ h k m. w .ready .places .addressesZero k m;
+        fits = table .fits;
         storedRest = λ h k m. q .rest k m ∙ rw z (getD-zeros objectsMost k);
-        countsRest = λ h k m. w .ready .places .countsZero k m;
+        countsRest = λ h k m. table .countsZero k m;
       },
     )

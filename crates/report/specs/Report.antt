@@ -54,11 +54,11 @@ replyOf ws addresses stored counts f = record {
   list = ws;
 }
 
--- The reply is this one, and its objects have places. Where there are objects, all other places are zeros; no reply shows what a refusal leaves there.
+-- The reply is this one, and its objects have places. Where there are objects, all other counts are zeros; no reply shows what a refusal leaves
+-- there, nor what stands behind the addresses.
 pub record Replies (expected : ReportReply) (ws addresses stored counts : List ℕ) (r : Reported) : Type 0 where
   pub reply : replyOf ws addresses stored counts (fieldsOf r) ≡ expected
   pub fits : r .objects ≤ objectsMost
-  pub addressesRest : 0 < r .objects → ZerosFrom (r .objects) addresses
   pub storedRest : 0 < r .objects → ZerosFrom (r .objects) stored
   pub countsRest : 0 < r .objects → ZerosFrom (r .objects) counts
 

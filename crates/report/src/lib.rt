@@ -12,8 +12,10 @@ use format::answers;
 use format::met_of;
 use format::number_of;
 use ledger::report::Ledger;
+use ledger::report::copy_addresses;
 use ledger::report::empty;
 use ledger::report::read_stored;
+use ledger::search::TABLE_WORDS;
 use object::object::ObjectRead;
 use superblock::Opening;
 use superblock::Superblock;
@@ -102,8 +104,8 @@ fn report_opened(
     }
 }
 
-// The report in a working list, with the ledger's arrays lent, as the audit has them. The list has the blocks entered at its head, also
-// those before a fault.
+// The report in a working list, with the table of objects and the stored counts lent, as the audit has them. The list has the blocks
+// entered at its head, also those before a fault.
 pub fn report_into(
     image: &[u8],
     list: &mut [u64],
@@ -137,7 +139,7 @@ pub struct Reply {
 pub fn report(image: &[u8], list: &mut [u64]) -> Reply
     ensures { λ r. ⌜ ReportIs (now (image .entry)) (length (now (list .entry))) (now (list .exit)) r ⌝ }
 {
-    let mut addresses = [0u64; OBJECTS_MOST];
+    let mut objects_table = [0u64; TABLE_WORDS];
     let mut stored = [0u32; OBJECTS_MOST];
     let mut true_counts = [0u32; OBJECTS_MOST];
     let mut work = [0u64; WORK_WORDS];
@@ -145,7 +147,7 @@ pub fn report(image: &[u8], list: &mut [u64]) -> Reply
     let r = report_into(
         image,
         &mut work[..n],
-        &mut addresses,
+        &mut objects_table,
         &mut stored,
         &mut true_counts,
     );
@@ -166,6 +168,8 @@ pub fn report(image: &[u8], list: &mut [u64]) -> Reply
             ledger: empty(),
         };
     }
+    let mut addresses = [0u64; OBJECTS_MOST];
+    copy_addresses(&objects_table, &mut addresses, objects);
     Reply {
         answer,
         block_count,

@@ -6,7 +6,7 @@ use Rattle.audit.proofs.audit_into.Tie as tie
 use denote.Ref.{now}
 use Prim.Native.Nat.{ℕ}
 use mathlib.Core.List.{List}
-use mathlib.Core.Path.{_≡_}
+use mathlib.Core.Path.{_≡_, refl}
 use Rattle.format.specs.Superblock.{opened, openImage}
 use Rattle.superblock.specs.Superblock.{superblockOf}
 use Rattle.superblock.specs.declared.Superblock.{Superblock}
@@ -14,7 +14,7 @@ use Rattle.ledger.specs.Report.{Readable}
 use Rattle.object.specs.declared.object.ObjectRead.the-variants.{Done}
 use Rattle.object.specs.Object.{Bounded}
 use Rattle.audit.specs.Audit.{ImageWalked}
-use Rattle.audit.proofs.ReplyLaws.{not-opened-is, stopped-is, readable, count-fits, done-is, lists-places, stored-room}
+use Rattle.audit.proofs.ReplyLaws.{not-opened-is, stopped-is, readable, count-fits, done-is, lists-table, stored-room}
 
 -- Where the image was opened: its bytes, and its superblock.
 abbrev entry : tie.After-s → tie.Start
@@ -78,7 +78,7 @@ enum-known-s c = search needs
 walk-image-requires : tie.Need-walk-image-requires
 walk-image-requires c κs =
     let s = c .before .before .before .before in
-    (opened-is s .1, lists-places _ _ _ (entry s .pre))
+    (opened-is s .1, lists-table _ _ _ (entry s .pre))
 
 enum-known-x-2 : tie.Need-enum-known-x-2
 enum-known-x-2 c = search needs
@@ -92,7 +92,7 @@ enum-known-count c = search needs
 read-stored-requires : tie.Need-read-stored-requires
 read-stored-requires c κs =
     let d = c .before .before .before in
-    (read d, stored-room _ _ _ _ (entry (at-s d) .pre) (walk-done d .ready .places .fits))
+    (read d, stored-room _ _ _ _ (entry (at-s d) .pre) (walk-done d .ready .table refl .fits))
 
 returns : tie.Need-returns
 returns c =

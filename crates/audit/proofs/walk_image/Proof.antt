@@ -1,46 +1,59 @@
--- The table is the walk's own: zeros at first, and at the end its addresses are copied.
+-- The superblock is the first block; then the table holds the root, and the objects are walked.
 use denote.Ref.{now}
+use mathlib.Core.Path.{refl}
+use lib.ListN.{length}
 use Rattle.format.specs.Limits.{objectsMost}
-use Rattle.audit.proofs.WalkLaws.{table-empty, stopped-out, objects-room, handed-out}
+use Rattle.object.proofs.ObjectLaws.{opened, room-lent}
+use Rattle.audit.proofs.WalkLaws.{superblock-stopped, root-listed, objects-read}
 use borrow.Author.Needs.{needs}
 use Rattle.audit.proofs.walk_image.Statement.{statement}
 use Rattle.audit.proofs.walk_image.Tie as tie
 
-slice-aggregate-walk-table : tie.Need-slice-aggregate-walk-table
-slice-aggregate-walk-table c = search needs
+places-requires : tie.Need-places-requires
+places-requires c κs = search needs
 
-walk-table-requires : tie.Need-walk-table-requires
-unfolding objectsMost
-walk-table-requires c κs =
-    let start = c .before .before .before .before .before .before .before in
-    (start .pre .0, table-empty (now (start .args .addresses)) _ (start .pre .1))
+enter-superblock-requires : tie.Need-enter-superblock-requires
+enter-superblock-requires c κs = room-lent (now (c .before .before .before .before .before .before .args .list)) _ (c .before .places .ensures)
 
 enum-known-x : tie.Need-enum-known-x
 enum-known-x c = search needs
 
-enum-known-count : tie.Need-enum-known-count
-enum-known-count c = search needs
+enum-known-n : tie.Need-enum-known-n
+enum-known-n c = search needs
 
-slice-aggregate-copy-addresses : tie.Need-slice-aggregate-copy-addresses
-slice-aggregate-copy-addresses c = search needs
+start-requires : tie.Need-start-requires
+start-requires c κs = search needs
 
-copy-addresses-requires : tie.Need-copy-addresses-requires
-copy-addresses-requires c κs =
-    let done = c .before .before .before in
-    let walk = done .before .before .before .before .before .before .before in
-    let start = walk .before .before .before .before .before .before .before .before in
-    objects-room _ _ _ _ _ _ _ _ _ _ (rw (done .count .given .1) at (walk .walk-table .ensures)) (start .pre .1)
+slice-aggregate-read : tie.Need-slice-aggregate-read
+slice-aggregate-read c = search needs
+
+read-requires : tie.Need-read-requires
+unfolding objectsMost
+read-requires c κs =
+    let n = c .before .before .before .before .before .before .before .before .before .before .before .before in
+    let s = n .before .before .before .before .before .before .before .before .before .before .before in
+    let room = n .before .before .before .before .before .before .places .ensures in
+    let enter = n .before .before .before .before in
+    let one = rw (n .n .given .1) at (enter .enter-superblock .ensures) in (
+      opened (now (s .args .image)) (s .args .superblock) _ (length (now (s .args .list))) room (s .pre .0),
+      root-listed (now (s .args .image)) (now (s .args .list)) (s .args .superblock) _ room (enter .enter-superblock .last .1 .0) _
+          (enter .enter-superblock .kept .1 .0) (one (now (s .args .image))) _ _ _ _ _
+          (c .before .before .before .before .before .before .before .before .start .ensures) refl (s .pre .0 .4) (s .pre .0 .3),
+    )
 
 same-length : tie.Need-same-length
 same-length c = search needs
 
-same-length-2 : tie.Need-same-length-2
-same-length-2 c = search needs
-
 returns : tie.Need-returns
 returns c =
-    let walk = c .before .before .before .before .before .before .before .before in
-    stopped-out _ _ _ _ _ _ _ _ (rw (c .before .x .given .1) at (walk .walk-table .ensures))
+    let s = c .before .before .before .before .before .before .before .before .before .before .before .before in
+    let enter = c .before .before .before .before .before in
+    superblock-stopped (now (s .args .image)) (now (s .args .list)) (s .args .superblock) _
+    (c .before .before .before .before .before .before .before .places .ensures) (enter .enter-superblock .last .1 .0) _ _ _
+    ((rw (c .before .x .given .1) at (enter .enter-superblock .ensures)) (now (s .args .image)))
+
+same-length-2 : tie.Need-same-length-2
+same-length-2 c = search needs
 
 same-length-3 : tie.Need-same-length-3
 same-length-3 c = search needs
@@ -48,30 +61,35 @@ same-length-3 c = search needs
 same-length-4 : tie.Need-same-length-4
 same-length-4 c = search needs
 
-same-length-5 : tie.Need-same-length-5
-same-length-5 c = search needs
-
 returns-2 : tie.Need-returns-2
+unfolding objectsMost
 returns-2 c =
-    let done = c .before .before .before .before .before .before in
-    let walk = done .before .before .before .before .before .before .before in
-    let start = walk .before .before .before .before .before .before .before .before in
-    handed-out _ _ _ _ _ _ _ _ _ _ _ (rw (done .count .given .1) at (walk .walk-table .ensures)) (start .pre .1) (c .before .before .copy-addresses .ensures)
+    let n = c .before .before .before .before .before .before .before .before .before .before .before .before .before .before .before .before .before .before
+    .before .before in
+    let s = n .before .before .before .before .before .before .before .before .before .before .before in
+    let room = n .before .before .before .before .before .before .places .ensures in
+    let enter = n .before .before .before .before in
+    let one = rw (n .n .given .1) at (enter .enter-superblock .ensures) in
+    objects-read (now (s .args .image)) (now (s .args .list)) (s .args .superblock) _ room (enter .enter-superblock .last .1 .0) _
+    (enter .enter-superblock .kept .1 .0) (one (now (s .args .image))) _ _ _ _ _
+    (c .before .before .before .before .before .before .before .before .before .before .before .before .before .before .before .before .start .ensures)
+    refl _ _ _ _ (c .before .before .before .before .before .before .before .read .result)
+    (c .before .before .before .before .before .before .before .read .kept .1 .0) (c .before .before .before .before .before .before .before .read .ensures)
 
 pub walk-image-spec : {M : Type 1} → statement M
 walk-image-spec =
     tie.close
     (tie.spec
-    slice-aggregate-walk-table
-    walk-table-requires
+    places-requires
+    enter-superblock-requires
     enum-known-x
-    enum-known-count
-    slice-aggregate-copy-addresses
-    copy-addresses-requires
+    enum-known-n
+    start-requires
+    slice-aggregate-read
+    read-requires
     same-length
-    same-length-2
     returns
+    same-length-2
     same-length-3
     same-length-4
-    same-length-5
     returns-2)

@@ -1,5 +1,8 @@
--- The list has the words of all blocks.
-use Rattle.format.specs.Limits.{blocksMost}
+-- The list has the words of all blocks, and the table has guesses.
+use Rattle.format.specs.Limits.{blocksMost, objectsMost}
+use Rattle.ledger.specs.Index.{tableWords}
+use Rattle.audit.proofs.ReplyLaws.{empty-table}
+use native.Mathlib.Omega.{arith}
 use borrow.Author.Needs.{needs}
 use Rattle.front_report.proofs.report_all.Statement.{statement}
 use Rattle.front_report.proofs.report_all.Tie as tie
@@ -7,9 +10,14 @@ use Rattle.front_report.proofs.report_all.Tie as tie
 slice-aggregate-report-with : tie.Need-slice-aggregate-report-with
 slice-aggregate-report-with c = search needs
 
+slice-aggregate-report-with-2 : tie.Need-slice-aggregate-report-with-2
+slice-aggregate-report-with-2 c = search needs
+
 report-with-requires : tie.Need-report-with-requires
-unfolding blocksMost
-report-with-requires c κs = search needs
+unfolding blocksMost objectsMost
+report-with-requires c κs =
+    let s = c .before .before .before .before .before .before .before in
+    (omega (arith, s .pre .0), (empty-table tableWords (omega arith), s .pre .1))
 
 same-length : tie.Need-same-length
 same-length c = search needs
@@ -21,4 +29,12 @@ returns : tie.Need-returns
 returns c = search needs
 
 pub report-all-spec : {M : Type 1} → statement M
-report-all-spec = tie.close (tie.spec slice-aggregate-report-with report-with-requires same-length same-length-2 returns)
+report-all-spec =
+    tie.close
+    (tie.spec
+    slice-aggregate-report-with
+    slice-aggregate-report-with-2
+    report-with-requires
+    same-length
+    same-length-2
+    returns)

@@ -42,7 +42,7 @@ loop-less c = omega (arith, c .before .before .before .before .loop .inv .first)
 loop-again : tie.Need-loop-again Inv-loop μ-loop
 loop-again c =
     let l = c .before .before .before .before .loop in
-    same-more _ _ (l .i) (omega (arith, l .inv .first)) (omega (arith, l .inv .second)) (l .inv)
+    same-more _ _ (l .i) 16 (omega (arith, l .inv .first)) (omega (arith, l .inv .second)) (l .inv)
     (sym (c .before .same-16 .ensures) ∙ not-false _ (c .if2 .left))
 
 returns-3 : tie.Need-returns-3 Inv-loop μ-loop

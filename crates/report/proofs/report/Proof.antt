@@ -1,4 +1,4 @@
--- Arrays of zeros are empty lists; the blocks are handed over; a file without objects is given an empty ledger.
+-- Arrays of zeros are empty lists; the blocks are handed over; a file without objects is given an empty ledger, and else the addresses are copied.
 use denote.Ref.{now}
 use Prim.Native.Nat.{ℕ}
 use mathlib.Core.Path.{refl, sym, _∙_}
@@ -6,6 +6,8 @@ use lib.ListN.{length}
 use Rattle.format.specs.Limits.{objectsMost, blocksMost}
 use Rattle.walk.proofs.BlockList.{room-is}
 use Rattle.walk.proofs.Handed.{work, Working, working, HandedOver, handed-over}
+use Rattle.ledger.specs.Index.{tableWords}
+use Rattle.audit.proofs.ReplyLaws.{empty-table}
 use Rattle.report.specs.Report.{ReportedIs}
 use Rattle.report.proofs.Ledgers.{same-list, empty-reply, full-reply}
 use native.Mathlib.Omega.{arith}
@@ -72,7 +74,7 @@ slice-aggregate-report-into-4 c = search needs
 
 report-into-requires : tie.Need-report-into-requires
 unfolding objectsMost
-report-into-requires c κs = record { addressesEmpty = refl; storedEmpty = refl; countsEmpty = refl }
+report-into-requires c κs = record { addressesEmpty = empty-table tableWords (omega arith); storedEmpty = refl; countsEmpty = refl }
 
 slice-aggregate-hand-over : tie.Need-slice-aggregate-hand-over
 unfolding blocksMost
@@ -94,14 +96,30 @@ returns c =
     let s = start (at-words (returned d)) in
     empty-reply (now (s .args .image)) _ _ _ _ _ (returned d .report-into .result) (reported d) (c .empty .result) (c .before .if1 .taken) (c .empty .ensures)
 
+slice-aggregate-copy-addresses : tie.Need-slice-aggregate-copy-addresses
+slice-aggregate-copy-addresses c = search needs
+
+slice-aggregate-copy-addresses-2 : tie.Need-slice-aggregate-copy-addresses-2
+slice-aggregate-copy-addresses-2 c = search needs
+
+copy-addresses-requires : tie.Need-copy-addresses-requires
+unfolding objectsMost
+copy-addresses-requires c κs =
+    let d = c .before .before .before .before .before .before in
+    let fits = reported d .fits in
+    (omega (arith, fits, returned d .report-into .kept .1 .1 .0), omega (arith, fits))
+
 same-length-2 : tie.Need-same-length-2
 same-length-2 c = search needs
 
 returns-2 : tie.Need-returns-2
+unfolding objectsMost
 returns-2 c =
-    let d = c .before .before .before .before in
+    let if1 = c .before .before .before .before in
+    let d = if1 .before .before .before .before in
     let s = start (at-words (returned d)) in
-    full-reply (now (s .args .image)) _ _ _ _ _ (returned d .report-into .result) (reported d) (omega (arith, c .if1 .left))
+    full-reply (now (s .args .image)) _ _ _ _ _ (returned d .report-into .result) (reported d) (omega (arith, if1 .if1 .left)) _ _ refl
+    (c .before .copy-addresses .ensures)
 
 pub report-spec : {M : Type 1} → statement M
 report-spec =
@@ -120,5 +138,8 @@ report-spec =
     empty-requires
     same-length
     returns
+    slice-aggregate-copy-addresses
+    slice-aggregate-copy-addresses-2
+    copy-addresses-requires
     same-length-2
     returns-2)

@@ -1,7 +1,7 @@
 -- The walk in a filled list, then the laws of Replied.antt at its two ends.
 use Prim.Native.Nat.{ℕ}
 use mathlib.Core.List.{List}
-use mathlib.Core.Path.{_≡_, ap, sym, _∙_}
+use mathlib.Core.Path.{_≡_, refl, ap, sym, _∙_}
 use lib.ListN.{length, replicate}
 use denote.Ref.{now}
 use Rattle.format.specs.Bytes.{undefinedAddress}
@@ -9,7 +9,7 @@ use Rattle.format.specs.declared.Refusal.{Refusal}
 use Rattle.ledger.specs.Report.{Readable}
 use Rattle.object.specs.declared.object.ObjectRead.the-variants.{Done, Stopped}
 use Rattle.audit.specs.Audit.{ImageWalked}
-use Rattle.audit.proofs.ReplyLaws.{lists-places, stored-room, readable}
+use Rattle.audit.proofs.ReplyLaws.{lists-table, stored-room, readable}
 use Rattle.report.proofs.Replied.{entered-fit, entered-numbered, refused-is, done-is, same-long}
 use borrow.Author.Needs.{needs}
 use Rattle.report.proofs.report_opened.Statement.{statement}
@@ -74,7 +74,7 @@ fill-undefined-requires c κs = search needs
 walk-image-requires : tie.Need-walk-image-requires
 walk-image-requires c κs =
     let s = c .before .before .before .before .before .before .before .before .before .before .before .before in
-    (s .pre .0, lists-places _ _ _ (s .pre .1))
+    (s .pre .0, lists-table _ _ _ (s .pre .1))
 
 enum-known-x : tie.Need-enum-known-x
 enum-known-x c = search needs
@@ -101,7 +101,7 @@ enum-known-count c = search needs
 read-stored-requires : tie.Need-read-stored-requires
 read-stored-requires c κs =
     let d = c .before .before .before in
-    (read d, stored-room _ _ _ _ (start (at-end d) .pre .1) (walk-done d .ready .places .fits))
+    (read d, stored-room _ _ _ _ (start (at-end d) .pre .1) (walk-done d .ready .table refl .fits))
 
 no-block-requires : tie.Need-no-block-requires
 no-block-requires c κs = search needs

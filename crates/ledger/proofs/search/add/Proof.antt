@@ -22,10 +22,7 @@ insert-requires c κs =
     (simp length-set (omega (arith, c .before .the-limits .ensures .objectsMostEqual, d .room, d .indexed .long)), d .placed .most)
 
 remember-requires : tie.Need-remember-requires
-remember-requires c κs =
-    let insert = c .before .before .before in
-    let d = insert .before .before .before .before .pre in
-    rw (insert .insert .ensures .long, length-set) (d .indexed .long)
+remember-requires c κs = search needs
 
 same-length : tie.Need-same-length
 same-length c =

@@ -15,9 +15,6 @@ div-spread c = search needs
 add-spread : tie.Need-add-spread
 add-spread c = search needs
 
-mul-result : tie.Need-mul-result
-mul-result c = search needs
-
 add-result : tie.Need-add-result
 add-result c = search needs
 
@@ -26,4 +23,4 @@ unfolding guessAt objectsMost
 returns c = omega arith
 
 pub guess-at-spec : {M : Type 1} → statement M
-guess-at-spec = tie.close (tie.spec mul-spread div-spread add-spread mul-result add-result returns)
+guess-at-spec = tie.close (tie.spec mul-spread div-spread add-spread add-result returns)
