@@ -1,13 +1,12 @@
 -- A name, by how many bytes it has and the map of the free bytes.
 use Prim.Native.Nat.{ℕ, _+_, _<_}
-use mathlib.Core.Bool.{Bool, true, false}
+use mathlib.Core.Bool.{true, false}
 use mathlib.Core.List.{List, [], _∷_}
-use mathlib.Core.Path.{_≡_, refl, sym, _∙_}
+use mathlib.Core.Path.{_≡_, sym, _∙_}
 use native.Mathlib.Omega.{arith}
 use lib.ListN.{length, drop}
 use Rattle.format.specs.Bytes.{part}
 use Rattle.format.specs.Blocks.{Block, overlapsAny}
-use Rattle.format.specs.Limits.{nameMost}
 use Rattle.format.specs.Names.{badForm, inFreeBlock, text, fault, beforeNul, stringAt, keyText, nameText, isName}
 use Rattle.heap.specs.Segment.{heapWith}
 use Rattle.nul.specs.Nul.{LastNul}

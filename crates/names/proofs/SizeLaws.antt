@@ -6,7 +6,7 @@ use mathlib.Core.Path.{_≡_, refl, ap, sym, _∙_}
 use native.Mathlib.Omega.{arith}
 use borrow.Author.Tests.{ltb-true, ltb-false, ne-eqb}
 use lib.Dec.{ltb}
-use lib.ListN.{length, getD, take, drop}
+use lib.ListN.{length, getD, drop}
 use lib.Seq.{take-add, drop-drop, drop-cons}
 use Rattle.format.specs.Limits.{nameMost}
 use Rattle.format.specs.Bytes.{allHold, inRange, part, sameBytes, contains}

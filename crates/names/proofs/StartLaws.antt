@@ -1,12 +1,12 @@
 -- The first bytes of a string, one by one.
-use Prim.Native.Nat.{ℕ, _+_, _≤_, _<_}
-use mathlib.Core.Bool.{true, false}
+use Prim.Native.Nat.{ℕ, _+_, _<_}
+use mathlib.Core.Bool.{true}
 use mathlib.Core.List.{List}
 use mathlib.Core.Path.{_≡_, refl, ap, sym, _∙_}
 use native.Mathlib.Omega.{arith}
 use lib.ListN.{length, getD, take, drop, take-append-drop}
 use lib.Seq.{take-take}
-use Rattle.format.specs.Bytes.{part, contains}
+use Rattle.format.specs.Bytes.{contains}
 use Rattle.format.specs.Names.{beforeNul, stringAt}
 use Rattle.order.proofs.Parts.{contains-parts}
 use Rattle.order.proofs.Sixteen.{found-turn, missed-turn}

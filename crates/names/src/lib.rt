@@ -80,7 +80,7 @@ fn first_bytes(segment: &[u8], off: usize) -> Start
     Start::GoesOn
 }
 
-// How many bytes a name has whose `n` bytes are no '/'; 0 if it is ".".
+// How many bytes a name has that ends behind `n` bytes, none of which is a '/'; 0 if it is empty or ".".
 fn short_size(segment: &[u8], off: usize, n: usize) -> usize
     requires { ⌜ off + beforeNul (drop off (now segment)) < length (now segment) ⌝ }
     requires { ⌜ StartRead (now segment) off (Start.Ends n) ⌝ }

@@ -60,9 +60,6 @@ fn same_8(a: &[u8], b: &[u8], at: usize) -> bool
 fn same_eights(a: &[u8], b: &[u8]) -> usize
     ensures { λ r. ⌜ SameStart (now (a .entry)) (now (b .entry)) r ⌝ }
 {
-    if a.len() < 8 {
-        return 0;
-    }
     let i = same_start(a, b);
     if a.len() - i < 8 {
         return i;
@@ -74,6 +71,16 @@ fn same_eights(a: &[u8], b: &[u8]) -> usize
         return i;
     }
     i + 8
+}
+
+// The same. It is small enough to be inlined, so that no call is made for a string of fewer than 8 bytes.
+fn same_first(a: &[u8], b: &[u8]) -> usize
+    ensures { λ r. ⌜ SameStart (now (a .entry)) (now (b .entry)) r ⌝ }
+{
+    if a.len() < 8 {
+        return 0;
+    }
+    same_eights(a, b)
 }
 
 // The lesser of two lengths.
@@ -106,7 +113,7 @@ fn differ_from(a: &[u8], b: &[u8], from: usize) -> usize
 pub fn below(a: &[u8], b: &[u8]) -> bool
     ensures { λ r. ⌜ r ≡ below (now (a .entry)) (now (b .entry)) ⌝ }
 {
-    let i = differ_from(a, b, same_eights(a, b));
+    let i = differ_from(a, b, same_first(a, b));
     if b.len() <= i {
         return false;
     }

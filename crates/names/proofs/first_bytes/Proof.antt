@@ -1,5 +1,4 @@
 -- No byte before the kth is a NUL or a '/'; each that is neither moves k.
-use denote.Ref.{now}
 use Prim.Native.Nat.{_+_, _-_, _≤_, _<_}
 use mathlib.Core.Path.{_≡_, sym}
 use lib.ListN.{length}

@@ -2,7 +2,6 @@
 use denote.Ref.{now}
 use Rattle.names.proofs.StartLaws.{same-start}
 use Rattle.names.proofs.SizeLaws.{slash-size}
-use native.Mathlib.Omega.{arith}
 use borrow.Author.Needs.{needs}
 use Rattle.names.proofs.name_size.Statement.{statement}
 use Rattle.names.proofs.name_size.Tie as tie

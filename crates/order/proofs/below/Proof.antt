@@ -5,8 +5,8 @@ use borrow.Author.Needs.{needs}
 use Rattle.order.proofs.below.Statement.{statement}
 use Rattle.order.proofs.below.Tie as tie
 
-same-eights-requires : tie.Need-same-eights-requires
-same-eights-requires c κs = search needs
+same-first-requires : tie.Need-same-first-requires
+same-first-requires c κs = search needs
 
 differ-from-requires : tie.Need-differ-from-requires
 differ-from-requires c κs = search needs
@@ -30,7 +30,7 @@ pub below-spec : {M : Type 1} → statement M
 below-spec =
     tie.close
     (tie.spec
-    same-eights-requires
+    same-first-requires
     differ-from-requires
     returns
     returns-2
