@@ -59,12 +59,12 @@ extern "C" {
 #define EBIKWOTULA_LOG_BYTES 4096
 
 /* The stack that a call takes in all, in bytes, as measured and rounded up. */
-#define EBIKWOTULA_AUDIT_STACK_BYTES 57344
-#define EBIKWOTULA_LOOKUP_STACK_BYTES 57344
-#define EBIKWOTULA_DESCRIBE_STACK_BYTES 57344
-#define EBIKWOTULA_MEND_STACK_BYTES 65536
+#define EBIKWOTULA_AUDIT_STACK_BYTES 135168
+#define EBIKWOTULA_LOOKUP_STACK_BYTES 122880
+#define EBIKWOTULA_DESCRIBE_STACK_BYTES 122880
+#define EBIKWOTULA_MEND_STACK_BYTES 147456
 #define EBIKWOTULA_UNDO_STACK_BYTES 4096
-#define EBIKWOTULA_REPORT_STACK_BYTES 57344
+#define EBIKWOTULA_REPORT_STACK_BYTES 135168
 
 /* The answers. 12 is given by audit and mending alone, 14 to 17 by lookup and description alone, 18 by mending and undo
  * alone, 19 by undo alone, and 20 by description alone. A report returns 0 or 13; it has the audit's answer as a word. */
