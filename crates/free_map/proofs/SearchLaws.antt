@@ -12,6 +12,12 @@ use Rattle.free_map.specs.FreeMap.{isFree, freeStart, freeEnd, Wide, inC
 use Rattle.free_map.specs.Cells.{cellMeets}
 use Rattle.free_map.proofs.RangeLaws.{overlaps-split, none-free}
 
+-- a cell without a free byte
+pub empty-cell : (v from end : ℕ) → v ≡ 0 → end ≤ 16 → false ≡ cellMeets v from end
+empty-cell v from end e h =
+    let z : end + 0 ≡ end = omega arith in
+    rw (e, z, le-ltb from 0 (omega arith), le-ltb 16 end h)
+
 -- the bytes at a cell's start decide, or those at its end
 module _ (v from end : ℕ) where
   pub start-decides : from < freeStart v → true ≡ cellMeets v from end

@@ -47,6 +47,9 @@ fn cell_meets(v: u8, from: usize, end: usize) -> bool
     requires { ⌜ end ≤ 16 ⌝ }
     ensures { λ r. ⌜ r ≡ cellMeets v from end ⌝ }
 {
+    if v == 0 {
+        return false;
+    }
     if from < free_start(v) as usize {
         return true;
     }

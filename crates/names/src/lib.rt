@@ -3,6 +3,7 @@
 use free_map::meets;
 use nul::nul_within;
 use order::contains;
+use order::contains_16;
 use string_ends::ends_outside;
 ghost use mathlib.Core.Path.{_≡_};
 ghost use mathlib.Core.List.{List};
@@ -61,8 +62,8 @@ pub fn key(segment: &[u8], ended: usize, off: u64) -> Checked
     Checked::Sound
 }
 
-// Reads at most 16 bytes of a string, each once.
-fn first_bytes(segment: &[u8], off: usize) -> Start
+// Reads at most 16 bytes of a string, one by one.
+fn first_bytes_one_by_one(segment: &[u8], off: usize) -> Start
     requires { ⌜ off + beforeNul (drop off (now segment)) < length (now segment) ⌝ }
     ensures { λ r. ⌜ StartRead (now (segment .entry)) off r ⌝ }
 {
@@ -76,6 +77,23 @@ fn first_bytes(segment: &[u8], off: usize) -> Start
             return Start::Slash;
         }
         k += 1;
+    }
+    Start::GoesOn
+}
+
+// The same, 16 bytes at once if the string goes on behind them.
+fn first_bytes(segment: &[u8], off: usize) -> Start
+    requires { ⌜ off + beforeNul (drop off (now segment)) < length (now segment) ⌝ }
+    ensures { λ r. ⌜ StartRead (now (segment .entry)) off r ⌝ }
+{
+    if segment.len() - off < 16 {
+        return first_bytes_one_by_one(segment, off);
+    }
+    if contains_16(0, segment, off) {
+        return first_bytes_one_by_one(segment, off);
+    }
+    if contains_16(b'/', segment, off) {
+        return Start::Slash;
     }
     Start::GoesOn
 }

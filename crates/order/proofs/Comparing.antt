@@ -18,6 +18,14 @@ same-lengths a b h = go (sameBytes a b) refl
     go true p = absurd (h (ap length (same-equal a b p)))
     go false p = refl
 
+-- nor do lists with another byte at one place
+pub same-at : (a b : List ℕ) (i : ℕ) → (getD a i 0 ≡ getD b i 0 → ⊥) → false ≡ sameBytes a b
+same-at a b i h = go (sameBytes a b) refl
+  where
+    go : (t : Bool) → sameBytes a b ≡ t → false ≡ t
+    go true p = absurd (h (ap (λ s. getD s i 0) (same-equal a b p)))
+    go false p = refl
+
 module _ (a b : List ℕ) (i : ℕ) (whole : Bool) (e : whole ≡ sameBytes (drop i a) (drop i b)) where
   pub same-differ : i < length a → i < length b → (getD a i 0 ≡ getD b i 0 → ⊥) → false ≡ whole
   unfolding sameBytes

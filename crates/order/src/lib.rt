@@ -139,12 +139,18 @@ fn same_from(a: &[u8], b: &[u8], from: usize) -> bool
     true
 }
 
-// Whether both hold the same bytes.
+// Whether both hold the same bytes. Names of one group often begin alike, so that the last byte is compared first.
 pub fn same(a: &[u8], b: &[u8]) -> bool
     ensures { λ r. ⌜ r ≡ sameBytes (now (a .entry)) (now (b .entry)) ⌝ }
 {
     if a.len() != b.len() {
         return false;
+    }
+    let n = a.len();
+    if 0 < n {
+        if a[n - 1] != b[n - 1] {
+            return false;
+        }
     }
     same_from(a, b, same_eights(a, b))
 }

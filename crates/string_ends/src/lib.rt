@@ -92,16 +92,19 @@ pub fn ends_outside(segment: &[u8], map: &[u8], off: usize) -> bool
     ends_in_cell(segment, cell(map, off / 16), off)
 }
 
-// Marks the cells behind which a string begins that ends outside the free blocks, from the last cell on.
+// Marks the cells behind which a string begins that ends outside the free blocks, from the last cell on. The number of the cell marked last is
+// kept in `v`, and not read again.
 pub fn mark(segment: &[u8], map: &mut [u8])
     requires { ⌜ length (now segment) ≤ 16 * length (now map) ⌝ }
     ensures { λ _. ⌜ ((bs : List Block) → MapOf (now (map .entry)) (now (segment .entry)) bs → MapOf (now (map .exit)) (now (segment .entry)) bs ×
         Marked (now (map .exit)) (now (segment .entry)) bs) ⌝ }
 {
     let mut c = map.len();
+    let mut v: u8 = 0;
     while 0 < c {
-        let ends = ends_at(segment, cell(map, c), c);
+        let ends = ends_at(segment, v, c);
         c -= 1;
-        map[c] = remarked(map[c], ends);
+        v = remarked(map[c], ends);
+        map[c] = v;
     }
 }

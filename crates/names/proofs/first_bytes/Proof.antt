@@ -1,69 +1,52 @@
--- No byte before the kth is a NUL or a '/'; each that is neither moves k.
-use Prim.Native.Nat.{_+_, _-_, _≤_, _<_}
-use mathlib.Core.Path.{_≡_, sym}
-use lib.ListN.{length}
-use Rattle.names.specs.Sizes.{Plain}
-use Rattle.names.proofs.StartLaws.{plain-none, plain-nul, plain-slash, plain-more}
-use borrow.Author.Needs.{needs}
+-- Sixteen bytes without a NUL say all; with one they are read one by one.
+use mathlib.Core.Path.{sym, _∙_}
+use Rattle.names.proofs.StartLaws.{goes-on, has-slash}
 use native.Mathlib.Omega.{arith}
+use borrow.Author.Needs.{needs}
 use Rattle.names.proofs.first_bytes.Statement.{statement}
 use Rattle.names.proofs.first_bytes.Tie as tie
 
-abbrev Inv-loop : tie.InvT-loop
-Inv-loop segment off k₀ k = (k ≤ 16) × (off + k < length segment) × Plain segment off k
+sub-if1 : tie.Need-sub-if1
+sub-if1 c = search needs
 
-abbrev μ-loop : tie.MeasureT-loop
-μ-loop segment off k₀ k = 16 - k
+first-bytes-one-by-one-requires : tie.Need-first-bytes-one-by-one-requires
+first-bytes-one-by-one-requires c κs = search needs
 
-loop-holds : tie.Need-loop-holds Inv-loop μ-loop
-loop-holds c = (omega arith, omega arith, plain-none _ _)
+returns : tie.Need-returns
+returns c = search needs
 
-add-x : tie.Need-add-x Inv-loop μ-loop
-add-x c = search needs
+contains-16-requires : tie.Need-contains-16-requires
+contains-16-requires c κs = search needs
 
-shared-slice-read-x : tie.Need-shared-slice-read-x Inv-loop μ-loop
-shared-slice-read-x c = search needs
+first-bytes-one-by-one-requires-2 : tie.Need-first-bytes-one-by-one-requires-2
+first-bytes-one-by-one-requires-2 c κs = search needs
 
-returns : tie.Need-returns Inv-loop μ-loop
-returns c =
-    let l = c .before .before .before .loop in
-    plain-nul _ _ (l .k) (l .inv .2) (omega arith) (omega arith) (c .if1 .taken)
+returns-2 : tie.Need-returns-2
+returns-2 c = search needs
 
-returns-2 : tie.Need-returns-2 Inv-loop μ-loop
-returns-2 c =
-    let l = c .before .before .before .before .loop in
-    plain-slash _ _ (l .k) (l .inv .2) (omega arith) (omega arith) (sym (c .if2 .taken))
+contains-16-requires-2 : tie.Need-contains-16-requires-2
+contains-16-requires-2 c κs = search needs
 
-add-k : tie.Need-add-k Inv-loop μ-loop
-add-k c = search needs
-
-loop-less : tie.Need-loop-less Inv-loop μ-loop
-loop-less c = search needs
-
-loop-again : tie.Need-loop-again Inv-loop μ-loop
-loop-again c =
-    let l = c .before .before .before .before .loop in
-    let more = plain-more _ _ (l .k) (l .inv .2) (omega arith) (c .before .if1 .left) (λ e. c .if2 .left (sym e)) in
-    (omega arith, omega (arith, more .long), more)
-
-returns-3 : tie.Need-returns-3 Inv-loop μ-loop
+returns-3 : tie.Need-returns-3
 returns-3 c =
-    let l = c .before .loop in
-    let k : l .k ≡ 16 = omega arith in
-    rw k at (l .inv .2)
+    let nul = sym (c .before .before .before .contains-16 .ensures) ∙ c .before .before .if2 .left in
+    has-slash _ _ (omega arith) nul (sym (c .before .contains-162 .ensures) ∙ c .if3 .taken)
+
+returns-4 : tie.Need-returns-4
+returns-4 c =
+    let nul = sym (c .before .before .before .contains-16 .ensures) ∙ c .before .before .if2 .left in
+    goes-on _ _ (omega arith) nul (sym (c .before .contains-162 .ensures) ∙ c .if3 .left)
 
 pub first-bytes-spec : {M : Type 1} → statement M
 first-bytes-spec =
     tie.close
     (tie.spec
-    Inv-loop
-    μ-loop
-    loop-holds
-    add-x
-    shared-slice-read-x
+    sub-if1
+    first-bytes-one-by-one-requires
     returns
+    contains-16-requires
+    first-bytes-one-by-one-requires-2
     returns-2
-    add-k
-    loop-less
-    loop-again
-    returns-3)
+    contains-16-requires-2
+    returns-3
+    returns-4)

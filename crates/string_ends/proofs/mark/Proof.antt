@@ -2,8 +2,9 @@
 use denote.Ref.{now}
 use Prim.Native.Nat.{_-_, _≤_}
 use mathlib.Core.List.{List}
-use mathlib.Core.Path.{_≡_, refl}
-use lib.ListN.{length, length-set}
+use mathlib.Core.Path.{_≡_, refl, sym}
+use lib.ListN.{length, getD, length-set, List·getD-eq-default}
+use lib.Seq.{getD-set-same}
 use Rattle.format.specs.Blocks.{Block}
 use Rattle.free_map.specs.FreeMap.{MapOf}
 use Rattle.string_ends.proofs.MarkLaws.{MarkedFrom, cell-of, marked-none, marked-before, marked-all}
@@ -13,19 +14,17 @@ use Rattle.string_ends.proofs.mark.Statement.{statement}
 use Rattle.string_ends.proofs.mark.Tie as tie
 
 abbrev Inv-loop : tie.InvT-loop
-Inv-loop segment map₀ c₀ map c =
-    (length map ≡ length map₀) × (c ≤ length map) × ((bs : List Block) → MapOf map₀ segment bs → MarkedFrom map segment bs c)
+Inv-loop segment map₀ c₀ v₀ map c v =
+    (length map ≡ length map₀) × (c ≤ length map) × (v ≡ getD map c 0) × ((bs : List Block) → MapOf map₀ segment bs → MarkedFrom map segment bs c)
 
 abbrev μ-loop : tie.MeasureT-loop
-μ-loop segment map₀ c₀ map c = c
+μ-loop segment map₀ c₀ v₀ map c v = c
 
 loop-holds : tie.Need-loop-holds Inv-loop μ-loop
 loop-holds c =
     let start = c .before .before in
-    (refl, omega arith, λ bs m. marked-none _ (now (start .args .segment)) bs (start .pre) m)
-
-cell-requires : tie.Need-cell-requires Inv-loop μ-loop
-cell-requires c κs = search needs
+    let map = now (start .args .map) in
+    (refl, omega arith, sym (List·getD-eq-default map 0 {n = length map} (omega arith)), λ bs m. marked-none _ (now (start .args .segment)) bs (start .pre) m)
 
 ends-at-requires : tie.Need-ends-at-requires Inv-loop μ-loop
 ends-at-requires c κs = search needs
@@ -48,16 +47,17 @@ loop-less c = search needs
 loop-again : tie.Need-loop-again Inv-loop μ-loop
 loop-again c =
     let judged = c .before .before in
-    let l = judged .before .before .before .before .loop in
-    let seg = now (judged .before .before .before .before .before .before .before .args .segment) in
+    let l = judged .before .before .loop in
+    let seg = now (judged .before .before .before .before .before .args .segment) in
     let same = length-set (l .map) (l .c - 1) (c .remarked .result) in
     let made = c .remarked .result in (
       omega (arith, same),
       omega (arith, same),
+      sym (getD-set-same (l .map) (l .c - 1) made 0 (omega arith)),
       λ bs m.
-          let rest : MarkedFrom (l .map) seg bs (l .c) = l .inv .2 bs m in
+          let rest : MarkedFrom (l .map) seg bs (l .c) = l .inv .3 bs m in
           let here = cell-of (l .map) seg bs (l .c) (rest .bytes) (rest .marks (l .c) (omega arith)) in
-          let ends = judged .ends-at .ensures bs (rw (judged .before .cell .ensures) here) in
+          let ends = judged .ends-at .ensures bs (rw (l .inv .2) here) in
           marked-before (l .map) seg bs (l .c) made (omega arith) (omega arith) rest (rw ends at (c .remarked .ensures)),
     )
 
@@ -70,7 +70,7 @@ returns c =
     let start = c .before .before .before .before in
     let none : l .c ≡ 0 = omega arith in
     λ bs m.
-    let made = rw none at (l .inv .2 bs m) in
+    let made = rw none at (l .inv .3 bs m) in
     (made .bytes, marked-all (l .map) (now (start .args .segment)) bs (omega arith) made)
 
 pub mark-spec : {M : Type 1} → statement M
@@ -80,7 +80,6 @@ mark-spec =
     Inv-loop
     μ-loop
     loop-holds
-    cell-requires
     ends-at-requires
     sub-c
     slice-read-remarked
