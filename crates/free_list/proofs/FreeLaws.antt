@@ -15,6 +15,7 @@ use Rattle.format.specs.Result.{Result, value, answer, check, _>>=_, _>>_}
 use Rattle.format.specs.FreeList.{freeBlocks, freeList}
 use Rattle.free_map.specs.FreeMap.{MapOf}
 use Rattle.free_map.proofs.RangeLaws.{map-none}
+use Rattle.free_list.specs.Spanned.{Spanned}
 use Rattle.free_list.specs.FreeBlocks.{chain, blockSound, BlockAdded, ListRead}
 use Rattle.free_list.specs.declared.FreeList.{FreeList}
 
@@ -34,14 +35,19 @@ unfolding chain follow
 chain-snoc zero seg off = refl
 chain-snoc (suc n) seg off = ap (λ (bs : List Block). block off (u64 seg (off + 8)) ∷ bs) (chain-snoc n seg (u64 seg off))
 
--- a sound block begins with its two fields
-pub sound-fields : (seg : List ℕ) (met : List Block) (off : ℕ) → blockSound seg met off ≡ true → off + 16 ≤ length seg
+-- a sound block lies in the segment, and begins with its two fields
+pub sound-inside : (seg : List ℕ) (met : List Block) (off : ℕ) → blockSound seg met off ≡ true →
+    (off + 16 ≤ length seg) × (off + u64 seg (off + 8) ≤ length seg)
 unfolding blockSound allHold
-sound-fields seg met off e = go (leb (off + 16) (length seg)) refl _ e
+sound-inside seg met off e =
+    go (leb (off + 16) (length seg)) refl (leb 16 (u64 seg (off + 8))) (leb (off + u64 seg (off + 8)) (length seg)) refl _ e
   where
-    go : (t : Bool) → leb (off + 16) (length seg) ≡ t → (u : Bool) → (if t then u else false) ≡ true → off + 16 ≤ length seg
-    go true p u q = leb-true (off + 16) (length seg) p
-    go false p u q = let z : _≡_ {A = ℕ} 0 1 = cc in absurd (omega arith)
+    go : (t : Bool) → leb (off + 16) (length seg) ≡ t → (u v : Bool) → leb (off + u64 seg (off + 8)) (length seg) ≡ v → (w : Bool) →
+        (if t then if u then if v then w else false else false else false) ≡ true → (off + 16 ≤ length seg) × (off + u64 seg (off + 8) ≤ length seg)
+    go true p true true r w q = (leb-true (off + 16) (length seg) p, leb-true (off + u64 seg (off + 8)) (length seg) r)
+    go true p true false r w q = let z : _≡_ {A = ℕ} 0 1 = cc in absurd (omega arith)
+    go true p false v r w q = let z : _≡_ {A = ℕ} 0 1 = cc in absurd (omega arith)
+    go false p u v r w q = let z : _≡_ {A = ℕ} 0 1 = cc in absurd (omega arith)
 
 -- the free blocks from the one at off on, by its tests
 free-step : (fuel : ℕ) (seg : List ℕ) (off : ℕ) (met : List Block) →
@@ -84,8 +90,8 @@ unfolding freeList chain follow
 free-start seg map head e f z = record { place = refl; left = rw (e, f, sub-zero); mapped = map-none z }
 
 -- One turn, by the block at `at`.
-module _ {seg map map′ : List ℕ} {head at met : ℕ} {r : Bool} (f : Following seg map head at met) (t : BlockAdded seg map at map′ r)
-    (h : met < length seg) where
+module _ {seg map map′ : List ℕ} {low high head at met : ℕ} {r : Bool} (f : Following seg map head at met)
+    (s : Spanned low high (chain met seg head)) (t : BlockAdded seg map low high at map′ r) (h : met < length seg) where
   more : chain met seg head ++ (block at (u64 seg (at + 8)) ∷ []) ≡ chain (met + 1) seg head
   more = rw (f .place, add-one) (chain-snoc met seg head)
 
@@ -95,16 +101,21 @@ module _ {seg map map′ : List ℕ} {head at met : ℕ} {r : Bool} (f : Followi
       else answer 9
   step =
       let k : length seg - met ≡ suc (length seg - (met + 1)) = omega arith in
-      f .left ∙ rw k (free-step (length seg - (met + 1)) seg at (chain met seg head) ∙ rw (more, ← t .sound (chain met seg head) (f .mapped)))
+      f .left ∙ rw k (free-step (length seg - (met + 1)) seg at (chain met seg head) ∙ rw (more, ← t .sound (chain met seg head) (f .mapped) s))
 
   pub block-unsound : r ≡ false → freeList seg head ≡ answer 9
   block-unsound p = step ∙ rw p
 
-  pub block-fields : r ≡ true → at + 16 ≤ length seg
-  block-fields p = sound-fields seg (chain met seg head) at (sym (t .sound (chain met seg head) (f .mapped)) ∙ p)
+  pub block-inside : r ≡ true → (at + 16 ≤ length seg) × (at + u64 seg (at + 8) ≤ length seg)
+  block-inside p = sound-inside seg (chain met seg head) at (sym (t .sound (chain met seg head) (f .mapped) s) ∙ p)
 
   pub block-mapped : r ≡ true → MapOf map′ seg (chain (met + 1) seg head)
-  block-mapped p = rw more at (t .added (chain met seg head) (f .mapped) p)
+  block-mapped p = rw more at (t .added (chain met seg head) (f .mapped) s p)
+
+  -- the blocks, where those before lie between low and high
+  pub block-spanned : {own low′ high′ : ℕ} → own ≡ u64 seg (at + 8) →
+      ((bs : List Block) → Spanned low high bs → Spanned low′ high′ (bs ++ (block at own ∷ []))) → Spanned low′ high′ (chain (met + 1) seg head)
+  block-spanned e w = rw more at (rw e at (w (chain met seg head) s))
 
   pub block-last : r ≡ true → u64 seg at ≡ 1 → freeList seg head ≡ value (chain (met + 1) seg head)
   block-last p q = step ∙ rw (p, eq-eqb (u64 seg at) 1 q)

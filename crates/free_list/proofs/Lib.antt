@@ -1,2 +1,3 @@
+pub mod SpanLaws
 pub mod BlockLaws
 pub mod FreeLaws

@@ -10,6 +10,7 @@ use Rattle.format.specs.Blocks.{Block, block, overlapsAny}
 use Rattle.format.specs.Result.{Result, value, answer}
 use Rattle.format.specs.FreeList.{freeList}
 use Rattle.free_map.specs.FreeMap.{MapOf}
+use Rattle.free_list.specs.Spanned.{Spanned}
 use Rattle.free_list.specs.declared.FreeList.{FreeList}
 use Rattle.free_list.specs.declared.FreeList.the-variants.{Sound, Unsound}
 
@@ -35,10 +36,10 @@ pub record Sized (map seg : List ℕ) (head : ℕ) : Type 0 where
   pub long : 0 < length map → length seg ≤ 16 * length map
   pub some : (head ≡ 1 → ⊥) → (head ≡ undefinedAddress → ⊥) → 0 < length map
 
--- the block at off was tested behind any blocks that the map had; where it is sound, the map has it
-pub record BlockAdded (seg map : List ℕ) (off : ℕ) (map′ : List ℕ) (r : Bool) : Type 0 where
-  pub sound : (bs : List Block) → MapOf map seg bs → r ≡ blockSound seg bs off
-  pub added : (bs : List Block) → MapOf map seg bs → r ≡ true → MapOf map′ seg (bs ++ (block off (u64 seg (off + 8)) ∷ []))
+-- the block at off was tested behind any blocks that the map had, all between low and high; where it is sound, the map has it
+pub record BlockAdded (seg map : List ℕ) (low high off : ℕ) (map′ : List ℕ) (r : Bool) : Type 0 where
+  pub sound : (bs : List Block) → MapOf map seg bs → Spanned low high bs → r ≡ blockSound seg bs off
+  pub added : (bs : List Block) → MapOf map seg bs → Spanned low high bs → r ≡ true → MapOf map′ seg (bs ++ (block off (u64 seg (off + 8)) ∷ []))
   pub long : length map′ ≡ length map
 
 -- the map of a sound list has its blocks

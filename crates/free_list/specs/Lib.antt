@@ -1,1 +1,2 @@
 pub mod FreeBlocks
+pub mod Spanned

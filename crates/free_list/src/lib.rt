@@ -1,6 +1,10 @@
 // The free list of a heap's data segment: a chain of blocks, each with the offset of the next one.
+pub mod span;
+
+use crate::span::Span;
+use crate::span::meets_block;
+use crate::span::widened;
 use free_map::adding::add;
-use free_map::meets;
 use walk::numbers::UNDEFINED_ADDRESS;
 use walk::numbers::u64_at;
 ghost use Prim.Native.Nat.{_*_, _≤_};
@@ -14,9 +18,9 @@ pub enum FreeList {
 }
 
 // Adds the free block at `at` to the map, if it lies in the segment and shares no byte with the blocks there.
-fn add_block(segment: &[u8], map: &mut [u8], at: u64) -> bool
+fn add_block(segment: &[u8], map: &mut [u8], span: Span, at: u64) -> bool
     requires { ⌜ length (now segment) ≤ 16 * length (now map) ⌝ }
-    ensures { λ r. ⌜ BlockAdded (now (segment .entry)) (now (map .entry)) at (now (map .exit)) r ⌝ }
+    ensures { λ r. ⌜ BlockAdded (now (segment .entry)) (now (map .entry)) (span .low) (span .high) at (now (map .exit)) r ⌝ }
 {
     if segment.len() < 16 {
         return false;
@@ -33,7 +37,7 @@ fn add_block(segment: &[u8], map: &mut [u8], at: u64) -> bool
     if segment.len() as u64 - at < size {
         return false;
     }
-    if meets(map, off, size as usize) {
+    if meets_block(map, span, off, size as usize) {
         return false;
     }
     add(map, off, size as usize);
@@ -53,11 +57,17 @@ pub fn free_list(segment: &[u8], map: &mut [u8], head: u64) -> FreeList
     }
     let mut at = head;
     let mut met = 0;
+    let mut span = Span {
+        low: segment.len(),
+        high: 0,
+    };
     while met < segment.len() {
-        if !add_block(segment, map, at) {
+        if !add_block(segment, map, span, at) {
             return FreeList::Unsound;
         }
-        let next = u64_at(segment, at as usize);
+        let off = at as usize;
+        span = widened(span, off, u64_at(segment, off + 8) as usize);
+        let next = u64_at(segment, off);
         met += 1;
         if next == 1 {
             return FreeList::Sound(met);

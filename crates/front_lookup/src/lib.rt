@@ -80,6 +80,16 @@ fn lookup_in(image: &[u8], path: &[u8], blocks: &mut [u8], reply: &mut [u8], roo
     lookup_all(image, path, blocks, reply, room)
 }
 
+// The room that is tried first. A path without a name reads one header, however long the image is.
+fn first_room(image: usize, path: usize, room: usize) -> usize
+    ensures { λ r. ⌜ r ≤ room ⌝ }
+{
+    if path < 2 {
+        return front::first_room(0, room);
+    }
+    front::first_room(image, room)
+}
+
 // The lookup of a path. `blocks` is only lent, and is zeros at the end; `reply` gets the other fields; the number is returned.
 pub fn lookup_bytes(image: &[u8], path: &[u8], blocks: &mut [u8], reply: &mut [u8]) -> u32
     ensures { λ r. ⌜ _≡_ {A = CReply} (record { number = r; list = now (blocks .exit); reply = now (reply .exit) })
@@ -90,7 +100,7 @@ pub fn lookup_bytes(image: &[u8], path: &[u8], blocks: &mut [u8], reply: &mut [u
         return front::NO_ROOM;
     }
     let room = walk::blocks::room(blocks.len() / 8);
-    let first = front::first_room(image.len(), room);
+    let first = first_room(image.len(), path.len(), room);
     let number = lookup_in(image, path, blocks, reply, first);
     if front::decided(number, first, room) {
         return number;

@@ -4,8 +4,8 @@ use mathlib.Core.Bool.{Bool, true, false, not, or-true}
 use mathlib.Core.List.{List}
 use mathlib.Core.Path.{_≡_, refl, ap, sym, _∙_}
 use native.Mathlib.Omega.{arith}
-use borrow.Author.Tests.{ltb-true, ltb-false, lt-ltb, le-ltb, le-leb, lt-leb}
-use lib.Dec.{ltb}
+use borrow.Author.Tests.{ltb-true, ltb-false, lt-ltb, le-ltb, le-leb, lt-leb, eqb-true, eqb-false}
+use lib.Dec.{ltb, eqb}
 use lib.ListN.{length, getD}
 use Rattle.format.specs.Blocks.{Block}
 use Rattle.free_map.specs.FreeMap.{isFree, freeStart, freeEnd, inCell}
@@ -73,3 +73,34 @@ module _ {seg : List ℕ} {bs : List Block} {c v : ℕ} (k : CellOf seg bs c v) 
   pub cell-without : freeEnd v ≤ 16 → marked v ≡ endsOutside seg bs (16 * c)
   cell-without e =
       cell-end k (16 - freeEnd v) (omega arith) (omega arith) (omega arith) (λ p. omega arith) ∙ sym (cell-bytes (16 - freeEnd v) (omega arith))
+
+-- a marked cell without a free byte
+module _ {seg : List ℕ} {bs : List Block} {c : ℕ} (k : CellOf seg bs c 17) where
+  behind : endsOutside seg bs (16 * (c + 1)) ≡ true
+  behind = sym (k .ends refl (omega arith))
+
+  inside : 16 * (c + 1) < length seg
+  inside = go (ltb (16 * (c + 1)) (length seg)) refl
+    where
+      go : (t : Bool) → ltb (16 * (c + 1)) (length seg) ≡ t → 16 * (c + 1) < length seg
+      go true p = ltb-true _ _ p
+      go false p = let e = sym (ends-behind seg bs (16 * (c + 1)) (ltb-false _ _ p)) ∙ behind in let z : _≡_ {A = ℕ} 0 1 = cc in absurd (omega arith)
+
+  -- a byte before a string that ends outside
+  marked-byte : (x : ℕ) → x < 16 → endsOutside seg bs (16 * c + x + 1) ≡ true → endsOutside seg bs (16 * c + x) ≡ true
+  marked-byte x h r = go (eqb (getD seg (16 * c + x) 0) 0) refl
+    where
+      go : (t : Bool) → eqb (getD seg (16 * c + x) 0) 0 ≡ t → endsOutside seg bs (16 * c + x) ≡ true
+      go true p = cell-nul k x (omega (arith, inside)) (omega arith) (omega arith) (eqb-true _ _ p)
+      go false p = cell-next k x (omega (arith, inside)) (omega arith) (omega arith) (eqb-false _ _ p) ∙ r
+
+  -- the last n bytes, from the cell's end on
+  marked-last : (n : ℕ) → n ≤ 16 → endsOutside seg bs (16 * c + (16 - n)) ≡ true
+  marked-last zero h = let e : 16 * (c + 1) ≡ 16 * c + (16 - 0) = omega arith in rw e at behind
+  marked-last (suc n) h =
+      let e : 16 * c + (16 - n) ≡ 16 * c + (16 - suc n) + 1 = omega arith in
+      marked-byte (16 - suc n) (omega arith) (rw e at (marked-last n (omega arith)))
+
+  -- every string in it ends outside the free blocks
+  pub cell-marked : (x : ℕ) → x < 16 → endsOutside seg bs (16 * c + x) ≡ true
+  cell-marked x h = let e : 16 - (16 - x) ≡ x = omega arith in rw e at (marked-last (16 - x) (omega arith))

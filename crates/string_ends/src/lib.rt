@@ -13,6 +13,11 @@ ghost use Rattle.free_map.specs.FreeMap.{MapOf};
 ghost use Rattle.string_ends.specs.Ends.{endsOutside, marked, Marked};
 ghost use Rattle.string_ends.specs.Cells.{CellOf, Remarked};
 
+// The number of a marked cell without a free byte, and of a cell whose bytes are all free.
+const MARKED: u8 = 17;
+
+const FREE: u8 = 16;
+
 // Whether a cell of this number is marked.
 fn is_marked(v: u8) -> bool
     ensures { λ r. ⌜ r ≡ marked v ⌝ }
@@ -83,13 +88,32 @@ fn ends_at(segment: &[u8], v: u8, c: usize) -> bool
     is_marked(v)
 }
 
-// Whether the string at `off` ends in a NUL inside the segment, with no byte of it, its NUL included, in a free block.
+// Whether the string at `off` ends in a NUL inside the segment, with no byte of it, its NUL included, in a free block. In a marked cell without a
+// free byte every string does, whichever byte decides.
 pub fn ends_outside(segment: &[u8], map: &[u8], off: usize) -> bool
     requires { ⌜ off < length (now segment) ⌝ }
     ensures { λ r. ⌜ ((bs : List Block) → MapOf (now (map .entry)) (now (segment .entry)) bs → Marked (now (map .entry)) (now (segment .entry)) bs →
         0 < length (now (map .entry)) → r ≡ endsOutside (now (segment .entry)) bs off) ⌝ }
 {
-    ends_in_cell(segment, cell(map, off / 16), off)
+    let v = cell(map, off / 16);
+    if v == MARKED {
+        return true;
+    }
+    ends_in_cell(segment, v, off)
+}
+
+// The number `w` of the cell before cell `c`, marked or not, by the number `v` of cell `c`. Where there is no string to mark, and where one that
+// ends outside goes on in cell `c` without a free byte, no byte of the segment is looked at.
+fn number_before(segment: &[u8], w: u8, v: u8, c: usize) -> u8
+    ensures { λ r. ⌜ ((bs : List Block) → CellOf (now (segment .entry)) bs c v → Remarked w (endsOutside (now (segment .entry)) bs (16 * c)) r) ⌝ }
+{
+    if w == FREE {
+        return FREE;
+    }
+    if v == MARKED {
+        return remarked(w, true);
+    }
+    remarked(w, ends_at(segment, v, c))
 }
 
 // Marks the cells behind which a string begins that ends outside the free blocks, from the last cell on. The number of the cell marked last is
@@ -102,9 +126,8 @@ pub fn mark(segment: &[u8], map: &mut [u8])
     let mut c = map.len();
     let mut v: u8 = 0;
     while 0 < c {
-        let ends = ends_at(segment, v, c);
+        v = number_before(segment, map[c - 1], v, c);
         c -= 1;
-        v = remarked(map[c], ends);
         map[c] = v;
     }
 }

@@ -9,13 +9,13 @@ use Rattle.free_list.proofs.add_block.Statement.{statement}
 use Rattle.free_list.proofs.add_block.Tie as tie
 
 returns : tie.Need-returns
-returns c = let a = c .before .before .before .args in not-added (λ bs m. fields-outside (now (a .segment)) (a .at) (omega arith) bs)
+returns c = let a = c .before .before .before .args in not-added (λ bs m s. fields-outside (now (a .segment)) (a .at) (omega arith) bs)
 
 sub-last : tie.Need-sub-last
 sub-last c = search needs
 
 returns-2 : tie.Need-returns-2
-returns-2 c = let a = c .before .before .before .before .args in not-added (λ bs m. fields-outside (now (a .segment)) (a .at) (omega arith) bs)
+returns-2 c = let a = c .before .before .before .before .args in not-added (λ bs m s. fields-outside (now (a .segment)) (a .at) (omega arith) bs)
 
 add-u64-at : tie.Need-add-u64-at
 add-u64-at c = search needs
@@ -27,7 +27,7 @@ returns-3 : tie.Need-returns-3
 returns-3 c =
     let u = c .before .u64-at in
     let a = c .before .before .before .before .before .before .args in
-    not-added (λ bs m. too-small (now (a .segment)) (a .at) (u .result) (omega arith) (u .ensures .value) (omega arith) bs)
+    not-added (λ bs m s. too-small (now (a .segment)) (a .at) (u .result) (omega arith) (u .ensures .value) (omega arith) bs)
 
 sub-if4 : tie.Need-sub-if4
 sub-if4 c = search needs
@@ -36,10 +36,10 @@ returns-4 : tie.Need-returns-4
 returns-4 c =
     let u = c .before .before .u64-at in
     let a = c .before .before .before .before .before .before .before .args in
-    not-added (λ bs m. block-outside (now (a .segment)) (a .at) (u .result) (omega arith) (u .ensures .value) (omega arith) (omega arith) bs)
+    not-added (λ bs m s. block-outside (now (a .segment)) (a .at) (u .result) (omega arith) (u .ensures .value) (omega arith) (omega arith) bs)
 
-meets-requires : tie.Need-meets-requires
-meets-requires c κs = search needs
+meets-block-requires : tie.Need-meets-block-requires
+meets-block-requires c κs = search needs
 
 same-length : tie.Need-same-length
 same-length c = search needs
@@ -50,10 +50,10 @@ returns-5 c =
     let u = at-meets .before .before .before .before .u64-at in
     let a = at-meets .before .before .before .before .before .before .before .before .before .args in
     let seg = now (a .segment) in
-    not-added (λ bs m.
+    not-added (λ bs m s.
     sym (ap not (c .if5 .taken))
     ∙ overlap-decides seg (a .at) (u .result) (omega arith) (u .ensures .value) (omega arith) (omega arith) bs
-    (at-meets .meets .ensures seg bs m (omega arith)))
+    (at-meets .meets-block .ensures seg bs m s (omega arith)))
 
 add-requires : tie.Need-add-requires
 add-requires c κs = search needs
@@ -69,13 +69,13 @@ returns-6 c =
     let a = at-meets .before .before .before .before .before .before .before .before .before .args in
     let seg = now (a .segment) in
     was-added (u .result) (u .ensures .value) (at-add .add .ensures .0)
-    (λ bs m.
+    (λ bs m s.
     sym (ap not (at-add .before .before .if5 .left))
     ∙ overlap-decides seg (a .at) (u .result) (omega arith) (u .ensures .value) (omega arith) (omega arith) bs
-    (at-meets .meets .ensures seg bs m (omega arith)))
-    (λ bs m.
+    (at-meets .meets-block .ensures seg bs m s (omega arith)))
+    (λ bs m s.
     at-add .add .ensures .1 seg bs m (omega arith)
-    (sym (at-meets .meets .ensures seg bs m (omega arith)) ∙ at-add .before .before .if5 .left))
+    (sym (at-meets .meets-block .ensures seg bs m s (omega arith)) ∙ at-add .before .before .if5 .left))
 
 pub add-block-spec : {M : Type 1} → statement M
 add-block-spec =
@@ -89,7 +89,7 @@ add-block-spec =
     returns-3
     sub-if4
     returns-4
-    meets-requires
+    meets-block-requires
     same-length
     returns-5
     add-requires

@@ -1,24 +1,29 @@
 -- The fuel of the definition is what is left of the segment's length; each turn is one block, which the map then has.
 use denote.Ref.{now}
-use Prim.Native.Nat.{_*_, _-_, _≤_}
+use Prim.Native.Nat.{_+_, _*_, _-_, _≤_}
 use mathlib.Core.Path.{_≡_, refl, sym, _∙_}
 use borrow.Author.Tests.{eq-eqb, ne-eqb, not-true, not-false}
 use lib.ListN.{length}
-use Rattle.format.specs.Bytes.{undefinedAddress}
+use Rattle.format.specs.Bytes.{u64, undefinedAddress}
 use Rattle.free_map.proofs.RangeLaws.{map-none}
 use Rattle.free_list.specs.FreeBlocks.{chain}
+use Rattle.free_list.specs.Spanned.{Spanned}
 use Rattle.free_list.proofs.FreeLaws.{Following, free-none, free-undefined, free-start}
-use Rattle.free_list.proofs.FreeLaws.{block-unsound, block-fields, block-mapped, block-last, block-more, free-long}
+use Rattle.free_list.proofs.FreeLaws.{block-unsound, block-inside, block-mapped, block-spanned, block-last, block-more, free-long}
 use borrow.Author.Needs.{needs}
 use native.Mathlib.Omega.{arith}
 use Rattle.free_list.proofs.free_list.Statement.{statement}
 use Rattle.free_list.proofs.free_list.Tie as tie
 
 abbrev Inv-loop : tie.InvT-loop
-Inv-loop segment map₀ head at₀ met₀ map at met = (met ≤ length segment) × Following segment map head at met × (length map ≡ length map₀)
+Inv-loop segment map₀ head at₀ met₀ span₀ map at met span =
+    (met ≤ length segment)
+    × Following segment map head at met
+    × (length map ≡ length map₀)
+    × Spanned (span .low) (span .high) (chain met segment head)
 
 abbrev μ-loop : tie.MeasureT-loop
-μ-loop segment map₀ head at₀ met₀ map at met = length segment - met
+μ-loop segment map₀ head at₀ met₀ span₀ map at met span = length segment - met
 
 -- the segment's bytes all have cells
 mapped-whole : (c : tie.Else2 Inv-loop μ-loop) →
@@ -44,7 +49,7 @@ returns-2 c =
     }
 
 loop-holds : tie.Need-loop-holds Inv-loop μ-loop
-unfolding undefinedAddress
+unfolding undefinedAddress chain
 loop-holds c =
     let start = c .before .before .before .before in
     let a = start .args in (
@@ -52,6 +57,7 @@ loop-holds c =
       free-start (now (a .segment)) (now (a .map)) (a .head) (ne-eqb (a .head) 1 (λ e. omega arith)) (ne-eqb (a .head) undefinedAddress (λ e. omega arith))
           (start .pre .zeros),
       refl,
+      tt,
     )
 
 add-block-requires : tie.Need-add-block-requires Inv-loop μ-loop
@@ -63,15 +69,31 @@ same-length c = search needs
 returns-3 : tie.Need-returns-3 Inv-loop μ-loop
 returns-3 c =
     let at-add = c .before .before .before in
-    let l = at-add .before .before .before in
+    let l = at-add .before .before .before .loop in
     let t = at-add .add-block .ensures in
-    record { value = block-unsound (l .loop .inv .1) t (omega arith) (not-true _ (c .if3 .taken)); mapped = tt; long = t .long ∙ l .loop .inv .2 }
+    record { value = block-unsound (l .inv .1) (l .inv .3) t (omega arith) (not-true _ (c .if3 .taken)); mapped = tt; long = t .long ∙ l .inv .2 }
+
+-- the block lies in the segment
+inside : (c : tie.Else3 Inv-loop μ-loop) →
+    let a = c .before .before .before .before .before .before in
+    let seg = now (a .before .before .before .before .before .args .segment) in
+    (a .loop .at + 16 ≤ length seg) × (a .loop .at + u64 seg (a .loop .at + 8) ≤ length seg)
+inside c =
+    let at-add = c .before .before .before in
+    let l = at-add .before .before .before .loop in
+    block-inside (l .inv .1) (l .inv .3) (at-add .add-block .ensures) (omega arith) (not-false _ (c .if3 .left))
+
+add-u64-at : tie.Need-add-u64-at Inv-loop μ-loop
+add-u64-at c = omega (arith, inside c .0)
 
 u64-at-requires : tie.Need-u64-at-requires Inv-loop μ-loop
-u64-at-requires c κs =
-    let at-add = c .before .before .before in
-    let l = at-add .before .before .before in
-    let h = block-fields (l .loop .inv .1) (at-add .add-block .ensures) (omega arith) (not-false _ (c .if3 .left)) in omega arith
+u64-at-requires c κs = omega (arith, inside c .0)
+
+widened-requires : tie.Need-widened-requires Inv-loop μ-loop
+widened-requires c κs = omega (arith, inside (c .before) .1, c .u64-at .ensures .value)
+
+u64-at-requires-2 : tie.Need-u64-at-requires-2 Inv-loop μ-loop
+u64-at-requires-2 c κs = omega (arith, inside (c .before .before) .0)
 
 add-met : tie.Need-add-met Inv-loop μ-loop
 add-met c = search needs
@@ -81,14 +103,14 @@ same-length-2 c = search needs
 
 returns-4 : tie.Need-returns-4 Inv-loop μ-loop
 returns-4 c =
-    let at-test = c .before .before in
+    let at-test = c .before .before .before .before in
     let at-add = at-test .before .before .before in
-    let l = at-add .before .before .before in
+    let l = at-add .before .before .before .loop in
     let t = at-add .add-block .ensures in
     let s = not-false _ (at-test .if3 .left) in record {
-      value = block-last (l .loop .inv .1) t (omega arith) s (sym (c .before .u64-at .ensures .value) ∙ c .if4 .taken);
-      mapped = block-mapped (l .loop .inv .1) t (omega arith) s;
-      long = t .long ∙ l .loop .inv .2;
+      value = block-last (l .inv .1) (l .inv .3) t (omega arith) s (sym (c .before .u64-at2 .ensures .value) ∙ c .if4 .taken);
+      mapped = block-mapped (l .inv .1) (l .inv .3) t (omega arith) s;
+      long = t .long ∙ l .inv .2;
     }
 
 loop-less : tie.Need-loop-less Inv-loop μ-loop
@@ -96,13 +118,17 @@ loop-less c = search needs
 
 loop-again : tie.Need-loop-again Inv-loop μ-loop
 loop-again c =
-    let at-test = c .before .before in
+    let at-next = c .before in
+    let at-widened = at-next .before in
+    let at-size = at-widened .before in
+    let at-test = at-size .before in
     let at-add = at-test .before .before .before in
-    let l = at-add .before .before .before in
+    let l = at-add .before .before .before .loop in
     let t = at-add .add-block .ensures in (
       omega arith,
-      block-more (l .loop .inv .1) t (omega arith) (not-false _ (at-test .if3 .left)) (c .before .u64-at .ensures .value) (c .if4 .left),
-      t .long ∙ l .loop .inv .2,
+      block-more (l .inv .1) (l .inv .3) t (omega arith) (not-false _ (at-test .if3 .left)) (at-next .u64-at2 .ensures .value) (c .if4 .left),
+      t .long ∙ l .inv .2,
+      block-spanned (l .inv .1) (l .inv .3) t (omega arith) (at-size .u64-at .ensures .value) (at-widened .widened .ensures),
     )
 
 same-length-3 : tie.Need-same-length-3 Inv-loop μ-loop
@@ -123,7 +149,10 @@ free-list-spec =
     add-block-requires
     same-length
     returns-3
+    add-u64-at
     u64-at-requires
+    widened-requires
+    u64-at-requires-2
     add-met
     same-length-2
     returns-4

@@ -26,17 +26,17 @@ loop-holds c =
     let map = now (start .args .map) in
     (refl, omega arith, sym (List·getD-eq-default map 0 {n = length map} (omega arith)), λ bs m. marked-none _ (now (start .args .segment)) bs (start .pre) m)
 
-ends-at-requires : tie.Need-ends-at-requires Inv-loop μ-loop
-ends-at-requires c κs = search needs
+sub-number-before : tie.Need-sub-number-before Inv-loop μ-loop
+sub-number-before c = search needs
+
+slice-read-number-before : tie.Need-slice-read-number-before Inv-loop μ-loop
+slice-read-number-before c = search needs
+
+number-before-requires : tie.Need-number-before-requires Inv-loop μ-loop
+number-before-requires c κs = search needs
 
 sub-c : tie.Need-sub-c Inv-loop μ-loop
 sub-c c = search needs
-
-slice-read-remarked : tie.Need-slice-read-remarked Inv-loop μ-loop
-slice-read-remarked c = search needs
-
-remarked-requires : tie.Need-remarked-requires Inv-loop μ-loop
-remarked-requires c κs = search needs
 
 slice-write-map : tie.Need-slice-write-map Inv-loop μ-loop
 slice-write-map c = search needs
@@ -46,19 +46,18 @@ loop-less c = search needs
 
 loop-again : tie.Need-loop-again Inv-loop μ-loop
 loop-again c =
-    let judged = c .before .before in
-    let l = judged .before .before .loop in
-    let seg = now (judged .before .before .before .before .before .args .segment) in
-    let same = length-set (l .map) (l .c - 1) (c .remarked .result) in
-    let made = c .remarked .result in (
+    let at-loop = c .before .before .before in
+    let l = at-loop .loop in
+    let seg = now (at-loop .before .before .before .args .segment) in
+    let made = c .number-before .result in
+    let same = length-set (l .map) (l .c - 1) made in (
       omega (arith, same),
       omega (arith, same),
       sym (getD-set-same (l .map) (l .c - 1) made 0 (omega arith)),
       λ bs m.
           let rest : MarkedFrom (l .map) seg bs (l .c) = l .inv .3 bs m in
           let here = cell-of (l .map) seg bs (l .c) (rest .bytes) (rest .marks (l .c) (omega arith)) in
-          let ends = judged .ends-at .ensures bs (rw (l .inv .2) here) in
-          marked-before (l .map) seg bs (l .c) made (omega arith) (omega arith) rest (rw ends at (c .remarked .ensures)),
+          marked-before (l .map) seg bs (l .c) made (omega arith) (omega arith) rest (c .number-before .ensures bs (rw (l .inv .2) here)),
     )
 
 same-length : tie.Need-same-length Inv-loop μ-loop
@@ -80,10 +79,10 @@ mark-spec =
     Inv-loop
     μ-loop
     loop-holds
-    ends-at-requires
+    sub-number-before
+    slice-read-number-before
+    number-before-requires
     sub-c
-    slice-read-remarked
-    remarked-requires
     slice-write-map
     loop-less
     loop-again
