@@ -15,15 +15,8 @@ use Rattle.walk.proofs.Tests.{all-fails, all-passes, all-last, range-below, ran
 use Rattle.order.proofs.Comparing.{same-lengths}
 use Rattle.order.proofs.Parts.{contains-parts}
 use Rattle.nul.specs.Nul.{NulWithin}
-use Rattle.names.specs.Sizes.{Plain, StartRead, nameSize}
-use Rattle.names.specs.declared.Start.the-variants.{Ends, Slash}
+use Rattle.names.specs.Sizes.{Plain, Slashless, nameSize}
 use Rattle.names.proofs.NameLaws.{string-length}
-use Rattle.names.proofs.StartLaws.{contains-start}
-
--- a name may have 16 bytes
-pub sixteen : 16 ≤ nameMost
-unfolding nameMost
-sixteen = omega arith
 
 -- which strings are names
 module _ (t : List ℕ) where
@@ -83,62 +76,56 @@ module _ (seg : List ℕ) (off : ℕ) (h : off + beforeNul (drop off seg) < leng
       go true p = (refl, sym (size-whole p))
       go false p = absurd (z (sym (size-none p)))
 
-  pub slash-size : StartRead seg off Slash → 0 ≡ nameSize seg off
-  slash-size r = size-none (slash-name _ (contains-start 0x2f 16 (stringAt seg off) r))
-
-  -- it has n bytes, under 16, and no '/'
-  module _ {n : ℕ} (r : StartRead seg off (Ends n)) where
+  -- it has n bytes and no '/'
+  module _ {n : ℕ} (r : Slashless seg off n) where
     empty : n ≡ 0 → n ≡ nameSize seg off
     empty z = go (isName (stringAt seg off)) refl
       where
         go : (t : Bool) → isName (stringAt seg off) ≡ t → n ≡ nameSize seg off
-        go true p = sym (r .1) ∙ size-whole p
+        go true p = sym (r .size) ∙ size-whole p
         go false p = z ∙ size-none p
 
     named : 0 < n → sameBytes (stringAt seg off) (0x2e ∷ []) ≡ false → n ≡ nameSize seg off
     named l s =
-        sym (r .1)
-        ∙ size-whole (good-name _ (omega (arith, sized, r .1)) (omega (arith, sized, r .1, r .0, sixteen)) (r .2) s)
+        sym (r .size)
+        ∙ size-whole (good-name _ (omega (arith, sized, r .size)) (omega (arith, sized, r .size, r .most)) (r .plain) s)
 
-    pub short-other : (n ≡ 1 → ⊥) → n ≡ nameSize seg off
-    short-other d = go (ltb 0 n) refl
+    pub size-other : (n ≡ 1 → ⊥) → n ≡ nameSize seg off
+    size-other d = go (ltb 0 n) refl
       where
         go : (t : Bool) → ltb 0 n ≡ t → n ≡ nameSize seg off
-        go true p = named (ltb-true 0 n p) (sym (same-lengths (stringAt seg off) (0x2e ∷ []) (λ q. d (omega (arith, q, sized, r .1)))))
+        go true p = named (ltb-true 0 n p) (sym (same-lengths (stringAt seg off) (0x2e ∷ []) (λ q. d (omega (arith, q, sized, r .size)))))
         go false p = empty (omega (arith, ltb-false 0 n p))
 
     one : n ≡ 1 → stringAt seg off ≡ getD seg off 0 ∷ []
     unfolding stringAt
-    one e = rw (r .1, e, drop-cons seg off 0 (omega arith))
+    one e = rw (r .size, e, drop-cons seg off 0 (omega arith))
 
-    pub short-dot : n ≡ 1 → getD seg off 0 ≡ 0x2e → 0 ≡ nameSize seg off
-    short-dot e q = size-none (rw (one e, q) dot-name)
+    pub size-dot : n ≡ 1 → getD seg off 0 ≡ 0x2e → 0 ≡ nameSize seg off
+    size-dot e q = size-none (rw (one e, q) dot-name)
 
-    pub short-one : n ≡ 1 → (getD seg off 0 ≡ 0x2e → ⊥) → 1 ≡ nameSize seg off
+    pub size-one : n ≡ 1 → (getD seg off 0 ≡ 0x2e → ⊥) → 1 ≡ nameSize seg off
     unfolding sameBytes
-    short-one e q = sym e ∙ named (omega arith) (rw (one e, ne-eqb _ _ q))
+    size-one e q = sym e ∙ named (omega arith) (rw (one e, ne-eqb _ _ q))
 
-  -- it goes on behind its first 16 bytes, and the bytes up to `end` were looked at
-  module _ (p : Plain seg off 16) {end : ℕ} (w : NulWithin seg (off + 16) (nameMost - 15) end) where
-    pub long-above : nameMost < end - off → 0 ≡ nameSize seg off
-    long-above m = size-none (long-name _ (omega (arith, sized, w .value, p .long)))
+  -- its first m bytes are passed, and the bytes up to `end` were looked at
+  module _ {m : ℕ} (p : Plain seg off m) (l : m ≤ nameMost) {end : ℕ} (w : NulWithin seg (off + m) (nameMost + 1 - m) end) where
+    pub size-above : nameMost < end - off → 0 ≡ nameSize seg off
+    size-above k = size-none (long-name _ (omega (arith, sized, w .value, p .long)))
 
     -- all were looked at
-    module _ (m : end - off ≤ nameMost) where
-      whole : beforeNul (drop off seg) ≡ 16 + (end - (off + 16))
-      whole = omega (arith, w .value, p .long, sixteen)
+    module _ (k : end - off ≤ nameMost) where
+      whole : beforeNul (drop off seg) ≡ m + (end - (off + m))
+      whole = omega (arith, w .value, p .long, l)
 
-      slashes : contains 0x2f (stringAt seg off) ≡ contains 0x2f (part seg (off + 16) (end - (off + 16)))
+      slashes : contains 0x2f (stringAt seg off) ≡ contains 0x2f (part seg (off + m) (end - (off + m)))
       unfolding stringAt
       slashes =
-          rw (whole, take-add 16 (end - (off + 16)) (drop off seg), drop-drop 16 off seg)
-          (contains-parts 0x2f (part seg off 16) _ ∙ rw (p .plain))
+          rw (whole, take-add m (end - (off + m)) (drop off seg), drop-drop m off seg)
+          (contains-parts 0x2f (part seg off m) _ ∙ rw (p .plain))
 
-      pub long-slash : contains 0x2f (part seg (off + 16) (end - (off + 16))) ≡ true → 0 ≡ nameSize seg off
-      long-slash e = size-none (slash-name _ (slashes ∙ e))
+      pub size-slash : contains 0x2f (part seg (off + m) (end - (off + m))) ≡ true → 0 ≡ nameSize seg off
+      size-slash e = size-none (slash-name _ (slashes ∙ e))
 
-      pub long-sound : contains 0x2f (part seg (off + 16) (end - (off + 16))) ≡ false → end - off ≡ nameSize seg off
-      long-sound e =
-          let other = same-lengths (stringAt seg off) (0x2e ∷ []) (λ q. omega (arith, q, sized, whole)) in
-          let n : end - off ≡ beforeNul (drop off seg) = omega (arith, whole, w .value) in
-          n ∙ size-whole (good-name _ (omega (arith, sized, whole)) (omega (arith, sized, n)) (slashes ∙ e) (sym other))
+      pub size-plain : contains 0x2f (part seg (off + m) (end - (off + m))) ≡ false → Slashless seg off (end - off)
+      size-plain e = record { size = omega (arith, whole, w .value); most = k; plain = slashes ∙ e }

@@ -7,7 +7,7 @@ use order::contains_16;
 use string_ends::ends_outside;
 ghost use mathlib.Core.Path.{_≡_};
 ghost use mathlib.Core.List.{List};
-ghost use Prim.Native.Nat.{_+_, _<_};
+ghost use Prim.Native.Nat.{_+_, _≤_, _<_};
 ghost use lib.ListN.{length, drop};
 ghost use Rattle.format.specs.Blocks.{Block};
 ghost use Rattle.format.specs.Names.{beforeNul, keyText, nameText, valueText};
@@ -16,7 +16,7 @@ ghost use Rattle.free_map.specs.FreeMap.{MapOf};
 ghost use Rattle.string_ends.specs.Ends.{Marked};
 ghost use Rattle.heap.specs.Segment.{heapWith};
 ghost use Rattle.names.specs.Texts.{TextRead, CheckedAs};
-ghost use Rattle.names.specs.Sizes.{StartRead, nameSize};
+ghost use Rattle.names.specs.Sizes.{Plain, Slashless, nameSize};
 
 // What can be wrong with a string, in this order.
 pub enum NameFault {
@@ -38,16 +38,6 @@ pub enum Checked {
     Fault(NameFault),
 }
 
-// What the first 16 bytes of a string tell.
-enum Start {
-    // It has so many bytes, and no '/'.
-    Ends(usize),
-    // It has a '/'.
-    Slash,
-    // Neither a NUL nor a '/' is among them.
-    GoesOn,
-}
-
 // A key: any string that ends in a NUL inside the segment.
 pub fn key(segment: &[u8], ended: usize, off: u64) -> Checked
     requires { ⌜ LastNul (now segment) ended ⌝ }
@@ -62,46 +52,10 @@ pub fn key(segment: &[u8], ended: usize, off: u64) -> Checked
     Checked::Sound
 }
 
-// Reads at most 16 bytes of a string, one by one.
-fn first_bytes_one_by_one(segment: &[u8], off: usize) -> Start
+// How many bytes a name has, where the string has so many, at most as many as a name may have, and no '/'; 0 if it is empty or ".".
+fn size_unless_dot(segment: &[u8], off: usize, n: usize) -> usize
     requires { ⌜ off + beforeNul (drop off (now segment)) < length (now segment) ⌝ }
-    ensures { λ r. ⌜ StartRead (now (segment .entry)) off r ⌝ }
-{
-    let mut k: usize = 0;
-    while k < 16 {
-        let x = segment[off + k];
-        if x == 0 {
-            return Start::Ends(k);
-        }
-        if x == b'/' {
-            return Start::Slash;
-        }
-        k += 1;
-    }
-    Start::GoesOn
-}
-
-// The same, 16 bytes at once if the string goes on behind them.
-fn first_bytes(segment: &[u8], off: usize) -> Start
-    requires { ⌜ off + beforeNul (drop off (now segment)) < length (now segment) ⌝ }
-    ensures { λ r. ⌜ StartRead (now (segment .entry)) off r ⌝ }
-{
-    if segment.len() - off < 16 {
-        return first_bytes_one_by_one(segment, off);
-    }
-    if contains_16(0, segment, off) {
-        return first_bytes_one_by_one(segment, off);
-    }
-    if contains_16(b'/', segment, off) {
-        return Start::Slash;
-    }
-    Start::GoesOn
-}
-
-// How many bytes a name has that ends behind `n` bytes, none of which is a '/'; 0 if it is empty or ".".
-fn short_size(segment: &[u8], off: usize, n: usize) -> usize
-    requires { ⌜ off + beforeNul (drop off (now segment)) < length (now segment) ⌝ }
-    requires { ⌜ StartRead (now segment) off (Start.Ends n) ⌝ }
+    requires { ⌜ Slashless (now segment) off n ⌝ }
     ensures { λ r. ⌜ r ≡ nameSize (now (segment .entry)) off ⌝ }
 {
     if n != 1 {
@@ -113,34 +67,58 @@ fn short_size(segment: &[u8], off: usize, n: usize) -> usize
     1
 }
 
-// How many bytes a name has that goes on behind its first 16. One byte more than a name may have is looked at: a longer string has no other fault.
-fn long_size(segment: &[u8], off: usize) -> usize
+// How many bytes a name has, the first `passed` of which are known to be neither NUL nor '/'. One byte more than a name may have is looked at: a longer
+// string has no other fault.
+fn size_behind(segment: &[u8], off: usize, passed: usize) -> usize
     requires { ⌜ off + beforeNul (drop off (now segment)) < length (now segment) ⌝ }
-    requires { ⌜ StartRead (now segment) off Start.GoesOn ⌝ }
+    requires { ⌜ passed ≤ 16 ⌝ }
+    requires { ⌜ Plain (now segment) off passed ⌝ }
     ensures { λ r. ⌜ r ≡ nameSize (now (segment .entry)) off ⌝ }
 {
     let limits = format::the_limits();
-    let from = off + 16;
-    let end = nul_within(segment, from, limits.name_most - 15);
+    let from = off + passed;
+    let end = nul_within(segment, from, limits.name_most + 1 - passed);
     if limits.name_most < end - off {
         return 0;
     }
     if contains(b'/', &segment[from..end]) {
         return 0;
     }
-    end - off
+    size_unless_dot(segment, off, end - off)
 }
 
-// How many bytes the name at `off` has; 0 if the string there is no name: 1 to 255 bytes, no '/', and not ".".
+// How many bytes the string at `off` has, byte by byte. It ends in the segment.
+fn string_size(segment: &[u8], off: usize) -> usize
+    requires { ⌜ off + beforeNul (drop off (now segment)) < length (now segment) ⌝ }
+    ensures { λ r. ⌜ r ≡ beforeNul (drop off (now (segment .entry))) ⌝ }
+{
+    let left = segment.len() - off;
+    let mut k: usize = 0;
+    while k < left {
+        if segment[off + k] == 0 {
+            return k;
+        }
+        k += 1;
+    }
+    k
+}
+
+// How many bytes the name at `off` has; 0 if the string there is no name: 1 to 255 bytes, no '/', and not ".". Where it ends within 16 bytes of the
+// segment and none of these is a '/', its NUL alone is looked for.
 fn name_size(segment: &[u8], off: usize) -> usize
     requires { ⌜ off + beforeNul (drop off (now segment)) < length (now segment) ⌝ }
     ensures { λ r. ⌜ r ≡ nameSize (now (segment .entry)) off ⌝ }
 {
-    match first_bytes(segment, off) {
-        Start::Ends(n) => short_size(segment, off, n),
-        Start::Slash => 0,
-        Start::GoesOn => long_size(segment, off),
+    if segment.len() - off < 16 {
+        return size_behind(segment, off, 0);
     }
+    if contains_16(b'/', segment, off) {
+        return size_behind(segment, off, 0);
+    }
+    if !contains_16(0, segment, off) {
+        return size_behind(segment, off, 16);
+    }
+    size_unless_dot(segment, off, string_size(segment, off))
 }
 
 // A name of a group.

@@ -2,4 +2,5 @@ pub mod OrderLaws
 pub mod Comparing
 pub mod Parts
 pub mod Sixteen
-pub mod Differ
+pub mod BigEndianLaws
+pub mod Windows

@@ -1,13 +1,13 @@
 -- The loops over sixteen bytes: one turn of each, and what sixteen bytes decide of the whole strings.
-use Prim.Native.Nat.{ℕ, zero, suc, _+_, _≤_, _<_}
+use Prim.Native.Nat.{ℕ, zero, suc, _+_, _-_, _≤_, _<_}
 use mathlib.Core.Bool.{Bool, true, false, _||_, and-true, and-false, or-true, or-false}
 use mathlib.Core.List.{List, [], _∷_, _++_}
-use mathlib.Core.Path.{_≡_, refl, sym, _∙_}
+use mathlib.Core.Path.{_≡_, refl, ap, sym, _∙_}
 use native.Mathlib.Omega.{arith}
 use borrow.Author.Tests.{eq-eqb, ne-eqb}
 use lib.Dec.{eqb}
 use lib.ListN.{length, getD, take, drop, length-drop, take-append-drop}
-use lib.Seq.{take-add, length-take-le, drop-drop, getD-take, getD-drop}
+use lib.Seq.{take-add, take-all, length-take-le, drop-drop, getD-take, getD-drop}
 use Rattle.format.specs.Bytes.{if_then_else_, part, sameBytes, contains}
 use Rattle.format.specs.Names.{below}
 use Rattle.order.specs.Same.{SameStart}
@@ -15,7 +15,7 @@ use Rattle.order.proofs.OrderLaws.{same-equal}
 use Rattle.order.proofs.Parts.{below-behind-start, same-behind-start, same-parts, contains-parts, part-more}
 
 -- how long a part is
-part-long : (s : List ℕ) (at n : ℕ) → at + n ≤ length s → length (part s at n) ≡ n
+pub part-long : (s : List ℕ) (at n : ℕ) → at + n ≤ length s → length (part s at n) ≡ n
 part-long s at n h = length-take-le n (drop at s) (simp length-drop (omega arith))
 
 -- two parts, with one byte more
@@ -98,3 +98,26 @@ module _ (x : ℕ) (s : List ℕ) (i : ℕ) (whole : Bool) (e : whole ≡ contai
 
   pub contains-behind : false ≡ contains x (part s i 16) → whole ≡ contains x (drop (i + 16) s)
   contains-behind f = split ∙ rw (← f)
+
+-- what the rest of a string has, the string has
+contains-rest : (x : ℕ) (s : List ℕ) (j : ℕ) → contains x (drop j s) ≡ true → contains x s ≡ true
+contains-rest x s j e = ap (contains x) (sym (take-append-drop j s)) ∙ contains-parts x (take j s) (drop j s) ∙ rw (e, or-true)
+
+-- a string whose bytes from i on decide: so do its bytes from an earlier one on
+contains-earlier : (x : ℕ) (s : List ℕ) (j i : ℕ) → j ≤ i → contains x s ≡ contains x (drop i s) → contains x (drop j s) ≡ contains x s
+contains-earlier x s j i h e = go (contains x (drop j s)) refl (contains x (drop i s)) refl
+  where
+    go : (t : Bool) → contains x (drop j s) ≡ t → (u : Bool) → contains x (drop i s) ≡ u → contains x (drop j s) ≡ contains x s
+    go true p u q = p ∙ sym (contains-rest x s j p)
+    go false p true q =
+        let d : j + (i - j) ≡ i = omega arith in
+        let r = contains-rest x (drop j s) (i - j) (rw (drop-drop (i - j) j s, d) q) in
+        let z : _≡_ {A = ℕ} 0 1 = cc in
+        absurd (omega arith)
+    go false p false q = p ∙ sym (e ∙ q)
+
+-- the last sixteen bytes have those from i on
+pub contains-last : (x : ℕ) (s : List ℕ) (i : ℕ) → 16 ≤ length s → length s - 16 ≤ i → contains x s ≡ contains x (drop i s) →
+    contains x (part s (length s - 16) 16) ≡ contains x s
+contains-last x s i h l e =
+    rw (take-all 16 (drop (length s - 16) s) (simp length-drop (omega arith))) (contains-earlier x s (length s - 16) i l e)

@@ -1,11 +1,12 @@
-// Strings compared bytewise: sixteen bytes at a time, eight once, then byte by byte. The loops over sixteen and eight bytes have no way out, so that
-// they are compiled to vector instructions. A string of fewer bytes is compared byte by byte from its start.
+// Strings compared bytewise. Whether they are the same: sixteen bytes at a time, eight once, then byte by byte. The loops over sixteen and eight bytes
+// have no way out, so that they are compiled to vector instructions. Which is below: sixteen bytes at a time, then eight or four as one number.
 ghost use mathlib.Core.Path.{_≡_};
-ghost use Prim.Native.Nat.{_+_, _≤_, min};
+ghost use Prim.Native.Nat.{_+_, _≤_, _<_, min};
 ghost use lib.ListN.{length, drop};
 ghost use Rattle.format.specs.Bytes.{part, sameBytes, contains};
 ghost use Rattle.format.specs.Names.{below};
-ghost use Rattle.order.specs.Same.{SameStart, FirstDiffer};
+ghost use Rattle.order.specs.Same.{SameStart};
+ghost use Rattle.order.specs.BigEndian.{BigEndian};
 
 // Whether the 16 bytes at `at` are the same in both.
 fn same_16(a: &[u8], b: &[u8], at: usize) -> bool
@@ -73,16 +74,6 @@ fn same_eights(a: &[u8], b: &[u8]) -> usize
     i + 8
 }
 
-// The same. It is small enough to be inlined, so that no call is made for a string of fewer than 8 bytes.
-fn same_first(a: &[u8], b: &[u8]) -> usize
-    ensures { λ r. ⌜ SameStart (now (a .entry)) (now (b .entry)) r ⌝ }
-{
-    if a.len() < 8 {
-        return 0;
-    }
-    same_eights(a, b)
-}
-
 // The lesser of two lengths.
 fn lesser(m: usize, n: usize) -> usize
     ensures { λ r. ⌜ r ≡ min m n ⌝ }
@@ -93,34 +84,113 @@ fn lesser(m: usize, n: usize) -> usize
     n
 }
 
-// Where two strings that begin with so many same bytes differ first; the shorter one's length if they don't.
-fn differ_from(a: &[u8], b: &[u8], from: usize) -> usize
-    requires { ⌜ SameStart (now a) (now b) from ⌝ }
-    ensures { λ r. ⌜ FirstDiffer (now (a .entry)) (now (b .entry)) r ⌝ }
+// The big-endian number of the 2 bytes at `at`. Big-endian numbers of one width are ordered as their bytes are. Each is a sum of two halves, the lower
+// one first: so it is compiled to one load and one swap of bytes. With the higher one first, 8 bytes are 8 loads.
+fn two_at(s: &[u8], at: usize) -> u64
+    requires { ⌜ at + 2 ≤ length (now s) ⌝ }
+    ensures { λ r. ⌜ BigEndian (now (s .entry)) at 2 r ⌝ }
 {
-    let end = lesser(a.len(), b.len());
-    let mut i = from;
+    (s[at + 1] as u64) + 256 * (s[at] as u64)
+}
+
+// The same of 4 bytes.
+fn four_at(s: &[u8], at: usize) -> u64
+    requires { ⌜ at + 4 ≤ length (now s) ⌝ }
+    ensures { λ r. ⌜ BigEndian (now (s .entry)) at 4 r ⌝ }
+{
+    two_at(s, at + 2) + 65536 * two_at(s, at)
+}
+
+// The same of 8 bytes.
+fn eight_at(s: &[u8], at: usize) -> u64
+    requires { ⌜ at + 8 ≤ length (now s) ⌝ }
+    ensures { λ r. ⌜ BigEndian (now (s .entry)) at 8 r ⌝ }
+{
+    four_at(s, at + 4) + 4294967296 * four_at(s, at)
+}
+
+// Whether the first is below the second, where one of them is a beginning of the other.
+fn shorter(a: &[u8], b: &[u8]) -> bool
+    requires { ⌜ SameStart (now a) (now b) (min (length (now a)) (length (now b))) ⌝ }
+    ensures { λ r. ⌜ r ≡ below (now (a .entry)) (now (b .entry)) ⌝ }
+{
+    a.len() < b.len()
+}
+
+// Whether the first is below the second, byte by byte; `end` is the lesser length.
+fn below_bytes(a: &[u8], b: &[u8], end: usize) -> bool
+    requires { ⌜ end ≡ min (length (now a)) (length (now b)) ⌝ }
+    ensures { λ r. ⌜ r ≡ below (now (a .entry)) (now (b .entry)) ⌝ }
+{
+    let mut i = 0;
     while i < end {
         if a[i] != b[i] {
-            return i;
+            return a[i] < b[i];
         }
         i += 1;
     }
-    i
+    shorter(a, b)
 }
 
-// Whether the first is strictly below the second. A beginning is below the whole.
+// The same for fewer than 8 bytes: the first four, and then the last four, of which those that were compared are the same.
+fn below_short(a: &[u8], b: &[u8], end: usize) -> bool
+    requires { ⌜ end ≡ min (length (now a)) (length (now b)) ⌝ }
+    requires { ⌜ end < 8 ⌝ }
+    ensures { λ r. ⌜ r ≡ below (now (a .entry)) (now (b .entry)) ⌝ }
+{
+    if end < 4 {
+        return below_bytes(a, b, end);
+    }
+    let first_a = four_at(a, 0);
+    let first_b = four_at(b, 0);
+    if first_a != first_b {
+        return first_a < first_b;
+    }
+    let last_a = four_at(a, end - 4);
+    let last_b = four_at(b, end - 4);
+    if last_a != last_b {
+        return last_a < last_b;
+    }
+    shorter(a, b)
+}
+
+// The same for 8 bytes or more, the first `from` of which are the same: eight at a time, and then the last eight, of which those that were compared are
+// the same.
+fn below_long(a: &[u8], b: &[u8], from: usize, end: usize) -> bool
+    requires { ⌜ end ≡ min (length (now a)) (length (now b)) ⌝ }
+    requires { ⌜ 8 ≤ end ⌝ }
+    requires { ⌜ SameStart (now a) (now b) from ⌝ }
+    ensures { λ r. ⌜ r ≡ below (now (a .entry)) (now (b .entry)) ⌝ }
+{
+    let mut i = from;
+    while 8 <= end - i {
+        let next_a = eight_at(a, i);
+        let next_b = eight_at(b, i);
+        if next_a != next_b {
+            return next_a < next_b;
+        }
+        i += 8;
+    }
+    let last_a = eight_at(a, end - 8);
+    let last_b = eight_at(b, end - 8);
+    if last_a != last_b {
+        return last_a < last_b;
+    }
+    shorter(a, b)
+}
+
+// Whether the first is strictly below the second. A beginning is below the whole. Sixteens are passed only where there are two or more.
 pub fn below(a: &[u8], b: &[u8]) -> bool
     ensures { λ r. ⌜ r ≡ below (now (a .entry)) (now (b .entry)) ⌝ }
 {
-    let i = differ_from(a, b, same_first(a, b));
-    if b.len() <= i {
-        return false;
+    let end = lesser(a.len(), b.len());
+    if end < 8 {
+        return below_short(a, b, end);
     }
-    if a.len() <= i {
-        return true;
+    if end < 32 {
+        return below_long(a, b, 0, end);
     }
-    a[i] < b[i]
+    below_long(a, b, same_start(a, b), end)
 }
 
 // Whether both hold the same bytes, where they have one length and begin with so many same bytes.
@@ -186,16 +256,20 @@ fn contains_from(x: u8, s: &[u8], from: usize) -> bool
     false
 }
 
-// Whether `x` is one of the bytes.
+// Whether `x` is one of the bytes: sixteen at a time, and the last sixteen in any case, so that none is left.
 pub fn contains(x: u8, s: &[u8]) -> bool
     ensures { λ r. ⌜ r ≡ contains x (now (s .entry)) ⌝ }
 {
+    if s.len() < 16 {
+        return contains_from(x, s, 0);
+    }
+    let last = s.len() - 16;
     let mut i = 0;
-    while 16 <= s.len() - i {
+    while i < last {
         if contains_16(x, s, i) {
             return true;
         }
         i += 16;
     }
-    contains_from(x, s, i)
+    contains_16(x, s, last)
 }
