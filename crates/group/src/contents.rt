@@ -65,7 +65,11 @@ pub fn read_with(
             let state = State {
                 count,
                 objects,
-                last: Name { at: 0, size: 0 },
+                last: Name {
+                    at: 0,
+                    size: 0,
+                    first: 0,
+                },
                 link: Link {
                     found: ABSENT,
                     header: 0,

@@ -25,6 +25,8 @@ use Rattle.nul.specs.Nul.{NulWithin}
 use Rattle.names.specs.declared.NameFault.{NameFault}
 use Rattle.names.specs.declared.NameFault.the-variants.{Outside, NoNul, BadForm, InFreeBlock}
 use Rattle.names.specs.declared.Checked.the-variants.{Sound, Fault}
+use Rattle.range.specs.Range.{nameAt}
+use Rattle.range.proofs.FirstBytes.{string-inside}
 use Rattle.key.specs.Key.{KeysAre, KeyAt, KeyIs}
 use Rattle.key.specs.declared.Keys.the-variants.{Sound as AllSound, Unsound}
 
@@ -147,11 +149,11 @@ module _ (im seg : List ℕ) (at off : ℕ) (k : KeyAt im seg at) (o : off ≡ u
   pub key-starts : off < length seg
   key-starts = key-inside seg [] off (k .sound .0) (rw o (sym (k .sound .1)))
 
-  pub key-cut : (end : ℕ) → NulWithin seg off (nameMost + 1) end → KeyIs im seg at (record { at = off; size = end - off })
+  pub key-cut : (end : ℕ) → NulWithin seg off (nameMost + 1) end → KeyIs im seg at (nameAt seg off (end - off))
   unfolding stringAt
   key-cut end n =
       let e : end - off ≡ min (beforeNul (drop off seg)) (nameMost + 1) = omega (arith, n .value) in
       record {
-        inside = omega (arith, n .value, n .inside);
+        inside = string-inside seg off (end - off) (omega (arith, n .value, n .inside));
         alike = λ t l. rw (e, ← o) (cut-before (drop off seg) t (beforeNul (drop off seg)) (nameMost + 1) (omega arith));
       }

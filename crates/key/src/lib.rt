@@ -3,6 +3,7 @@ use format::Refusal;
 use format::answers;
 use names::Checked;
 use names::NameFault;
+use order::first_number;
 use range::Name;
 use walk::numbers::u64_at;
 ghost use mathlib.Core.List.{List};
@@ -59,8 +60,10 @@ pub fn key_at(image: &[u8], segment: &[u8], at: usize) -> Name
     let off = u64_at(image, at);
     let start = off as usize;
     let end = nul::nul_within(segment, start, limits.name_most + 1);
+    let size = end - start;
     Name {
         at: start,
-        size: end - start,
+        size,
+        first: first_number(segment, start, size),
     }
 }

@@ -36,11 +36,15 @@ bigEndian-append (x ∷ xs) ys =
     omega (arith, bigEndian-append xs ys, ap (λ (k : ℕ). 256 ^ k * x) (length-append xs ys), ap (λ (k : ℕ). k * x) (pow-add 256 (length xs) (length ys)))
 
 -- a number is less than the next power
-bigEndian-less : (xs : List ℕ) → AllBytes xs → bigEndian xs < 256 ^ length xs
+pub bigEndian-less : (xs : List ℕ) → AllBytes xs → bigEndian xs < 256 ^ length xs
 unfolding bigEndian
 bigEndian-less [] h = omega arith
 bigEndian-less (x ∷ xs) h =
     rw pow-suc (omega (arith, bigEndian-less xs (λ k. h (suc k)), mul-le-mul-left (256 ^ length xs) (h 0)))
+
+-- the number of a part
+pub number-of : (s : List ℕ) (at n : ℕ) → at + n ≤ length s → AllBytes s → BigEndian s at n (bigEndian (part s at n))
+number-of s at n h b = record { value = refl; bound = rw (part-long s at n h) at (bigEndian-less (part s at n) (bytes-part s at n b)) }
 
 -- a byte is a number of one byte
 pub number-one : (s : List ℕ) (at : ℕ) → at < length s → getD s at 0 < 256 → BigEndian s at 1 (getD s at 0)
@@ -78,7 +82,7 @@ module _ (w x y u v : ℕ) (h : u < w) (l : v < w) where
       go false true p q = absurd (omega (arith, e, higher w y x v u l (ltb-true y x q)))
       go false false p q = omega (arith, ltb-false x y p, ltb-false y x q)
 
-  digit-below : (xs ys : List ℕ) → ((u ≡ v → ⊥) → below xs ys ≡ ltb u v) → (w * x + u ≡ w * y + v → ⊥) →
+  pub digit-below : (xs ys : List ℕ) → ((u ≡ v → ⊥) → below xs ys ≡ ltb u v) → (w * x + u ≡ w * y + v → ⊥) →
       below (x ∷ xs) (y ∷ ys) ≡ ltb (w * x + u) (w * y + v)
   digit-below xs ys r d = go (ltb x y) (ltb y x) refl refl
     where

@@ -4,3 +4,4 @@ pub mod Parts
 pub mod Sixteen
 pub mod BigEndianLaws
 pub mod Windows
+pub mod FirstLaws

@@ -2,11 +2,11 @@
 // have no way out, so that they are compiled to vector instructions. Which is below: sixteen bytes at a time, then eight or four as one number.
 ghost use mathlib.Core.Path.{_≡_};
 ghost use Prim.Native.Nat.{_+_, _≤_, _<_, min};
-ghost use lib.ListN.{length, drop};
+ghost use lib.ListN.{length, getD, drop};
 ghost use Rattle.format.specs.Bytes.{part, sameBytes, contains};
 ghost use Rattle.format.specs.Names.{below};
 ghost use Rattle.order.specs.Same.{SameStart};
-ghost use Rattle.order.specs.BigEndian.{BigEndian};
+ghost use Rattle.order.specs.BigEndian.{BigEndian, firstNumber};
 
 // Whether the 16 bytes at `at` are the same in both.
 fn same_16(a: &[u8], b: &[u8], at: usize) -> bool
@@ -109,6 +109,51 @@ fn eight_at(s: &[u8], at: usize) -> u64
     four_at(s, at + 4) + 4294967296 * four_at(s, at)
 }
 
+// The byte behind the first `k` of `size` bytes at `at`; 0 if it isn't there.
+fn byte_or_zero(s: &[u8], at: usize, size: usize, k: usize) -> u64
+    requires { ⌜ at + size ≤ length (now s) ⌝ }
+    ensures { λ r. ⌜ (r ≡ getD (part (now (s .entry)) at size) k 0) × (r < 256) ⌝ }
+{
+    if k < size {
+        return s[at + k] as u64;
+    }
+    0
+}
+
+// The number of the first eight of `size` bytes at `at`, byte by byte.
+fn first_number_slow(s: &[u8], at: usize, size: usize) -> u64
+    requires { ⌜ at + size ≤ length (now s) ⌝ }
+    ensures { λ r. ⌜ r ≡ firstNumber 8 (part (now (s .entry)) at size) ⌝ }
+{
+    let mut x: u64 = 0;
+    let mut k: usize = 0;
+    while k < 8 {
+        x = 256 * x + byte_or_zero(s, at, size, k);
+        k += 1;
+    }
+    x
+}
+
+// The number of the first eight of `size` bytes at `at`, with zeros for those that aren't there. Where two strings have different ones, these decide
+// which is below. Eight bytes are read at once, and those behind the string are shifted out.
+pub fn first_number(s: &[u8], at: usize, size: usize) -> u64
+    requires { ⌜ at + size ≤ length (now s) ⌝ }
+    ensures { λ r. ⌜ r ≡ firstNumber 8 (part (now (s .entry)) at size) ⌝ }
+{
+    if s.len() - at < 8 {
+        return first_number_slow(s, at, size);
+    }
+    if size == 0 {
+        return 0;
+    }
+    let x = eight_at(s, at);
+    if 8 <= size {
+        return x;
+    }
+    let left = 64 - 8 * size;
+    (x >> left) << left
+}
+
 // Whether the first is below the second, where one of them is a beginning of the other.
 fn shorter(a: &[u8], b: &[u8]) -> bool
     requires { ⌜ SameStart (now a) (now b) (min (length (now a)) (length (now b))) ⌝ }
@@ -209,18 +254,12 @@ fn same_from(a: &[u8], b: &[u8], from: usize) -> bool
     true
 }
 
-// Whether both hold the same bytes. Names of one group often begin alike, so that the last byte is compared first.
+// Whether both hold the same bytes.
 pub fn same(a: &[u8], b: &[u8]) -> bool
     ensures { λ r. ⌜ r ≡ sameBytes (now (a .entry)) (now (b .entry)) ⌝ }
 {
     if a.len() != b.len() {
         return false;
-    }
-    let n = a.len();
-    if 0 < n {
-        if a[n - 1] != b[n - 1] {
-            return false;
-        }
     }
     same_from(a, b, same_eights(a, b))
 }

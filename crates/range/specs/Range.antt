@@ -7,16 +7,22 @@ use lib.ListN.{length}
 use Rattle.format.specs.Limits.{nameMost}
 use Rattle.format.specs.Bytes.{if_then_else_, allHold, part}
 use Rattle.format.specs.Names.{Bound, below, within}
+use Rattle.order.specs.BigEndian.{firstNumber}
 use Rattle.range.specs.declared.Name.{Name}
 use Rattle.range.specs.declared.Range.{Range}
 
--- the string lies in the segment
-abbrev pub NameInside : List ℕ → Name → Type 0
-NameInside seg n = n .at + n .size ≤ length seg
-
--- its bytes
+-- a string's bytes
 abbrev pub nameIn : List ℕ → Name → List ℕ
 nameIn seg n = part seg (n .at) (n .size)
+
+-- it lies in the segment, and the number is that of its first bytes
+pub record NameInside (seg : List ℕ) (n : Name) : Type 0 where
+  pub within : n .at + n .size ≤ length seg
+  pub first : n .first ≡ firstNumber 8 (nameIn seg n)
+
+-- the string of size bytes at `at`
+abbrev pub nameAt : List ℕ → ℕ → ℕ → Name
+nameAt seg at size = record { at = at; size = size; first = firstNumber 8 (part seg at size) }
 
 pub record RangeInside (seg : List ℕ) (r : Range) : Type 0 where
   pub lowInside : NameInside seg (r .low)

@@ -4,10 +4,11 @@ ghost use mathlib.Core.Path.{_≡_};
 ghost use Rattle.format.specs.Names.{below as isBelow};
 ghost use Rattle.range.specs.Range.{NameInside, RangeInside, nameIn, atMost, Floor, HigherOf, LowerOf, Narrowed};
 
-// A string of the segment: its offset and its length.
+// A string of the segment: its offset, its length, and the number of its first eight bytes, by which most strings are compared.
 pub struct Name {
     pub at: usize,
     pub size: usize,
+    pub first: u64,
 }
 
 pub struct Range {
@@ -16,8 +17,8 @@ pub struct Range {
     pub high: Name,
 }
 
-// Whether a name is below another.
-pub fn name_below(segment: &[u8], a: Name, b: Name) -> bool
+// Whether a name is below another, by their bytes.
+fn bytes_below(segment: &[u8], a: Name, b: Name) -> bool
     requires { ⌜ NameInside (now segment) a ⌝ }
     requires { ⌜ NameInside (now segment) b ⌝ }
     ensures { λ r. ⌜ r ≡ isBelow (nameIn (now (segment .entry)) a) (nameIn (now (segment .entry)) b) ⌝ }
@@ -27,6 +28,18 @@ pub fn name_below(segment: &[u8], a: Name, b: Name) -> bool
     let b_at = b.at;
     let b_end = b_at + b.size;
     below(&segment[a_at..a_end], &segment[b_at..b_end])
+}
+
+// Whether a name is below another.
+pub fn name_below(segment: &[u8], a: Name, b: Name) -> bool
+    requires { ⌜ NameInside (now segment) a ⌝ }
+    requires { ⌜ NameInside (now segment) b ⌝ }
+    ensures { λ r. ⌜ r ≡ isBelow (nameIn (now (segment .entry)) a) (nameIn (now (segment .entry)) b) ⌝ }
+{
+    if a.first != b.first {
+        return a.first < b.first;
+    }
+    bytes_below(segment, a, b)
 }
 
 // Whether a name isn't above the high key.
@@ -48,7 +61,7 @@ fn higher(segment: &[u8], a: Name, b: Name) -> Name
     requires { ⌜ NameInside (now segment) b ⌝ }
     ensures { λ r. ⌜ HigherOf (now (segment .entry)) a b r ⌝ }
 {
-    if name_below(segment, a, b) {
+    if bytes_below(segment, a, b) {
         return b;
     }
     a
@@ -60,7 +73,7 @@ fn lower(segment: &[u8], a: Name, b: Name) -> Name
     requires { ⌜ NameInside (now segment) b ⌝ }
     ensures { λ r. ⌜ LowerOf (now (segment .entry)) a b r ⌝ }
 {
-    if name_below(segment, b, a) {
+    if bytes_below(segment, b, a) {
         return b;
     }
     a

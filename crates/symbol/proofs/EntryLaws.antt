@@ -30,7 +30,8 @@ use Rattle.laws.proofs.Bind.{ret-bind, refuse-bind}
 use Rattle.laws.proofs.Results.{passes, fails, gives, answers}
 use Rattle.walk.proofs.Parts.{part-part, drop-part}
 use Rattle.walk.proofs.Tests.{takes-then, takes-else, field-equal, field-unequal, field-most, field-above}
-use Rattle.range.specs.Range.{nameIn, rangeHolds, Tight}
+use Rattle.range.specs.Range.{nameIn, nameAt, rangeHolds, Tight}
+use Rattle.range.proofs.FirstBytes.{string-inside}
 use Rattle.range.proofs.RangeLaws.{floor-next, second-fails}
 use Rattle.visit.specs.Visit.{Both, visitBoth, Visited}
 use Rattle.symbol.specs.Entry.{groupOf, stateOf, ValueIs, Ready, NameSound, Kept, EntryIs, EntriesAre}
@@ -116,11 +117,11 @@ name-short h off t e = by-key (keyText h off) e
 -- a name that was read at the entry's first field
 pub name-sound : (im seg : List ℕ) (g : Group) (at off n : ℕ) → off ≡ u64 im at →
     TextRead seg off (texts.Sound n) (nameText (chainedHeap seg (g .head) (g .free)) off) →
-    NameSound im seg g at (record { at = off; size = n })
+    NameSound im seg g at (nameAt seg off n)
 name-sound im seg g at off n o h =
     let j : off + n < length seg = h .inside in
     record {
-      inside = omega arith;
+      inside = string-inside seg off n (omega arith);
       short = name-short (chainedHeap seg (g .head) (g .free)) off (part seg off n) (sym (h .value));
       is = rw (← o) (sym (h .value));
     }

@@ -170,6 +170,7 @@ fn one_entry(
             let name = Name {
                 at: off as usize,
                 size: n,
+                first: order::first_number(segment, off as usize, n),
             };
             named_entry(
                 image,

@@ -51,7 +51,11 @@ pub fn tree(
 {
     let height = root_height(image, at);
     if height != 0 {
-        let none = Name { at: 0, size: 0 };
+        let none = Name {
+            at: 0,
+            size: 0,
+            first: 0,
+        };
         let range = Range {
             bounded: false,
             low: none,

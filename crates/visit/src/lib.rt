@@ -4,6 +4,7 @@ use ledger::table::Discovery;
 use order::same;
 ghost use Prim.Native.Nat.{_+_, _^_, _<_};
 ghost use mathlib.Core.Path.{_≡_};
+ghost use Rattle.format.specs.Bytes.{sameBytes};
 ghost use Rattle.ledger.specs.Links.{linkSum};
 ghost use Rattle.ledger.specs.Table.{linkedOf};
 ghost use Rattle.visit.specs.Visit.{linkAfter, TableIf, Visited};
@@ -22,11 +23,27 @@ pub struct Link {
     pub header: u64,
 }
 
+// Whether a name is the wanted one. Names of one group often begin alike, so that the last byte is compared first.
+fn is_wanted(name: &[u8], wanted: &[u8]) -> bool
+    ensures { λ r. ⌜ r ≡ sameBytes (now (name .entry)) (now (wanted .entry)) ⌝ }
+{
+    let n = name.len();
+    if n != wanted.len() {
+        return false;
+    }
+    if 0 < n {
+        if name[n - 1] != wanted[n - 1] {
+            return false;
+        }
+    }
+    same(name, wanted)
+}
+
 // A lookup's answer after an entry of this type and header address.
 fn compare(name: &[u8], wanted: &[u8], kind: u64, header: u64, link: Link) -> Link
     ensures { λ r. ⌜ r ≡ linkAfter (now (name .entry)) (now (wanted .entry)) kind header link ⌝ }
 {
-    if !same(name, wanted) {
+    if !is_wanted(name, wanted) {
         return link;
     }
     if kind <= 1 {

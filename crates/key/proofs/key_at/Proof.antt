@@ -25,16 +25,20 @@ nul-within-requires c κs =
     let start = off .before .before .before .before in
     omega (arith, key-starts (now (start .args .image)) _ _ _ (start .pre) (off .u64-at .ensures .value))
 
-sub-t8 : tie.Need-sub-t8
-sub-t8 c = search needs
+sub-size : tie.Need-sub-size
+sub-size c = search needs
+
+first-number-requires : tie.Need-first-number-requires
+first-number-requires c κs = search needs
 
 returns : tie.Need-returns
 returns c =
-    let off = c .before .before in
+    let found = c .before in
+    let off = found .before .before in
     let start = off .before .before .before .before in
-    let n : NulWithin (now (start .args .segment)) (off .u64-at .result) (nameMost + 1) (c .nul-within .result) =
-    rw (off .before .the-limits .ensures .nameMostEqual) at (c .nul-within .ensures) in
-    key-cut (now (start .args .image)) _ _ _ (start .pre) (off .u64-at .ensures .value) _ n
+    let n : NulWithin (now (start .args .segment)) (off .u64-at .result) (nameMost + 1) (found .nul-within .result) =
+    rw (off .before .the-limits .ensures .nameMostEqual) at (found .nul-within .ensures) in
+    rw (c .first-number .ensures) (key-cut (now (start .args .image)) _ _ _ (start .pre) (off .u64-at .ensures .value) _ n)
 
 pub key-at-spec : {M : Type 1} → statement M
 key-at-spec =
@@ -44,5 +48,6 @@ key-at-spec =
     u64-at-requires
     add-nul-within
     nul-within-requires
-    sub-t8
+    sub-size
+    first-number-requires
     returns)

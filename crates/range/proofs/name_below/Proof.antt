@@ -1,56 +1,23 @@
--- The two parts of the segment, compared.
+-- The numbers of the first bytes, where they differ, and else all bytes decide.
 use denote.Ref.{now}
-use mathlib.Core.Path.{_∙_}
-use Rattle.heap.proofs.SegmentLaws.{part-between}
+use Rattle.range.proofs.FirstBytes.{first-below}
 use borrow.Author.Needs.{needs}
 use Rattle.range.proofs.name_below.Statement.{statement}
 use Rattle.range.proofs.name_below.Tie as tie
 
-add-a-end : tie.Need-add-a-end
-add-a-end c = search needs
-
-add-b-end : tie.Need-add-b-end
-add-b-end c = search needs
-
-sub-below : tie.Need-sub-below
-sub-below c = search needs
-
-part-below-start : tie.Need-part-below-start
-part-below-start c = search needs
-
-part-below-end : tie.Need-part-below-end
-part-below-end c = search needs
-
-sub-below-2 : tie.Need-sub-below-2
-sub-below-2 c = search needs
-
-part-below-start-2 : tie.Need-part-below-start-2
-part-below-start-2 c = search needs
-
-part-below-end-2 : tie.Need-part-below-end-2
-part-below-end-2 c = search needs
-
-below-requires : tie.Need-below-requires
-below-requires c κs = search needs
-
 returns : tie.Need-returns
 returns c =
-    let a = c .before .before .before .before .before .before .args in
-    let e = part-between (now (a .segment)) (a .a .at) (a .a .size) in
-    let f = part-between (now (a .segment)) (a .b .at) (a .b .size) in
-    c .below .ensures ∙ rw (e, f)
+    let differ = c .before .before in
+    let known = differ .before .before .before in
+    let start = known .before in
+    let a = start .args in
+    first-below (now (a .segment)) (a .a) (a .b) (λ k. known .shared-slice-known .given k .fits) (start .pre .0) (start .pre .1) (differ .if1 .taken)
+
+bytes-below-requires : tie.Need-bytes-below-requires
+bytes-below-requires c κs = search needs
+
+returns-2 : tie.Need-returns-2
+returns-2 c = search needs
 
 pub name-below-spec : {M : Type 1} → statement M
-name-below-spec =
-    tie.close
-    (tie.spec
-    add-a-end
-    add-b-end
-    sub-below
-    part-below-start
-    part-below-end
-    sub-below-2
-    part-below-start-2
-    part-below-end-2
-    below-requires
-    returns)
+name-below-spec = tie.close (tie.spec returns bytes-below-requires returns-2)

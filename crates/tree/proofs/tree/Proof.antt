@@ -5,6 +5,8 @@ use mathlib.Core.List.{[]}
 use mathlib.Core.Path.{_≡_, refl, sym, subst}
 use Prim.Native.Nat.{_+_}
 use Rattle.format.specs.Bytes.{u16}
+use Rattle.range.specs.declared.Name.{Name}
+use Rattle.range.proofs.FirstBytes.{empty-inside}
 use Rattle.symbol.specs.Entry.{groupOf, stateOf}
 use Rattle.node.specs.Node.{NodeIs}
 use Rattle.node.specs.declared.NodeRead
@@ -29,6 +31,10 @@ node-is c =
     (at-read-node .read-node .last .1 .0) r) (c .level .given .1)
     (at-read-node .read-node .ensures)
 
+-- the string of a range that bounds nothing
+abbrev none : Name
+none = record { at = 0; size = 0; first = 0 }
+
 -- an empty root
 no-entries : (c : tie.After-level) →
     let start = c .before .before .before .before .before .before .before .before .before .before .before .before .before .before .before in
@@ -42,7 +48,7 @@ root-height-requires : tie.Need-root-height-requires
 root-height-requires c κs = search needs
 
 subtree-requires : tie.Need-subtree-requires
-subtree-requires c κs = search needs
+subtree-requires c κs = search (needs, empty-inside)
 
 same-length : tie.Need-same-length
 same-length c = search needs
@@ -67,7 +73,7 @@ returns c =
             (u .0),
         sym (u .1),
       ) (at-subtree .subtree .ensures .walked []
-          (no-bounds (now (start .args .segment)) (record { bounded = false; low = record { at = 0; size = 0 }; high = record { at = 0; size = 0 } }) refl));
+          (no-bounds (now (start .args .segment)) (record { bounded = false; low = none; high = none }) refl));
       sound = at-subtree .subtree .ensures .sound;
     }
 

@@ -5,6 +5,7 @@ use Prim.Native.Nat.{_+_, _-_}
 use Rattle.format.specs.Bytes.{part}
 use Rattle.heap.specs.Header.{segmentOf, openHeap}
 use Rattle.heap.proofs.SegmentLaws.{part-between}
+use Rattle.range.proofs.FirstBytes.{empty-inside}
 use Rattle.group.proofs.GroupLaws.{list-refused, tree-ended, same-segment, sound-ready}
 use native.Mathlib.Omega.{arith}
 use borrow.Author.Needs.{needs}
@@ -64,7 +65,7 @@ tree-requires c κs =
       record { file = settings .file; small = settings .small; leaf = settings .leaf; internal = settings .internal; known = segment .known },
       record {
         lent = ready .lent;
-        last = omega arith;
+        last = empty-inside _;
         table = ready .table;
         apart = ready .apart;
         inside = ready .inside;

@@ -72,7 +72,10 @@ enum-told : tie.Need-enum-told
 enum-told c = search needs
 
 add-end : tie.Need-add-end
-add-end c = search needs
+add-end c =
+    let sound = c .before in
+    let s = start (sound .before .before .before .before .before .before .before .before) in
+    omega (arith, s .good .1 .0 .0, s .pre .1 .1 .1 .1 .inside .within)
 
 add-u64-at : tie.Need-add-u64-at
 add-u64-at c = search needs
@@ -89,7 +92,7 @@ part-visit-entry-start c = search needs
 part-visit-entry-end : tie.Need-part-visit-entry-end
 part-visit-entry-end c =
     let sound = c .before .before .before .before .before in
-    omega (arith, start (sound .before .before .before .before .before .before .before .before) .pre .1 .1 .1 .1 .inside)
+    omega (arith, start (sound .before .before .before .before .before .before .before .before) .pre .1 .1 .1 .1 .inside .within)
 
 visit-entry-requires : tie.Need-visit-entry-requires
 visit-entry-requires c κs =

@@ -1,6 +1,12 @@
 -- The name, and with a sound one what follows it.
 use denote.Ref.{now}
+use Rattle.format.specs.Names.{nameText}
+use Rattle.heap.specs.Segment.{chainedHeap}
+use Rattle.names.specs.Texts.{TextRead}
+use Rattle.names.specs.declared.Text.the-variants.{Sound}
+use Rattle.range.specs.Range.{nameAt}
 use Rattle.symbol.specs.Entry.{NameSound}
+use native.Mathlib.Omega.{arith}
 use Rattle.symbol.proofs.EntryLaws.{same-text, name-sound, name-refused}
 use borrow.Author.Needs.{needs}
 use Rattle.symbol.proofs.entry.one_entry.Statement.{statement}
@@ -10,13 +16,21 @@ use Rattle.symbol.proofs.entry.one_entry.Tie as tie
 abbrev start : tie.After-name → tie.Start
 start c = c .before .before .before .before .before .before .before .before
 
+-- the string was read
+read : (c : tie.After-n) →
+    let a = start (c .before .before) .args in
+    let off = c .before .before .before .u64-at .result in
+    TextRead (now (a .segment)) off (Sound (c .n .given .0 .0)) (nameText (chainedHeap (now (a .segment)) (a .group .head) (a .group .free)) off)
+read c = let name = c .before .before in same-text (c .n .given .1) (name .name .ensures _ (start name .pre .1 .0 .known .mapped))
+
 -- the entry's name
 named : (c : tie.After-n) →
     let a = start (c .before .before) .args in
-    NameSound (now (a .image)) (now (a .segment)) (a .group) (a .at) (record { at = c .before .before .before .u64-at .result; size = c .n .given .0 .0 })
+    NameSound (now (a .image)) (now (a .segment)) (a .group) (a .at)
+    (nameAt (now (a .segment)) (c .before .before .before .u64-at .result) (c .n .given .0 .0))
 named c =
     let name = c .before .before in
-    name-sound _ _ _ _ _ _ (name .before .u64-at .ensures .value) (same-text (c .n .given .1) (name .name .ensures _ (start name .pre .1 .0 .known .mapped)))
+    name-sound _ _ _ _ _ _ (name .before .u64-at .ensures .value) (read c)
 
 u64-at-requires : tie.Need-u64-at-requires
 u64-at-requires c κs = search needs
@@ -33,10 +47,15 @@ fault-number-requires c κs = search needs
 enum-known-n : tie.Need-enum-known-n
 enum-known-n c = search needs
 
+first-number-requires : tie.Need-first-number-requires
+first-number-requires c κs = let j = read (c .before) .inside in omega (arith, j)
+
 named-entry-requires : tie.Need-named-entry-requires
 named-entry-requires c κs =
-    let s = start (c .before .before .before .before .before) in
-    (s .pre .0, (s .pre .1 .0, (s .pre .1 .1 .0, (s .pre .1 .1 .1, named (c .before .before .before)))))
+    let at-name = c .before .before in
+    let at-n = at-name .before .before in
+    let s = start (at-n .before .before) in
+    (s .pre .0, (s .pre .1 .0, (s .pre .1 .1 .0, (s .pre .1 .1 .1, rw (at-name .first-number .ensures) (named at-n)))))
 
 returns : tie.Need-returns
 returns c =
@@ -62,6 +81,7 @@ one-entry-spec =
     enum-known-f
     fault-number-requires
     enum-known-n
+    first-number-requires
     named-entry-requires
     returns
     same-length

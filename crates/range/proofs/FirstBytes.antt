@@ -1,0 +1,27 @@
+-- Strings of a segment with the numbers of their first bytes.
+use Prim.Native.Nat.{ℕ, _+_, _≤_}
+use mathlib.Core.List.{List}
+use mathlib.Core.Path.{_≡_, refl, sym, _∙_}
+use native.Mathlib.Omega.{arith}
+use lib.Dec.{ltb}
+use lib.ListN.{length}
+use Rattle.format.specs.Names.{below}
+use Rattle.order.proofs.BigEndianLaws.{AllBytes, bytes-part}
+use Rattle.order.proofs.FirstLaws.{first-decides, read-none}
+use Rattle.range.specs.Range.{NameInside, nameIn, nameAt}
+use Rattle.range.specs.declared.Name.{Name}
+
+-- the empty string, and any other
+pub empty-inside : (seg : List ℕ) → NameInside seg (record { at = 0; size = 0; first = 0 })
+empty-inside seg = record { within = omega arith; first = read-none seg 0 0 refl }
+
+pub string-inside : (seg : List ℕ) (at size : ℕ) → at + size ≤ length seg → NameInside seg (nameAt seg at size)
+string-inside seg at size h = record { within = h; first = refl }
+
+-- where the numbers of two differ, they decide
+pub first-below : (seg : List ℕ) (a b : Name) → AllBytes seg → NameInside seg a → NameInside seg b → (a .first ≡ b .first → ⊥) →
+    ltb (a .first) (b .first) ≡ below (nameIn seg a) (nameIn seg b)
+first-below seg a b bytes i j d =
+    rw (i .first, j .first)
+    (first-decides 8 (nameIn seg a) (nameIn seg b) (bytes-part seg (a .at) (a .size) bytes) (bytes-part seg (b .at) (b .size) bytes)
+    (λ e. d (i .first ∙ e ∙ sym (j .first))))
