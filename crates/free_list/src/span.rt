@@ -1,8 +1,9 @@
 // Where the free blocks met so far lie. In a list that rises or falls the next block lies outside, and its bytes are not looked for in the map.
 use free_map::meets;
+use order::lesser;
 ghost use mathlib.Core.List.{List, [], _∷_, _++_};
 ghost use mathlib.Core.Path.{_≡_};
-ghost use Prim.Native.Nat.{ℕ, _+_, _≤_, _<_, _^_, min, max};
+ghost use Prim.Native.Nat.{ℕ, _+_, _≤_, _<_, _^_, max};
 ghost use lib.ListN.{length};
 ghost use Rattle.format.specs.Blocks.{Block, block, overlapsAny};
 ghost use Rattle.free_map.specs.FreeMap.{MapOf};
@@ -12,15 +13,6 @@ ghost use Rattle.free_list.specs.Spanned.{Spanned};
 pub struct Span {
     pub low: usize,
     pub high: usize,
-}
-
-fn lesser(m: usize, n: usize) -> usize
-    ensures { λ r. ⌜ r ≡ min m n ⌝ }
-{
-    if m < n {
-        return m;
-    }
-    n
 }
 
 fn greater(m: usize, n: usize) -> usize

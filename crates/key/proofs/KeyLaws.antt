@@ -25,8 +25,7 @@ use Rattle.nul.specs.Nul.{NulWithin}
 use Rattle.names.specs.declared.NameFault.{NameFault}
 use Rattle.names.specs.declared.NameFault.the-variants.{Outside, NoNul, BadForm, InFreeBlock}
 use Rattle.names.specs.declared.Checked.the-variants.{Sound, Fault}
-use Rattle.range.specs.Range.{nameAt}
-use Rattle.range.proofs.FirstBytes.{string-inside}
+use Rattle.range.proofs.FirstBytes.{nameAt, string-inside}
 use Rattle.key.specs.Key.{KeysAre, KeyAt, KeyIs}
 use Rattle.key.specs.declared.Keys.the-variants.{Sound as AllSound, Unsound}
 

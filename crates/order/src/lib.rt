@@ -74,8 +74,8 @@ fn same_eights(a: &[u8], b: &[u8]) -> usize
     i + 8
 }
 
-// The lesser of two lengths.
-fn lesser(m: usize, n: usize) -> usize
+// The lesser of two numbers.
+pub fn lesser(m: usize, n: usize) -> usize
     ensures { λ r. ⌜ r ≡ min m n ⌝ }
 {
     if m < n {

@@ -5,11 +5,17 @@ use mathlib.Core.Path.{_≡_, refl, sym, _∙_}
 use native.Mathlib.Omega.{arith}
 use lib.Dec.{ltb}
 use lib.ListN.{length}
+use Rattle.format.specs.Bytes.{part}
 use Rattle.format.specs.Names.{below}
+use Rattle.order.specs.BigEndian.{firstNumber}
 use Rattle.order.proofs.BigEndianLaws.{AllBytes, bytes-part}
 use Rattle.order.proofs.FirstLaws.{first-decides, read-none}
-use Rattle.range.specs.Range.{NameInside, nameIn, nameAt}
+use Rattle.range.specs.Range.{NameInside, nameIn}
 use Rattle.range.specs.declared.Name.{Name}
+
+-- the string of size bytes at `at`
+abbrev pub nameAt : List ℕ → ℕ → ℕ → Name
+nameAt seg at size = record { at = at; size = size; first = firstNumber 8 (part seg at size) }
 
 -- the empty string, and any other
 pub empty-inside : (seg : List ℕ) → NameInside seg (record { at = 0; size = 0; first = 0 })

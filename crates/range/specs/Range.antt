@@ -20,10 +20,6 @@ pub record NameInside (seg : List ℕ) (n : Name) : Type 0 where
   pub within : n .at + n .size ≤ length seg
   pub first : n .first ≡ firstNumber 8 (nameIn seg n)
 
--- the string of size bytes at `at`
-abbrev pub nameAt : List ℕ → ℕ → ℕ → Name
-nameAt seg at size = record { at = at; size = size; first = firstNumber 8 (part seg at size) }
-
 pub record RangeInside (seg : List ℕ) (r : Range) : Type 0 where
   pub lowInside : NameInside seg (r .low)
   pub highInside : NameInside seg (r .high)

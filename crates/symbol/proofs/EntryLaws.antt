@@ -30,8 +30,8 @@ use Rattle.laws.proofs.Bind.{ret-bind, refuse-bind}
 use Rattle.laws.proofs.Results.{passes, fails, gives, answers}
 use Rattle.walk.proofs.Parts.{part-part, drop-part}
 use Rattle.walk.proofs.Tests.{takes-then, takes-else, field-equal, field-unequal, field-most, field-above}
-use Rattle.range.specs.Range.{nameIn, nameAt, rangeHolds, Tight}
-use Rattle.range.proofs.FirstBytes.{string-inside}
+use Rattle.range.specs.Range.{nameIn, rangeHolds, Tight}
+use Rattle.range.proofs.FirstBytes.{nameAt, string-inside}
 use Rattle.range.proofs.RangeLaws.{floor-next, second-fails}
 use Rattle.visit.specs.Visit.{Both, visitBoth, Visited}
 use Rattle.symbol.specs.Entry.{groupOf, stateOf, ValueIs, Ready, NameSound, Kept, EntryIs, EntriesAre}

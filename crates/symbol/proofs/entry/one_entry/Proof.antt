@@ -4,7 +4,7 @@ use Rattle.format.specs.Names.{nameText}
 use Rattle.heap.specs.Segment.{chainedHeap}
 use Rattle.names.specs.Texts.{TextRead}
 use Rattle.names.specs.declared.Text.the-variants.{Sound}
-use Rattle.range.specs.Range.{nameAt}
+use Rattle.range.proofs.FirstBytes.{nameAt}
 use Rattle.symbol.specs.Entry.{NameSound}
 use native.Mathlib.Omega.{arith}
 use Rattle.symbol.proofs.EntryLaws.{same-text, name-sound, name-refused}
