@@ -87,7 +87,7 @@ module _ (im : List ℕ) (eof room : ℕ) (ws : List ℕ) (count : ℕ) (l : Len
   }
 
   abbrev begun : State
-  begun = record { count = count; objects = objects; last = record { at = 0; size = 0; first = 0 }; link = noLink }
+  begun = record { count = count; objects = objects; last = record { at = 0; size = 0; first = 0; second = 0 }; link = noLink }
 
   pub tree-ended : freeList (segmentOf im h) (h .head) ≡ value (chain free (segmentOf im h) (h .head)) → (ws₂ addresses₂ counts₂ : List ℕ) (r : Step) →
       length ws₂ ≡ length ws →

@@ -69,6 +69,7 @@ pub fn read_with(
                     at: 0,
                     size: 0,
                     first: 0,
+                    second: 0,
                 },
                 link: Link {
                     found: ABSENT,

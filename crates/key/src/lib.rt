@@ -4,6 +4,7 @@ use format::answers;
 use names::Checked;
 use names::NameFault;
 use order::first_number;
+use order::second_number;
 use range::Name;
 use walk::numbers::u64_at;
 ghost use mathlib.Core.List.{List};
@@ -65,5 +66,6 @@ pub fn key_at(image: &[u8], segment: &[u8], at: usize) -> Name
         at: start,
         size,
         first: first_number(segment, start, size),
+        second: second_number(segment, start, size),
     }
 }

@@ -76,6 +76,14 @@ module _ (seg : List ℕ) (off : ℕ) (h : off + beforeNul (drop off seg) < leng
       go true p = (refl, sym (size-whole p))
       go false p = absurd (z (sym (size-none p)))
 
+  -- it has a '/'
+  pub size-slashed : contains 0x2f (stringAt seg off) ≡ true → 0 ≡ nameSize seg off
+  size-slashed e = size-none (slash-name _ e)
+
+  pub size-slashed-short : {n : ℕ} → n ≡ beforeNul (drop off seg) → contains 0x2f (part seg off n) ≡ true → 0 ≡ nameSize seg off
+  unfolding stringAt
+  size-slashed-short q e = size-slashed (rw q at e)
+
   -- it has n bytes and no '/'
   module _ {n : ℕ} (r : Slashless seg off n) where
     empty : n ≡ 0 → n ≡ nameSize seg off
@@ -125,7 +133,7 @@ module _ (seg : List ℕ) (off : ℕ) (h : off + beforeNul (drop off seg) < leng
           (contains-parts 0x2f (part seg off m) _ ∙ rw (p .plain))
 
       pub size-slash : contains 0x2f (part seg (off + m) (end - (off + m))) ≡ true → 0 ≡ nameSize seg off
-      size-slash e = size-none (slash-name _ (slashes ∙ e))
+      size-slash e = size-slashed (slashes ∙ e)
 
       pub size-plain : contains 0x2f (part seg (off + m) (end - (off + m))) ≡ false → Slashless seg off (end - off)
       size-plain e = record { size = omega (arith, whole, w .value); most = k; plain = slashes ∙ e }

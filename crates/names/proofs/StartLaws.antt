@@ -25,7 +25,7 @@ unfolding nameMost
 name-bound = omega arith
 
 -- what is among the first n bytes is among all
-contains-start : (x n : ℕ) (xs : List ℕ) → contains x (take n xs) ≡ true → contains x xs ≡ true
+pub contains-start : (x n : ℕ) (xs : List ℕ) → contains x (take n xs) ≡ true → contains x xs ≡ true
 contains-start x n xs e = ap (contains x) (sym (take-append-drop n xs)) ∙ contains-parts x (take n xs) (drop n xs) ∙ rw e
 
 -- a NUL among the first n bytes ends the string there
@@ -41,21 +41,40 @@ pub plain-none : (seg : List ℕ) (off : ℕ) → Plain seg off 0
 unfolding contains
 plain-none seg off = record { long = let z : off + 0 ≡ off = omega arith in rw z (omega arith); plain = refl }
 
--- sixteen bytes without a '/'
-module _ (seg : List ℕ) (off : ℕ) (s : contains 0x2f (part seg off 16) ≡ false) where
-  -- so fewer have none
-  fewer : (m : ℕ) → m ≤ 16 → contains 0x2f (part seg off m) ≡ false
-  fewer m h = go (contains 0x2f (part seg off m)) refl
+-- n bytes without a NUL
+pub passed-more : (seg : List ℕ) (off n : ℕ) → off + n ≤ length seg → contains 0 (part seg off n) ≡ false →
+    beforeNul (drop off seg) ≡ n + beforeNul (drop (off + n) seg)
+passed-more seg off n h e = nul-behind seg n off h (none-found 0 seg off n h e)
+
+pub passed-none : (seg : List ℕ) (off : ℕ) → beforeNul (drop off seg) ≡ 0 + beforeNul (drop (off + 0) seg)
+passed-none seg off = let z : off + 0 ≡ off = omega arith in rw z (omega arith)
+
+-- sixteen bytes
+module _ (seg : List ℕ) (off : ℕ) where
+  -- without a '/': fewer have none
+  pub fewer : contains 0x2f (part seg off 16) ≡ false → (m : ℕ) → m ≤ 16 → contains 0x2f (part seg off m) ≡ false
+  fewer s m h = go (contains 0x2f (part seg off m)) refl
     where
       go : (t : Bool) → contains 0x2f (part seg off m) ≡ t → t ≡ false
       go true p = sym (contains-start 0x2f m (part seg off 16) (ap (contains 0x2f) (take-take m 16 (drop off seg) h) ∙ p)) ∙ s
       go false p = refl
 
-  pub ends-within : contains 0 (part seg off 16) ≡ true → {n : ℕ} → n ≡ beforeNul (drop off seg) → Slashless seg off n
-  unfolding stringAt
-  ends-within e q =
-      let l = nul-among 16 (drop off seg) e in
-      record { size = sym q; most = omega (arith, sixteen, l, q); plain = fewer (beforeNul (drop off seg)) (omega (arith, l)) }
+  -- with a NUL
+  module _ (e : contains 0 (part seg off 16) ≡ true) {n : ℕ} (q : n ≡ beforeNul (drop off seg)) where
+    pub ends-within : n < 16
+    ends-within = omega (arith, nul-among 16 (drop off seg) e, q)
 
-  pub goes-on : off + 16 ≤ length seg → contains 0 (part seg off 16) ≡ false → Plain seg off 16
-  goes-on h e = record { long = nul-behind seg 16 off h (none-found 0 seg off 16 h e); plain = s }
+    pub ends-plain : contains 0x2f (part seg off n) ≡ false → Slashless seg off n
+    unfolding stringAt
+    ends-plain s = record { size = sym q; most = omega (arith, sixteen, ends-within); plain = rw q at s }
+
+  -- without a NUL
+  module _ (h : off + 16 ≤ length seg) (e : contains 0 (part seg off 16) ≡ false) where
+    pub goes-on : contains 0x2f (part seg off 16) ≡ false → Plain seg off 16
+    goes-on s = record { long = passed-more seg off 16 h e; plain = s }
+
+    pub slash-first : contains 0x2f (part seg off 16) ≡ true → contains 0x2f (stringAt seg off) ≡ true
+    unfolding stringAt
+    slash-first s =
+        contains-start 0x2f 16 (part seg off (beforeNul (drop off seg)))
+        (ap (contains 0x2f) (take-take 16 (beforeNul (drop off seg)) (drop off seg) (omega (arith, passed-more seg off 16 h e))) ∙ s)

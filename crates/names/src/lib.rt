@@ -3,6 +3,7 @@
 use free_map::meets;
 use nul::nul_within;
 use order::contains;
+use order::contains_8;
 use order::contains_16;
 use string_ends::ends_outside;
 ghost use mathlib.Core.Path.{_≡_};
@@ -10,6 +11,7 @@ ghost use mathlib.Core.List.{List};
 ghost use Prim.Native.Nat.{_+_, _≤_, _<_};
 ghost use lib.ListN.{length, drop};
 ghost use Rattle.format.specs.Blocks.{Block};
+ghost use Rattle.format.specs.Bytes.{part, contains};
 ghost use Rattle.format.specs.Names.{beforeNul, keyText, nameText, valueText};
 ghost use Rattle.nul.specs.Nul.{LastNul};
 ghost use Rattle.free_map.specs.FreeMap.{MapOf};
@@ -87,13 +89,25 @@ fn size_behind(segment: &[u8], off: usize, passed: usize) -> usize
     size_unless_dot(segment, off, end - off)
 }
 
-// How many bytes the string at `off` has, byte by byte. It ends in the segment.
+// Eight if the string at `off` has so many bytes, else none.
+fn eight_passed(segment: &[u8], off: usize) -> usize
+    requires { ⌜ off + 8 ≤ length (now segment) ⌝ }
+    ensures { λ r. ⌜ beforeNul (drop off (now (segment .entry))) ≡ r + beforeNul (drop (off + r) (now (segment .entry))) ⌝ }
+{
+    if contains_8(0, segment, off) {
+        return 0;
+    }
+    8
+}
+
+// How many bytes the string at `off` has, which ends in the segment: eight at once, if it has so many, then byte by byte.
 fn string_size(segment: &[u8], off: usize) -> usize
     requires { ⌜ off + beforeNul (drop off (now segment)) < length (now segment) ⌝ }
+    requires { ⌜ off + 8 ≤ length (now segment) ⌝ }
     ensures { λ r. ⌜ r ≡ beforeNul (drop off (now (segment .entry))) ⌝ }
 {
     let left = segment.len() - off;
-    let mut k: usize = 0;
+    let mut k = eight_passed(segment, off);
     while k < left {
         if segment[off + k] == 0 {
             return k;
@@ -103,8 +117,20 @@ fn string_size(segment: &[u8], off: usize) -> usize
     k
 }
 
-// How many bytes the name at `off` has; 0 if the string there is no name: 1 to 255 bytes, no '/', and not ".". Where it ends within 16 bytes of the
-// segment and none of these is a '/', its NUL alone is looked for.
+// Whether one of the first `n` of sixteen bytes is a '/'.
+fn has_slash(segment: &[u8], off: usize, n: usize) -> bool
+    requires { ⌜ off + 16 ≤ length (now segment) ⌝ }
+    requires { ⌜ n ≤ 16 ⌝ }
+    ensures { λ r. ⌜ r ≡ contains 0x2f (part (now (segment .entry)) off n) ⌝ }
+{
+    if !contains_16(b'/', segment, off) {
+        return false;
+    }
+    let end = off + n;
+    contains(b'/', &segment[off..end])
+}
+
+// How many bytes the name at `off` has; 0 if the string there is no name: 1 to 255 bytes, no '/', and not ".". Most names end within 16 bytes.
 fn name_size(segment: &[u8], off: usize) -> usize
     requires { ⌜ off + beforeNul (drop off (now segment)) < length (now segment) ⌝ }
     ensures { λ r. ⌜ r ≡ nameSize (now (segment .entry)) off ⌝ }
@@ -112,13 +138,17 @@ fn name_size(segment: &[u8], off: usize) -> usize
     if segment.len() - off < 16 {
         return size_behind(segment, off, 0);
     }
-    if contains_16(b'/', segment, off) {
-        return size_behind(segment, off, 0);
-    }
     if !contains_16(0, segment, off) {
+        if contains_16(b'/', segment, off) {
+            return 0;
+        }
         return size_behind(segment, off, 16);
     }
-    size_unless_dot(segment, off, string_size(segment, off))
+    let n = string_size(segment, off);
+    if has_slash(segment, off, n) {
+        return 0;
+    }
+    size_unless_dot(segment, off, n)
 }
 
 // A name of a group.

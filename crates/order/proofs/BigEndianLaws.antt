@@ -65,7 +65,7 @@ number-add m n {s} {at} {x} {y} p q h =
 higher : (w x y u v : ℕ) → u < w → x < y → w * x + u < w * y + v
 higher w x y u v h l = omega (arith, h, mul-le-mul-left w l)
 
-ltb-behind : (k u v : ℕ) → ltb u v ≡ ltb (k + u) (k + v)
+pub ltb-behind : (k u v : ℕ) → ltb u v ≡ ltb (k + u) (k + v)
 ltb-behind k u v = go (ltb u v) refl
   where
     go : (t : Bool) → ltb u v ≡ t → ltb u v ≡ ltb (k + u) (k + v)

@@ -3,18 +3,18 @@ use Prim.Native.Nat.{ℕ, zero, suc, _+_, _*_, _-_, _/_, _%_, _^_, _≤_, _<_}
 use mathlib.Core.Bool.{Bool, true, false}
 use mathlib.Core.List.{List, [], _∷_}
 use mathlib.Core.Path.{_≡_, refl, ap, sym, _∙_}
-use native.Mathlib.Nat.{pow-suc, mul-zero, mul-le-mul-left, mod-eq-of-lt, div-eq-of-lt, add-mul-div-right, zero-add}
+use native.Mathlib.Nat.{pow-suc, mul-zero, mul-le-mul-left, mod-eq-of-lt, div-eq-of-lt, add-mul-div-right, zero-add, suc-add}
 use native.Mathlib.Omega.{arith}
 use borrow.Author.Tests.{ltb-true, ltb-false, lt-ltb, le-ltb}
 use lib.Dec.{ltb}
 use lib.Pow.{pow-add, pow-mono}
-use lib.ListN.{length, getD, take, drop, List·getD-eq-default}
-use lib.Seq.{length-take-le, take-take, getD-take, getD-drop}
+use lib.ListN.{length, getD, take, drop, drop-of-length-le, List·getD-eq-default}
+use lib.Seq.{length-take-le, take-take, drop-drop, getD-take, getD-drop}
 use Rattle.format.specs.Bytes.{part}
 use Rattle.format.specs.Names.{below}
 use Rattle.order.specs.BigEndian.{bigEndian, BigEndian, firstNumber}
 use Rattle.order.proofs.Sixteen.{part-long}
-use Rattle.order.proofs.BigEndianLaws.{AllBytes, bytes-part, bigEndian-less, number-of, number-add, digit-below}
+use Rattle.order.proofs.BigEndianLaws.{AllBytes, bytes-part, bigEndian-less, number-of, number-add, ltb-behind, digit-below}
 
 -- it is less than the next power
 first-less : (n : ℕ) (s : List ℕ) → AllBytes s → firstNumber n s < 256 ^ n
@@ -91,13 +91,13 @@ first-decides (suc n) (x ∷ xs) (y ∷ ys) h l d =
 pub part-byte : (s : List ℕ) (at n k : ℕ) → k < n → getD s (at + k) 0 ≡ getD (part s at n) k 0
 part-byte s at n k h = sym (getD-take n (drop at s) k 0 h ∙ getD-drop at s k 0)
 
+take-most : (n : ℕ) (l : List ℕ) → length (take n l) ≤ n
+take-most zero l = omega arith
+take-most (suc n) [] = omega arith
+take-most (suc n) (x ∷ l) = omega (arith, take-most n l)
+
 pub part-end : (s : List ℕ) (at n k : ℕ) → n ≤ k → 0 ≡ getD (part s at n) k 0
-part-end s at n k h = sym (List·getD-eq-default (part s at n) 0 {n = k} (omega (arith, length-take-most n (drop at s))))
-  where
-    length-take-most : (n : ℕ) (l : List ℕ) → length (take n l) ≤ n
-    length-take-most zero l = omega arith
-    length-take-most (suc n) [] = omega arith
-    length-take-most (suc n) (x ∷ l) = omega (arith, length-take-most n l)
+part-end s at n k h = sym (List·getD-eq-default (part s at n) 0 {n = k} (omega (arith, take-most n (drop at s))))
 
 -- the number of n bytes of a string, by the eight that were read
 module _ (s : List ℕ) (at n : ℕ) where
@@ -149,3 +149,46 @@ module _ (s : List ℕ) (at n : ℕ) where
           let e : u * p ≡ p * u = omega arith in
           ap (λ (y : ℕ). y % 2 ^ 64) whole ∙ mod-eq-of-lt fits ∙ e
           ∙ sym (first-short 8 (part s at n) (omega (arith, size)) ∙ ap (λ (m : ℕ). 256 ^ (8 - m) * u) size)
+
+-- the number of m bytes and of n behind them
+first-split : (m n : ℕ) (s : List ℕ) → firstNumber (m + n) s ≡ 256 ^ n * firstNumber m s + firstNumber n (drop m s)
+unfolding firstNumber
+first-split zero n s =
+    let z : firstNumber n s ≡ 256 ^ n * 0 + firstNumber n s = omega arith in
+    ap (λ (j : ℕ). firstNumber j s) (zero-add n) ∙ z
+first-split (suc m) n [] =
+    let z : 256 ^ n * 0 + 0 ≡ 0 = omega arith in
+    first-empty (suc m + n) ∙ sym (ap (λ (y : ℕ). 256 ^ n * 0 + y) (first-empty n) ∙ z)
+first-split (suc m) n (x ∷ xs) =
+    let z : 256 ^ (m + n) * x + firstNumber (m + n) xs ≡ 256 ^ n * (256 ^ m * x + firstNumber m xs) + firstNumber n (drop m xs) =
+    omega (arith, first-split m n xs, ap (λ (p : ℕ). p * x) (pow-add 256 m n)) in
+    ap (λ (j : ℕ). firstNumber j (x ∷ xs)) (suc-add m n) ∙ z
+
+-- where the numbers of the first eight bytes are equal and those of the next eight differ, these decide
+pub second-decides : (a b : List ℕ) → AllBytes a → AllBytes b → firstNumber 8 a ≡ firstNumber 8 b →
+    (firstNumber 8 (drop 8 a) ≡ firstNumber 8 (drop 8 b) → ⊥) → ltb (firstNumber 8 (drop 8 a)) (firstNumber 8 (drop 8 b)) ≡ below a b
+second-decides a b h l e d =
+    let p = first-split 8 8 a in
+    let q = first-split 8 8 b in
+    let f = firstNumber 8 a in
+    let whole = first-decides 16 a b h l (λ w. d (omega (arith, w, p, q, e))) in
+    ltb-behind (256 ^ 8 * f) (firstNumber 8 (drop 8 a)) (firstNumber 8 (drop 8 b)) ∙ rw (p, q, ← e) at whole
+
+-- the next eight of n bytes of a string
+pub second-none : (s : List ℕ) (at n : ℕ) → n ≤ 8 → 0 ≡ firstNumber 8 (drop 8 (part s at n))
+second-none s at n h =
+    rw (drop-of-length-le (part s at n) {i = 8} (omega (arith, h, take-most n (drop at s)))) (sym (first-empty 8))
+
+take-empty : (k : ℕ) → _≡_ {A = List ℕ} [] (take k [])
+take-empty zero = refl
+take-empty (suc k) = refl
+
+drop-take : (m k : ℕ) (l : List ℕ) → drop m (take (m + k) l) ≡ take k (drop m l)
+drop-take zero k l = ap (λ (j : ℕ). take j l) (zero-add k)
+drop-take (suc m) k [] = ap (λ (j : ℕ). drop (suc m) (take {A = ℕ} j [])) (suc-add m k) ∙ take-empty k
+drop-take (suc m) k (x ∷ l) = ap (λ (j : ℕ). drop (suc m) (take j (x ∷ l))) (suc-add m k) ∙ drop-take m k l
+
+pub second-some : (s : List ℕ) (at n : ℕ) {x : ℕ} → 8 < n → x ≡ firstNumber 8 (part s (at + 8) (n - 8)) → x ≡ firstNumber 8 (drop 8 (part s at n))
+second-some s at n h e =
+    let k : 8 + (n - 8) ≡ n = omega arith in
+    e ∙ ap (firstNumber 8) (sym (rw (k, drop-drop 8 at s) at (drop-take 8 (n - 8) (drop at s))))

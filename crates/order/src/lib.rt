@@ -154,6 +154,17 @@ pub fn first_number(s: &[u8], at: usize, size: usize) -> u64
     (x >> left) << left
 }
 
+// The number of the next eight bytes.
+pub fn second_number(s: &[u8], at: usize, size: usize) -> u64
+    requires { ⌜ at + size ≤ length (now s) ⌝ }
+    ensures { λ r. ⌜ r ≡ firstNumber 8 (drop 8 (part (now (s .entry)) at size)) ⌝ }
+{
+    if size <= 8 {
+        return 0;
+    }
+    first_number(s, at + 8, size - 8)
+}
+
 // Whether the first is below the second, where one of them is a beginning of the other.
 fn shorter(a: &[u8], b: &[u8]) -> bool
     requires { ⌜ SameStart (now a) (now b) (min (length (now a)) (length (now b))) ⌝ }
@@ -264,20 +275,35 @@ pub fn same(a: &[u8], b: &[u8]) -> bool
     same_from(a, b, same_eights(a, b))
 }
 
-// Whether `x` is one of the 16 bytes at `at`.
-pub fn contains_16(x: u8, s: &[u8], at: usize) -> bool
-    requires { ⌜ at + 16 ≤ length (now s) ⌝ }
-    ensures { λ r. ⌜ r ≡ contains x (part (now (s .entry)) at 16) ⌝ }
+// Whether `x` is one of the `n` bytes at `at`.
+fn contains_at(x: u8, s: &[u8], at: usize, n: usize) -> bool
+    requires { ⌜ at + n ≤ length (now s) ⌝ }
+    ensures { λ r. ⌜ r ≡ contains x (part (now (s .entry)) at n) ⌝ }
 {
     let mut found: u8 = 0;
     let mut k: usize = 0;
-    while k < 16 {
+    while k < n {
         if x == s[at + k] {
             found = 1;
         }
         k += 1;
     }
     found == 1
+}
+
+// Whether `x` is one of the 16 bytes at `at`, and of 8.
+pub fn contains_16(x: u8, s: &[u8], at: usize) -> bool
+    requires { ⌜ at + 16 ≤ length (now s) ⌝ }
+    ensures { λ r. ⌜ r ≡ contains x (part (now (s .entry)) at 16) ⌝ }
+{
+    contains_at(x, s, at, 16)
+}
+
+pub fn contains_8(x: u8, s: &[u8], at: usize) -> bool
+    requires { ⌜ at + 8 ≤ length (now s) ⌝ }
+    ensures { λ r. ⌜ r ≡ contains x (part (now (s .entry)) at 8) ⌝ }
+{
+    contains_at(x, s, at, 8)
 }
 
 // Whether `x` is one of the bytes from `from` on.

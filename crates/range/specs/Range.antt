@@ -3,7 +3,7 @@ use Prim.Native.Nat.{ℕ, _+_, _≤_}
 use mathlib.Core.Bool.{Bool, true, not}
 use mathlib.Core.List.{List, [], _∷_}
 use mathlib.Core.Path.{_≡_}
-use lib.ListN.{length}
+use lib.ListN.{length, drop}
 use Rattle.format.specs.Limits.{nameMost}
 use Rattle.format.specs.Bytes.{if_then_else_, allHold, part}
 use Rattle.format.specs.Names.{Bound, below, within}
@@ -15,10 +15,11 @@ use Rattle.range.specs.declared.Range.{Range}
 abbrev pub nameIn : List ℕ → Name → List ℕ
 nameIn seg n = part seg (n .at) (n .size)
 
--- it lies in the segment, and the number is that of its first bytes
+-- it lies in the segment, and the numbers are those of its first bytes and of the next
 pub record NameInside (seg : List ℕ) (n : Name) : Type 0 where
   pub within : n .at + n .size ≤ length seg
   pub first : n .first ≡ firstNumber 8 (nameIn seg n)
+  pub second : n .second ≡ firstNumber 8 (drop 8 (nameIn seg n))
 
 pub record RangeInside (seg : List ℕ) (r : Range) : Type 0 where
   pub lowInside : NameInside seg (r .low)

@@ -4,11 +4,13 @@ ghost use mathlib.Core.Path.{_≡_};
 ghost use Rattle.format.specs.Names.{below as isBelow};
 ghost use Rattle.range.specs.Range.{NameInside, RangeInside, nameIn, atMost, Floor, HigherOf, LowerOf, Narrowed};
 
-// A string of the segment: its offset, its length, and the number of its first eight bytes, by which most strings are compared.
+// A string of the segment: its offset, its length, and the numbers of its first eight bytes and of the next eight, by which most strings are
+// compared.
 pub struct Name {
     pub at: usize,
     pub size: usize,
     pub first: u64,
+    pub second: u64,
 }
 
 pub struct Range {
@@ -38,6 +40,9 @@ pub fn name_below(segment: &[u8], a: Name, b: Name) -> bool
 {
     if a.first != b.first {
         return a.first < b.first;
+    }
+    if a.second != b.second {
+        return a.second < b.second;
     }
     bytes_below(segment, a, b)
 }

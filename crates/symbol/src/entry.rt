@@ -171,6 +171,7 @@ fn one_entry(
                 at: off as usize,
                 size: n,
                 first: order::first_number(segment, off as usize, n),
+                second: order::second_number(segment, off as usize, n),
             };
             named_entry(
                 image,

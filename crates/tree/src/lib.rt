@@ -55,6 +55,7 @@ pub fn tree(
             at: 0,
             size: 0,
             first: 0,
+            second: 0,
         };
         let range = Range {
             bounded: false,

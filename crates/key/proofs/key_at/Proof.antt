@@ -31,14 +31,18 @@ sub-size c = search needs
 first-number-requires : tie.Need-first-number-requires
 first-number-requires c κs = search needs
 
+second-number-requires : tie.Need-second-number-requires
+second-number-requires c κs = search needs
+
 returns : tie.Need-returns
 returns c =
-    let found = c .before in
+    let found = c .before .before in
     let off = found .before .before in
     let start = off .before .before .before .before in
     let n : NulWithin (now (start .args .segment)) (off .u64-at .result) (nameMost + 1) (found .nul-within .result) =
     rw (off .before .the-limits .ensures .nameMostEqual) at (found .nul-within .ensures) in
-    rw (c .first-number .ensures) (key-cut (now (start .args .image)) _ _ _ (start .pre) (off .u64-at .ensures .value) _ n)
+    rw (c .before .first-number .ensures, c .second-number .ensures)
+    (key-cut (now (start .args .image)) _ _ _ (start .pre) (off .u64-at .ensures .value) _ n)
 
 pub key-at-spec : {M : Type 1} → statement M
 key-at-spec =
@@ -50,4 +54,5 @@ key-at-spec =
     nul-within-requires
     sub-size
     first-number-requires
+    second-number-requires
     returns)

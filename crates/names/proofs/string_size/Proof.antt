@@ -19,8 +19,11 @@ abbrev μ-loop : tie.MeasureT-loop
 sub-left : tie.Need-sub-left Inv-loop μ-loop
 sub-left c = search needs
 
+eight-passed-requires : tie.Need-eight-passed-requires Inv-loop μ-loop
+eight-passed-requires c κs = search needs
+
 loop-holds : tie.Need-loop-holds Inv-loop μ-loop
-loop-holds c = let a = c .args in let z : a .off + 0 ≡ a .off = omega arith in rw z (omega arith)
+loop-holds c = c .eight-passed .ensures
 
 add-if1 : tie.Need-add-if1 Inv-loop μ-loop
 add-if1 c = search needs
@@ -31,7 +34,7 @@ shared-slice-read-if1 c = search needs
 returns : tie.Need-returns Inv-loop μ-loop
 returns c =
     let l = c .before .before .before in
-    let a = l .before .args in
+    let a = l .before .before .before .args in
     omega (arith, l .loop .inv, nul-here (now (a .segment)) (a .off + l .loop .k) (omega arith) (c .if1 .taken))
 
 add-k : tie.Need-add-k Inv-loop μ-loop
@@ -43,7 +46,7 @@ loop-less c = search needs
 loop-again : tie.Need-loop-again Inv-loop μ-loop
 loop-again c =
     let l = c .before .before .before in
-    let a = l .before .args in
+    let a = l .before .before .before .args in
     let e : a .off + (l .loop .k + 1) ≡ a .off + l .loop .k + 1 = omega arith in
     rw e (omega (arith, l .loop .inv, nul-later (now (a .segment)) (a .off + l .loop .k) (omega arith) (c .if1 .left)))
 
@@ -57,6 +60,7 @@ string-size-spec =
     Inv-loop
     μ-loop
     sub-left
+    eight-passed-requires
     loop-holds
     add-if1
     shared-slice-read-if1

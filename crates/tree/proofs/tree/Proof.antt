@@ -33,7 +33,7 @@ node-is c =
 
 -- the string of a range that bounds nothing
 abbrev none : Name
-none = record { at = 0; size = 0; first = 0 }
+none = record { at = 0; size = 0; first = 0; second = 0 }
 
 -- an empty root
 no-entries : (c : tie.After-level) →

@@ -21,7 +21,7 @@ pub struct Hostile {
 /// A kind of file by its name, made of any length from 64 KiB on.
 pub type Kind = (&'static str, fn(usize) -> Hostile);
 
-pub const KINDS: [Kind; 20] = [
+pub const KINDS: [Kind; 22] = [
     ("chain, rising", |size| chain(size, block_orders::rising)),
     ("chain, falling", |size| chain(size, block_orders::falling)),
     ("chain, inward", |size| chain(size, block_orders::inward)),
@@ -30,9 +30,11 @@ pub const KINDS: [Kind; 20] = [
     ("messages", messages),
     ("links to the last object", |size| links(size, last_object)),
     ("links spread", |size| links(size, spread_object)),
-    ("names of 5 bytes", |size| names(size, 5)),
-    ("names of 16 bytes", |size| names(size, 16)),
-    ("names of 255 bytes", |size| names(size, 255)),
+    ("names of 5 bytes", |size| names(size, 5, b"")),
+    ("names of 12 bytes", |size| names(size, 12, b"")),
+    ("names before slashes", |size| names(size, 12, b"/..\0")),
+    ("names of 16 bytes", |size| names(size, 16, b"")),
+    ("names of 255 bytes", |size| names(size, 255, b"")),
     ("long keys", keys),
     ("one long value", |size| values(size, false)),
     ("one long value, free behind", |size| values(size, true)),
@@ -268,12 +270,14 @@ fn name_of(number: usize, bytes: usize) -> Vec<u8> {
     name
 }
 
-fn names(size: usize, bytes: usize) -> Hostile {
+/// Names of so many bytes, each with these bytes behind it in the segment.
+fn names(size: usize, bytes: usize, behind: &[u8]) -> Hostile {
     let mut root = Root::new();
-    let count = (size - OTHERS) / (ENTRY + bytes + 1);
+    let count = (size - OTHERS) / (ENTRY + bytes + 1 + behind.len());
     let mut entries = Vec::new();
     for number in 0..count {
         let name = root.string(&name_of(number, bytes));
+        root.segment.extend_from_slice(behind);
         entries.push(hard(name, ROOT));
     }
     root.one_node(entries);

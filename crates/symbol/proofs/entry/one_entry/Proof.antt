@@ -50,12 +50,16 @@ enum-known-n c = search needs
 first-number-requires : tie.Need-first-number-requires
 first-number-requires c κs = let j = read (c .before) .inside in omega (arith, j)
 
+second-number-requires : tie.Need-second-number-requires
+second-number-requires c κs = let j = read (c .before .before) .inside in omega (arith, j)
+
 named-entry-requires : tie.Need-named-entry-requires
 named-entry-requires c κs =
-    let at-name = c .before .before in
-    let at-n = at-name .before .before in
+    let at-second = c .before .before in
+    let at-first = at-second .before in
+    let at-n = at-first .before .before in
     let s = start (at-n .before .before) in
-    (s .pre .0, (s .pre .1 .0, (s .pre .1 .1 .0, (s .pre .1 .1 .1, rw (at-name .first-number .ensures) (named at-n)))))
+    (s .pre .0, (s .pre .1 .0, (s .pre .1 .1 .0, (s .pre .1 .1 .1, rw (at-first .first-number .ensures, at-second .second-number .ensures) (named at-n)))))
 
 returns : tie.Need-returns
 returns c =
@@ -82,6 +86,7 @@ one-entry-spec =
     fault-number-requires
     enum-known-n
     first-number-requires
+    second-number-requires
     named-entry-requires
     returns
     same-length

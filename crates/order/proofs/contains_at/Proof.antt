@@ -8,14 +8,14 @@ use Rattle.format.specs.Bytes.{part, contains}
 use Rattle.order.proofs.Sixteen.{found-turn, missed-turn}
 use borrow.Author.Needs.{needs}
 use native.Mathlib.Omega.{arith}
-use Rattle.order.proofs.contains_16.Statement.{statement}
-use Rattle.order.proofs.contains_16.Tie as tie
+use Rattle.order.proofs.contains_at.Statement.{statement}
+use Rattle.order.proofs.contains_at.Tie as tie
 
 abbrev Inv-loop : tie.InvT-loop
-Inv-loop x s at found₀ k₀ found k = (k ≤ 16) × (eqb found 1 ≡ contains x (part s at k))
+Inv-loop x s at n found₀ k₀ found k = (k ≤ n) × (eqb found 1 ≡ contains x (part s at k))
 
 abbrev μ-loop : tie.MeasureT-loop
-μ-loop x s at found₀ k₀ found k = 16 - k
+μ-loop x s at n found₀ k₀ found k = n - k
 
 loop-holds : tie.Need-loop-holds Inv-loop μ-loop
 unfolding contains
@@ -45,11 +45,11 @@ loop-again c =
 returns : tie.Need-returns Inv-loop μ-loop
 returns c =
     let l = c .before .loop in
-    let k : l .k ≡ 16 = omega arith in
+    let k : l .k ≡ c .before .before .args .n = omega arith in
     rw k at (l .inv .1)
 
-pub contains-16-spec : {M : Type 1} → statement M
-contains-16-spec =
+pub contains-at-spec : {M : Type 1} → statement M
+contains-at-spec =
     tie.close
     (tie.spec
     Inv-loop
