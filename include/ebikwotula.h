@@ -10,6 +10,8 @@
  * one of them writes is lent to another. The stack that a call takes is bounded; what it takes in all, as measured, is given
  * below. The time of an audit, a mending and a report grows with the image's length, or a little faster, whatever the bytes;
  * that of a lookup and a description with the length times the path's components, since for each of them a group is read anew.
+ * In a local heap of 1 MiB or more that has a free list, which no file of at most 1 MiB has, it also grows with the number of
+ * free blocks times that of names, and with the length of link values.
  *
  * Words. A word is an unsigned number of 64 bits, written as 8 bytes, the lowest byte first, on every machine. Word k of
  * a slice is its bytes 8 * k to 8 * k + 7. A slice has as many words as it has whole eights of bytes. Every byte
@@ -27,21 +29,21 @@ extern "C" {
 
 /* The version of this header. It is raised with every change of a word, an answer, a limit or the stack, and not with a new
  * call; ebikwotula_version gives that of the library. */
-#define EBIKWOTULA_VERSION 5
+#define EBIKWOTULA_VERSION 6
 
 /* The limits: the length of an image, in bytes; the objects that are counted; the blocks that one walk enters; the length of
  * a path and of a component, in bytes; the dimensions of a dataset. */
 #define EBIKWOTULA_IMAGE_LEAST 96
-#define EBIKWOTULA_IMAGE_MOST 1048576
-#define EBIKWOTULA_OBJECTS_MOST 256
-#define EBIKWOTULA_BLOCKS_MOST 1024
+#define EBIKWOTULA_IMAGE_MOST 16777216
+#define EBIKWOTULA_OBJECTS_MOST 1024
+#define EBIKWOTULA_BLOCKS_MOST 8192
 #define EBIKWOTULA_PATH_MOST 1024
 #define EBIKWOTULA_NAME_MOST 255
 #define EBIKWOTULA_RANK_MOST 32
 
-/* The least length of reply, in bytes: 770 words for the audit, 3 for a lookup, 74 for a description, 3 for a mending,
+/* The least length of reply, in bytes: 3,074 words for the audit, 3 for a lookup, 74 for a description, 3 for a mending,
  * 1 for undo, 8 for a report. */
-#define EBIKWOTULA_AUDIT_REPLY_BYTES 6160
+#define EBIKWOTULA_AUDIT_REPLY_BYTES 24592
 #define EBIKWOTULA_LOOKUP_REPLY_BYTES 24
 #define EBIKWOTULA_DESCRIBE_REPLY_BYTES 592
 #define EBIKWOTULA_MEND_REPLY_BYTES 24
@@ -51,26 +53,34 @@ extern "C" {
 /* The words of a report. */
 #define EBIKWOTULA_REPORT_WORDS 8
 
-/* What a block takes in blocks, in bytes: four words. The most that a call uses of blocks: that for each of 1,024 blocks. */
+/* What a block takes in blocks, in bytes: four words. The most that a call uses of blocks: that for each of 8,192 blocks. */
 #define EBIKWOTULA_BLOCK_BYTES 32
-#define EBIKWOTULA_BLOCKS_BYTES 32768
+#define EBIKWOTULA_BLOCKS_BYTES 262144
 
-/* The most that a mending uses of log, in bytes: two words for each of 256 objects. */
-#define EBIKWOTULA_LOG_BYTES 4096
+/* The most that a mending uses of log, in bytes: two words for each of 1,024 objects. */
+#define EBIKWOTULA_LOG_BYTES 16384
 
-/* The stack that a call takes in all, in bytes, as measured and rounded up. */
-#define EBIKWOTULA_AUDIT_STACK_BYTES 135168
-#define EBIKWOTULA_LOOKUP_STACK_BYTES 122880
-#define EBIKWOTULA_DESCRIBE_STACK_BYTES 122880
-#define EBIKWOTULA_MEND_STACK_BYTES 147456
+/* The stack that a call takes in all, in bytes, as measured and rounded up. A thread of 512 KiB has it. */
+#define EBIKWOTULA_AUDIT_STACK_BYTES 466944
+#define EBIKWOTULA_LOOKUP_STACK_BYTES 409600
+#define EBIKWOTULA_DESCRIBE_STACK_BYTES 409600
+#define EBIKWOTULA_MEND_STACK_BYTES 499712
 #define EBIKWOTULA_UNDO_STACK_BYTES 4096
-#define EBIKWOTULA_REPORT_STACK_BYTES 135168
+#define EBIKWOTULA_REPORT_STACK_BYTES 462848
+
+/* The stack that a call takes on an image of at most EBIKWOTULA_SMALL_IMAGE bytes that has at most 64 blocks. */
+#define EBIKWOTULA_SMALL_IMAGE 16384
+#define EBIKWOTULA_AUDIT_SMALL_STACK_BYTES 110592
+#define EBIKWOTULA_LOOKUP_SMALL_STACK_BYTES 86016
+#define EBIKWOTULA_DESCRIBE_SMALL_STACK_BYTES 86016
+#define EBIKWOTULA_MEND_SMALL_STACK_BYTES 176128
+#define EBIKWOTULA_REPORT_SMALL_STACK_BYTES 106496
 
 /* The answers. 12 is given by audit and mending alone, 14 to 17 by lookup and description alone, 18 by mending and undo
  * alone, 19 by undo alone, and 20 by description alone. A report returns 0 or 13; it has the audit's answer as a word. */
 enum ebikwotula_answer {
     EBIKWOTULA_DONE = 0,           /* done */
-    EBIKWOTULA_IMAGE_LENGTH = 1,   /* the image has under 96 or over 1,048,576 bytes */
+    EBIKWOTULA_IMAGE_LENGTH = 1,   /* the image has under 96 or over 16,777,216 bytes */
     EBIKWOTULA_NO_SIGNATURE = 2,   /* no signature 89 48 44 46 0d 0a 1a 0a */
     EBIKWOTULA_NOT_READ = 3,       /* a version, type or feature that is not read here */
     EBIKWOTULA_SUPERBLOCK = 4,     /* version 1 in under 100 bytes, a group K of 0, a root entry that is no hard link, or an
@@ -82,7 +92,7 @@ enum ebikwotula_answer {
     EBIKWOTULA_HEAP_OR_NAME = 9,   /* a heap or name is unsound */
     EBIKWOTULA_OBJECT_HEADER = 10, /* an object header is unsound */
     EBIKWOTULA_DATASET = 11,       /* dataset messages are unsound */
-    EBIKWOTULA_OBJECTS = 12,       /* a 257th object */
+    EBIKWOTULA_OBJECTS = 12,       /* one object more than EBIKWOTULA_OBJECTS_MOST */
     EBIKWOTULA_NO_ROOM = 13,       /* no room for the next block, or a reply of too few words */
     EBIKWOTULA_BAD_PATH = 14,      /* the path has no right form */
     EBIKWOTULA_NAME_ABSENT = 15,   /* a group of the path has no such name */
@@ -112,7 +122,7 @@ enum ebikwotula_kind {
  *                    description the number is 0. For the superblock it is EBIKWOTULA_SUPERBLOCK_OBJECT in every list.
  * The words behind the last block are 0. No byte of the file is in two blocks of a list.
  *
- * Room is the lesser of 1,024 blocks and the whole fours of words in blocks. */
+ * Room is the lesser of 8,192 blocks and the whole fours of words in blocks. */
 enum ebikwotula_block_kind {
     EBIKWOTULA_BLOCK_KIND_SUPERBLOCK = 1,
     EBIKWOTULA_BLOCK_KIND_HEADER = 2,       /* an object header; each object has one, its first block, at its address */
@@ -139,12 +149,12 @@ uint32_t ebikwotula_version(void);
 
 /* Audits the file whose bytes are image. The image is not changed.
  *
- * Returns one of the answers above. 13 is given first, before the image is read, if reply has under 770 words.
+ * Returns one of the answers above. 13 is given first, before the image is read, if reply has under 3,074 words.
  *
  * If the answer is 0:
  *   blocks  has four words for each block entered, as above.
  *   reply   word 0   the number of blocks entered
- *           word 1   the number of objects found, at most 256
+ *           word 1   the number of objects found, at most 1,024
  *           then three words for each object, in order of discovery, the root first: for object i, from 0 on,
  *           word 2 + 3 * i   its address
  *           word 3 + 3 * i   the reference count stored in its header
@@ -223,7 +233,7 @@ uint32_t ebikwotula_describe(const uint8_t *image, size_t image_length, const ui
  *           word 2 * i       the address of the count's field, which has 4 bytes: the object's address plus 4
  *           word 2 * i + 1   the old count times 2^32 plus the true count
  *   reply   word 0   the number of blocks entered
- *           word 1   the number of entries in the log, at most 256
+ *           word 1   the number of entries in the log, at most 1,024
  *           word 2   the number of counts written: the lesser of limit and the number of entries
  *   image   is changed in the fields of the entries written, and nowhere else.
  *

@@ -1,11 +1,12 @@
 /* Calls every function of the library as a C program does, and holds the constants of the header against what the calls do.
  *
- * usage: calls SMALL WRONG FULL CROWDED DEEP
- *   SMALL    a sound file with a root group of no entries
- *   WRONG    a file with the dataset "/a", whose count is wrong
- *   FULL     a sound file as large as the limits allow: length, objects and blocks; "/00001" is a dataset
- *   CROWDED  a file of one object more than is counted
- *   DEEP     a sound file whose root group has the deepest tree, "/00001" in it
+ * usage: calls SMALL WRONG SMALL_DEEP FULL CROWDED DEEP
+ *   SMALL       a sound file with a root group of no entries
+ *   WRONG       a file with the dataset "/a", whose count is wrong
+ *   SMALL_DEEP  a small sound file whose root group has the deepest tree, "/00001" in it
+ *   FULL        a sound file as large as the limits allow: length, objects and blocks; "/00001" is a dataset
+ *   CROWDED     a file of one object more than is counted
+ *   DEEP        the same as SMALL_DEEP, as large as the limits allow
  */
 #define _POSIX_C_SOURCE 200809L
 #include "ebikwotula.h"
@@ -14,6 +15,8 @@
 #include <stdio.h>
 #include <stdlib.h>
 #include <string.h>
+#include <sys/mman.h>
+#include <unistd.h>
 
 #define CHECK(what) check((what) != 0, #what, __LINE__)
 
@@ -139,13 +142,15 @@ static const struct {
     function *run;
     size_t reply_bytes;
     size_t stack_bytes;
+    size_t small_stack_bytes;
 } calls[] = {
-    {"audit", audit, EBIKWOTULA_AUDIT_REPLY_BYTES, EBIKWOTULA_AUDIT_STACK_BYTES},
-    {"lookup", lookup, EBIKWOTULA_LOOKUP_REPLY_BYTES, EBIKWOTULA_LOOKUP_STACK_BYTES},
-    {"describe", describe, EBIKWOTULA_DESCRIBE_REPLY_BYTES, EBIKWOTULA_DESCRIBE_STACK_BYTES},
-    {"mend", mend, EBIKWOTULA_MEND_REPLY_BYTES, EBIKWOTULA_MEND_STACK_BYTES},
-    {"undo", undo, EBIKWOTULA_UNDO_REPLY_BYTES, EBIKWOTULA_UNDO_STACK_BYTES},
-    {"report", report, EBIKWOTULA_REPORT_REPLY_BYTES, EBIKWOTULA_REPORT_STACK_BYTES},
+    {"audit", audit, EBIKWOTULA_AUDIT_REPLY_BYTES, EBIKWOTULA_AUDIT_STACK_BYTES, EBIKWOTULA_AUDIT_SMALL_STACK_BYTES},
+    {"lookup", lookup, EBIKWOTULA_LOOKUP_REPLY_BYTES, EBIKWOTULA_LOOKUP_STACK_BYTES, EBIKWOTULA_LOOKUP_SMALL_STACK_BYTES},
+    {"describe", describe, EBIKWOTULA_DESCRIBE_REPLY_BYTES, EBIKWOTULA_DESCRIBE_STACK_BYTES,
+     EBIKWOTULA_DESCRIBE_SMALL_STACK_BYTES},
+    {"mend", mend, EBIKWOTULA_MEND_REPLY_BYTES, EBIKWOTULA_MEND_STACK_BYTES, EBIKWOTULA_MEND_SMALL_STACK_BYTES},
+    {"undo", undo, EBIKWOTULA_UNDO_REPLY_BYTES, EBIKWOTULA_UNDO_STACK_BYTES, EBIKWOTULA_UNDO_STACK_BYTES},
+    {"report", report, EBIKWOTULA_REPORT_REPLY_BYTES, EBIKWOTULA_REPORT_STACK_BYTES, EBIKWOTULA_REPORT_SMALL_STACK_BYTES},
 };
 
 #define CALLS (sizeof calls / sizeof calls[0])
@@ -183,6 +188,18 @@ static void reply_lengths(struct file small)
     }
 }
 
+/* The constants that follow from the limits, and the limits themselves as they are promised. */
+static void constants(void)
+{
+    CHECK(EBIKWOTULA_IMAGE_MOST == 16777216);
+    CHECK(EBIKWOTULA_OBJECTS_MOST == 1024);
+    CHECK(EBIKWOTULA_BLOCKS_MOST == 8192);
+    CHECK(EBIKWOTULA_BLOCK_BYTES == 4 * 8);
+    CHECK(EBIKWOTULA_BLOCKS_BYTES == EBIKWOTULA_BLOCK_BYTES * EBIKWOTULA_BLOCKS_MOST);
+    CHECK(EBIKWOTULA_AUDIT_REPLY_BYTES == 8 * (2 + 3 * EBIKWOTULA_OBJECTS_MOST));
+    CHECK(EBIKWOTULA_LOG_BYTES == 2 * 8 * EBIKWOTULA_OBJECTS_MOST);
+}
+
 static void image_lengths(void)
 {
     struct file file = {calloc(1, EBIKWOTULA_IMAGE_MOST + 1), 0};
@@ -194,18 +211,32 @@ static void image_lengths(void)
     free(file.bytes);
 }
 
+/* FULL is at every limit: a byte more gives 1, a reply of a byte less 13, and so does room for a block less. CROWDED has an
+ * object too many, and gives 12. */
 static void objects_and_blocks(struct file full, struct file crowded)
 {
+    struct file longer = {full.bytes, full.length + 1};
+    const size_t one_less = EBIKWOTULA_BLOCK_BYTES * (EBIKWOTULA_BLOCKS_MOST - 1);
     CHECK(full.length == EBIKWOTULA_IMAGE_MOST);
     struct call *c = lend(full, EBIKWOTULA_AUDIT_REPLY_BYTES);
     CHECK(audit(c) == EBIKWOTULA_DONE);
     CHECK(word(c->reply, 0) == EBIKWOTULA_BLOCKS_MOST);
     CHECK(word(c->reply, 1) == EBIKWOTULA_OBJECTS_MOST);
     free(c);
-    CHECK(EBIKWOTULA_BLOCK_BYTES == 4 * 8);
-    CHECK(EBIKWOTULA_BLOCKS_BYTES == EBIKWOTULA_BLOCK_BYTES * EBIKWOTULA_BLOCKS_MOST);
+    CHECK(audit_with(full, EBIKWOTULA_BLOCKS_BYTES) == EBIKWOTULA_DONE);
     CHECK(audit_with(full, EBIKWOTULA_BLOCKS_BYTES - 1) == EBIKWOTULA_NO_ROOM);
+    CHECK(audit_with(full, one_less) == EBIKWOTULA_NO_ROOM);
+    CHECK(answer(audit, full, EBIKWOTULA_BLOCKS_BYTES, EBIKWOTULA_LOG_BYTES, EBIKWOTULA_AUDIT_REPLY_BYTES - 1) ==
+          EBIKWOTULA_NO_ROOM);
+    for (size_t i = 0; i < CALLS; i++) {
+        if (calls[i].run != report) {
+            CHECK(answer(calls[i].run, longer, EBIKWOTULA_BLOCKS_BYTES, EBIKWOTULA_LOG_BYTES, calls[i].reply_bytes) ==
+                  EBIKWOTULA_IMAGE_LENGTH);
+        }
+    }
     CHECK(audit_with(crowded, EBIKWOTULA_BLOCKS_BYTES) == EBIKWOTULA_OBJECTS);
+    CHECK(answer(mend, crowded, EBIKWOTULA_BLOCKS_BYTES, EBIKWOTULA_LOG_BYTES, EBIKWOTULA_MEND_REPLY_BYTES) ==
+          EBIKWOTULA_OBJECTS);
 }
 
 static uint32_t lookup_of(struct file file, const char *path, size_t length)
@@ -386,8 +417,11 @@ static void overlaps(struct file wrong)
     free(c);
 }
 
+/* The most blocks of a file that are changed in turn. */
+#define CHANGED_MOST 500
+
 /* A sound file, and the same file with the signature of one heap or node after the other changed: that block is named, and the
- * blocks entered up to it stay in the list. */
+ * blocks entered up to it stay in the list. Of a file with many blocks some are taken. */
 static void reports(struct file file)
 {
     struct call *a = lend(file, EBIKWOTULA_AUDIT_REPLY_BYTES);
@@ -397,7 +431,7 @@ static void reports(struct file file)
     CHECK(report(c) == EBIKWOTULA_DONE);
     CHECK(report_is(c, (const uint64_t[]){EBIKWOTULA_DONE, count, 0, 0, 0, 0, 0, 0}));
     CHECK(memcmp(c->blocks, a->blocks, sizeof a->blocks) == 0);
-    for (size_t i = 1; i < count; i++) {
+    for (size_t i = 1; i < count; i += 1 + count / CHANGED_MOST) {
         uint64_t address = block_word(a, i, 0), length = block_word(a, i, 1);
         uint64_t kind = block_word(a, i, 2), object = block_word(a, i, 3);
         size_t entered = i + 1, bytes = EBIKWOTULA_BLOCK_BYTES * entered;
@@ -504,7 +538,8 @@ static void *perform(void *argument)
     return NULL;
 }
 
-#define STACK (1 << 18)
+/* More than any call takes. */
+#define STACK (1 << 20)
 
 /* The bytes of a stack that a thread has written to. */
 static size_t stack_of(struct job *job)
@@ -525,25 +560,92 @@ static size_t stack_of(struct job *job)
     return STACK - unused;
 }
 
-/* The stack of each call on each file, beside that of a thread that calls nothing. */
-static void stacks(struct file *files, int count)
+/* The files by their places among the arguments: the first three are small. */
+enum { SMALL, WRONG, SMALL_DEEP, FULL, CROWDED, DEEP, FILES };
+#define SMALL_FILES 3
+
+/* A call of a file that leaves it as it is, with a path that leads deep into it. */
+static struct job job_of(size_t call, struct file *files, int file)
+{
+    struct job job = {calls[call].run, lend(files[file], calls[call].reply_bytes), 0};
+    job.call->limit = 0;
+    job.call->path = file == WRONG ? "/a" : "/00001";
+    job.call->path_length = strlen(job.call->path);
+    return job;
+}
+
+/* The most stack that a call takes on the first files, beside what a thread takes that calls nothing. */
+static size_t most_stack(size_t call, struct file *files, int count)
 {
     struct job nothing = {NULL, NULL, 0};
-    size_t base = stack_of(&nothing);
+    size_t base = stack_of(&nothing), most = 0;
+    for (int f = 0; f < count; f++) {
+        struct job job = job_of(call, files, f);
+        size_t used = stack_of(&job) - base;
+        most = used > most ? used : most;
+        free(job.call);
+    }
+    return most;
+}
+
+/* A constant of the header is no less than what is measured, and not much more. */
+#define SPARE 8192
+
+static void stack_is(size_t measured, size_t stated)
+{
+    CHECK(measured <= stated);
+    CHECK(measured + SPARE > stated);
+}
+
+static void stacks(struct file *files)
+{
+    for (int f = 0; f < SMALL_FILES; f++) {
+        CHECK(files[f].length <= EBIKWOTULA_SMALL_IMAGE);
+    }
     for (size_t i = 0; i < CALLS; i++) {
-        size_t most = 0;
-        for (int f = 0; f < count; f++) {
-            struct job job = {calls[i].run, lend(files[f], calls[i].reply_bytes), 0};
-            job.call->limit = 0;
-            job.call->path = f == 1 ? "/a" : "/00001";
-            job.call->path_length = strlen(job.call->path);
-            size_t used = stack_of(&job) - base;
-            most = used > most ? used : most;
+        size_t most = most_stack(i, files, FILES), small = most_stack(i, files, SMALL_FILES);
+        printf("stack of %s: %zu bytes, of a small file %zu\n", calls[i].name, most, small);
+        stack_is(most, calls[i].stack_bytes);
+        stack_is(small, calls[i].small_stack_bytes);
+    }
+}
+
+/* What a caller may count on: a thread of this stack, all in all, is enough for every call. */
+#define THREAD_STACK 524288
+
+/* Runs a job in a thread of exactly so much stack. Before it lies a page that can't be touched, so that a call that takes more
+ * ends the program. */
+static void within_stack(struct job *job, size_t bytes)
+{
+    size_t page = (size_t)sysconf(_SC_PAGESIZE);
+    uint8_t *memory = aligned_alloc(page, page + bytes);
+    pthread_attr_t attributes;
+    pthread_t thread;
+    if (memory == NULL || mprotect(memory, page, PROT_NONE) != 0) {
+        printf("no memory for a stack\n");
+        exit(1);
+    }
+    pthread_attr_init(&attributes);
+    CHECK(pthread_attr_setstack(&attributes, memory + page, bytes) == 0);
+    CHECK(pthread_create(&thread, &attributes, perform, job) == 0);
+    pthread_join(thread, NULL);
+    pthread_attr_destroy(&attributes);
+    CHECK(mprotect(memory, page, PROT_READ | PROT_WRITE) == 0);
+    free(memory);
+}
+
+/* Every call of every file in such a thread, with the answer that it gives elsewhere. */
+static void threads(struct file *files)
+{
+    for (size_t i = 0; i < CALLS; i++) {
+        for (int f = 0; f < FILES; f++) {
+            struct job job = job_of(i, files, f), alone = job_of(i, files, f);
+            within_stack(&job, THREAD_STACK);
+            CHECK(job.number == alone.run(alone.call));
+            CHECK(memcmp(job.call->reply, alone.call->reply, job.call->reply_length) == 0);
             free(job.call);
+            free(alone.call);
         }
-        printf("stack of %s: %zu bytes\n", calls[i].name, most);
-        CHECK(most <= calls[i].stack_bytes);
-        CHECK(most + 8192 > calls[i].stack_bytes);
     }
 }
 
@@ -570,33 +672,35 @@ static void side_by_side(struct file full)
 
 int main(int count, char **names)
 {
-    struct file files[5];
-    if (count != 6) {
+    struct file files[FILES];
+    if (count != FILES + 1) {
         printf("usage: calls SMALL WRONG FULL CROWDED DEEP\n");
         return 1;
     }
-    for (int i = 0; i < 5; i++) {
+    for (int i = 0; i < FILES; i++) {
         files[i] = read_file(names[i + 1]);
     }
     CHECK(ebikwotula_version() == EBIKWOTULA_VERSION);
-    reply_lengths(files[0]);
+    constants();
+    reply_lengths(files[SMALL]);
     image_lengths();
-    objects_and_blocks(files[2], files[3]);
-    paths(files[0]);
-    descriptions(files[1]);
-    owners(files[1]);
-    owners(files[2]);
-    owners(files[4]);
-    described_blocks(files[1]);
-    overlaps(files[1]);
-    reports(files[0]);
-    reports(files[1]);
-    reports(files[4]);
-    other_reports(files[0]);
-    mend_and_undo(files[1]);
-    longest_log(files[2]);
-    stacks(files, 5);
-    side_by_side(files[2]);
+    objects_and_blocks(files[FULL], files[CROWDED]);
+    paths(files[SMALL]);
+    descriptions(files[WRONG]);
+    owners(files[WRONG]);
+    owners(files[FULL]);
+    owners(files[DEEP]);
+    described_blocks(files[WRONG]);
+    overlaps(files[WRONG]);
+    reports(files[SMALL]);
+    reports(files[WRONG]);
+    reports(files[DEEP]);
+    other_reports(files[SMALL]);
+    mend_and_undo(files[WRONG]);
+    longest_log(files[FULL]);
+    stacks(files);
+    threads(files);
+    side_by_side(files[FULL]);
     printf("%d failures\n", failures);
     return failures == 0 ? 0 : 1;
 }

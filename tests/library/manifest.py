@@ -15,7 +15,7 @@ import sys
 import reader
 
 HERE = os.path.dirname(os.path.abspath(__file__))
-LENT = 4096  # words: room for 1,024 blocks
+LENT = 4 * reader.BLOCKS  # words: room for the most blocks
 UNDEFINED = 2**64 - 1
 problems = []
 notes = []

@@ -1,5 +1,6 @@
-# A separate reader, written from document 01, Items 2 and 9 of document 02 and the readings in docs/DECISIONS.md alone.
+# A separate reader, written from document 01, Items 2, 4 and 9 of document 02 and the readings in docs/DECISIONS.md alone.
 UNDEF=2**64-1
+BYTES=range(96,16777217); OBJECTS=1024; BLOCKS=8192
 class Ref(Exception):
     def __init__(s,n,met=0): s.n=n; s.met=met
 def le(b,a,n): return int.from_bytes(b[a:a+n],'little')
@@ -21,10 +22,10 @@ def shared_by(b):
     return le(p,2,8)
 class Walker:
     def __init__(s,im,lent):
-        s.im=im; s.room=min(1024,lent//4); s.bs=[]; s.owner=0
+        s.im=im; s.room=min(BLOCKS,lent//4); s.bs=[]; s.owner=0
     def superblock(s):
         im=s.im
-        if not 96<=len(im)<=1048576: raise Ref(1)
+        if len(im) not in BYTES: raise Ref(1)
         if im[:8]!=bytes([0x89,0x48,0x44,0x46,0xd,0xa,0x1a,0xa]): raise Ref(2)
         v=im[8]
         if v>1: raise Ref(3)
@@ -213,7 +214,7 @@ def audit(im,lent):
         def discover(a):
             if a in counts: counts[a]+=1
             else:
-                if len(obs)>=256: raise Ref(12)
+                if len(obs)>=OBJECTS: raise Ref(12)
                 obs.append(a); counts[a]=1
         def judge(a):
             if a in shared and kinds.get(a,'t')!='t': raise Ref(10)
@@ -283,7 +284,7 @@ def mend(im,lent,log,n):
     lw=[x for f,s,t in wr for x in (f,s*2**32+t)]
     return 0,0,bc,len(wr),m,l,lw+[0]*(log-len(lw)),bytes(b)
 def undo(im,log,e,n):
-    if not 96<=len(im)<=1048576: return 1,0,im
+    if len(im) not in BYTES: return 1,0,im
     if len(log)<2*e: return 18,0,im
     ch=[(log[2*i],log[2*i+1]>>32,log[2*i+1]&0xffffffff) for i in range(e)]
     for f,o,w in ch:

@@ -11,7 +11,7 @@ fn put_other_answer(out: &mut [u8], at: usize, answer: u8) -> usize {
         answers::NOT_READ => put_text(out, at, b"a version, type or feature not read here"),
         answers::OUTSIDE => put_text(out, at, b"block not inside the end-of-file address"),
         answers::OVERLAP => put_text(out, at, b"block shares a byte with one already entered"),
-        answers::TOO_MANY_OBJECTS => put_text(out, at, b"a 257th object"),
+        answers::TOO_MANY_OBJECTS => put_text(out, at, b"one object too many"),
         answers::NO_ROOM => put_text(out, at, b"no room for the next block"),
         _ => at,
     }

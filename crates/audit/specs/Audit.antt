@@ -45,7 +45,7 @@ pub record EmptyTable (addresses : List ℕ) : Type 0 where
   pub long : indexWords ≤ length addresses
   pub zeros : addresses ≡ replicate (length addresses) 0
 
--- "kept in a table of 256 places that starts empty"
+-- the table of objects "starts empty"
 pub record Lists (addresses stored counts : List ℕ) : Type 0 where
   pub addressesEmpty : EmptyTable addresses
   pub storedEmpty : stored ≡ replicate objectsMost 0

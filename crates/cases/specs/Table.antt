@@ -1,8 +1,10 @@
 -- The starred small files of document 01 as one table: in each row a call of the definitions, and the whole reply that 01 gives to it.
 -- The comment above a row is the sentence of 01, or of an item of document 02. The last rows are about file C, which has sharings.
-use Prim.Native.Nat.{ℕ}
+use Prim.Native.Nat.{ℕ, _+_, _*_}
 use mathlib.Core.List.{List, [], _∷_, _++_}
 use lib.ListN.{length, set}
+use Rattle.format.specs.Limits.{objectsMost}
+use Rattle.format.specs.Bytes.{padded}
 use Rattle.format.specs.Blocks.{noObject}
 use Rattle.format.specs.Audit.{Counted}
 use Rattle.format.specs.Answers.{AuditReply, LookupReply, DescribeReply, MendReply, UndoReply, audit, lookup, describe, mend, undo}
@@ -37,6 +39,10 @@ inC r = r .number ∷ (sized (r .list) ++ sized (r .reply))
 
 abbrev pub mendedInC : CMend → List ℕ
 mendedInC r = r .number ∷ (sized (r .list) ++ sized (r .log) ++ sized (r .reply) ++ sized (r .image))
+
+-- the bytes of an audit's reply in C: "C's 770 words become 3,074"
+abbrev pub auditReply : ℕ
+auditReply = 8 * (2 + 3 * objectsMost)
 
 -- a row: the reply of the definitions, and the reply of document 01
 pub record Case : Type 0 where
@@ -248,7 +254,7 @@ table =
     (described (describe segmentInHeader (ascii "/a") 32) is describeMet 96 32) ∷
     (mended (mend segmentInHeader 32 2 1) is mendMet segmentInHeader 96 32 2) ∷
     -- in C the first word
-    (inC (cAudit segmentInHeader 256 6160) is inC (record { number = 6; list = zeros 256; reply = 0x60 ∷ zeros 6159 })) ∷
+    (inC (cAudit segmentInHeader 256 auditReply) is inC (record { number = 6; list = zeros 256; reply = padded auditReply (0x60 ∷ []) })) ∷
     (inC (cLookup segmentInHeader (ascii "/a") 256 24) is inC (record { number = 6; list = zeros 256; reply = 0x60 ∷ zeros 23 })) ∷
     (inC (cDescribe segmentInHeader (ascii "/a") 256 592) is inC (record { number = 6; list = zeros 256; reply = 0x60 ∷ zeros 591 })) ∷
     (mendedInC (cMend segmentInHeader 256 16 24 1) is mendedInC (record {

@@ -95,7 +95,7 @@ module _ (log ws : List ℕ) (same : toWords (length log / 8) log ≡ ws) where
     back = λ r limit long enough. c-undo im′ r entries limit ∙ rw (le-leb 1 (r / 8) (omega arith), k .back limit enough);
   }
 
--- with 770 words for the reply the audit isn't short
+-- with room for its reply the audit isn't short
 c-audit : (im : List ℕ) (l r : ℕ) (a : AuditReply) → 8 * (2 + 3 * objectsMost) ≤ r → audit im (l / 8) ≡ a → cAudit im l r ≡ cAuditEnd l r a
 unfolding cAudit objectsMost
 c-audit im l r a h e = rw (le-leb (2 + 3 * objectsMost) (r / 8) (omega arith)) (ap (cAuditEnd l r) e)
@@ -125,6 +125,7 @@ module _ (im : List ℕ) (l g r n : ℕ) (b : IsBytes im) (z : cMend im l g r n 
       done .2 ∙ e
 
   entries : entriesRead (cMend im l g r n) ≡ wrongCounts im (l / 8)
+  unfolding objectsMost
   entries =
       let d = mend-done im (l / 8) (g / 8) n (done .1) in
       let most = wrong-most im (l / 8) (d .audited) in

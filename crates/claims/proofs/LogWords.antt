@@ -57,7 +57,7 @@ unfolding countedIn
 counted-length im [] = refl
 counted-length im (o ∷ os) = ap suc (counted-length im os)
 
--- "Objects 256."
+-- "Objects 256", "objects to 1,024"
 pub objects-most : (im : List ℕ) (lent : ℕ) → audit im lent .number ≡ 0 → length (audit im lent .objects) ≤ objectsMost
 unfolding objectsMost
 objects-most im lent z =
@@ -70,8 +70,7 @@ objects-most im lent z =
     let objects : audit im lent .objects ≡ countedIn im os = ap (λ (r : AuditReply). r .objects) (audit-reply im lent os (a .1) (a .2)) in
     rw (objects, counted-length im os) most
 
-pub wrong-most : (im : List ℕ) (lent : ℕ) → audit im lent .number ≡ 0 → wrongCounts im lent ≤ 256
-unfolding objectsMost
+pub wrong-most : (im : List ℕ) (lent : ℕ) → audit im lent .number ≡ 0 → wrongCounts im lent ≤ objectsMost
 wrong-most im lent z = omega (arith, corrections-most (audit im lent .objects), objects-most im lent z)
 
 -- a mend that is done, with a log of g bytes

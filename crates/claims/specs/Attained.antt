@@ -3,7 +3,8 @@ use Prim.Native.Nat.{ℕ, zero, suc, _+_, _*_, _/_, _%_}
 use mathlib.Core.List.{List, [], _∷_, _++_}
 use mathlib.Core.Path.{_≡_}
 use lib.ListN.{set}
-use Rattle.format.specs.Bytes.{toBytes, padded}
+use Rattle.format.specs.Limits.{objectsMost}
+use Rattle.format.specs.Bytes.{toBytes, padded, overwrite}
 use Rattle.format.specs.Answers.{audit, lookup, describe, mend, undo}
 use Rattle.format.specs.Front.{cAudit, cLookup, cDescribe, cMend, cUndo}
 use Rattle.cases.specs.Files.{ascii, zeros, symbolEntry, superblock, rootHeader, treeNode, heapHeader}
@@ -30,24 +31,31 @@ misfilled = changed 1160 5
 abbrev pub linking : List ℕ
 linking = changed 824 2
 
--- 12: a group with 256 names, of two letters each, for as many addresses; with the root they are 257 objects. n are left, the i-th is next
+-- 12: a group with as many names as there may be objects, of three letters each, for as many addresses; the root is one object more. n names are
+-- left, the i-th is next
 unfoldable pub names : ℕ → ℕ → List ℕ
 names zero i = []
-names (suc n) i = (65 + i / 16) ∷ (65 + i % 16) ∷ 0 ∷ names n (i + 1)
+names (suc n) i = (65 + i / 256) ∷ (65 + i / 16 % 16) ∷ (65 + i % 16) ∷ 0 ∷ names n (i + 1)
 
 unfoldable pub links : ℕ → ℕ → List ℕ
 links zero i = []
-links (suc n) i = symbolEntry (8 + 3 * i) (20000 + i) 0 [] ++ links n (i + 1)
+links (suc n) i = symbolEntry (8 + 4 * i) (1000 + i) 0 [] ++ links n (i + 1)
 
--- leaf K is 129, and the segment at 712 has 776 bytes
+-- the bytes of the segment, which is at 712, and the leaf K, so that all entries are in one symbol node behind it
+abbrev pub crowdedSegment : ℕ
+crowdedSegment = 8 + 4 * objectsMost
+
+abbrev pub crowdedK : ℕ
+crowdedK = objectsMost / 2 + 1
+
 abbrev pub crowded : List ℕ
 crowded =
-    set (superblock 11816 136) 16 129 ++
+    set (set (superblock (720 + crowdedSegment + 80 * crowdedK) 136) 16 (crowdedK % 256)) 17 (crowdedK / 256) ++
     rootHeader ++
-    treeNode 1 (toBytes 8 0 ++ toBytes 8 1488 ++ toBytes 8 773) ++
-    set (set (heapHeader 1 712) 8 8) 9 3 ++
-    (zeros 8 ++ names 256 0) ++
-    (ascii "SNOD" ++ toBytes 1 1 ++ zeros 1 ++ toBytes 2 256 ++ padded (258 * 40) (links 256 0))
+    treeNode 1 (toBytes 8 0 ++ toBytes 8 (712 + crowdedSegment) ++ toBytes 8 (4 + 4 * objectsMost)) ++
+    overwrite (heapHeader 1 712) 8 (toBytes 8 crowdedSegment) ++
+    (zeros 8 ++ names objectsMost 0) ++
+    (ascii "SNOD" ++ toBytes 1 1 ++ zeros 1 ++ toBytes 2 objectsMost ++ padded (80 * crowdedK) (links objectsMost 0))
 
 -- the images on which an audit gives 0 to 12, and a lookup of "/a" 0 to 10
 abbrev pub auditImages : List (List ℕ)
@@ -98,11 +106,15 @@ pub record Attained : Type 0 where
   pub mends : mendAttained (λ im lent logLent. mend im lent logLent 1 .number) ≡ mendNumbers
   pub undos : undoAttained (2000 ∷ 0 ∷ []) (λ im log e. undo im log e 0 .number) ≡ undoNumbers
 
--- the same in C, with 8 bytes for a word and 770 words for the reply
+-- the bytes of an audit's reply
+abbrev pub replyBytes : ℕ
+replyBytes = 8 * (2 + 3 * objectsMost)
+
+-- the same in C, with 8 bytes for a word and room for an audit's reply
 pub record CAttained : Type 0 where
-  pub audits : auditAttained (λ im lent. cAudit im (lent * 8) 6160 .number) ≡ auditNumbers
-  pub lookups : lookupAttained (λ im path lent. cLookup im path (lent * 8) 6160 .number) ≡ lookupNumbers
-  pub descriptions : describeAttained (λ im path lent. cDescribe im path (lent * 8) 6160 .number) ≡ describeNumbers
-  pub mends : mendAttained (λ im lent logLent. cMend im (lent * 8) (logLent * 8) 6160 1 .number) ≡ mendNumbers
-  -- "Under 770, 3 or 1 words gives 13 first, in C only."
+  pub audits : auditAttained (λ im lent. cAudit im (lent * 8) replyBytes .number) ≡ auditNumbers
+  pub lookups : lookupAttained (λ im path lent. cLookup im path (lent * 8) replyBytes .number) ≡ lookupNumbers
+  pub descriptions : describeAttained (λ im path lent. cDescribe im path (lent * 8) replyBytes .number) ≡ describeNumbers
+  pub mends : mendAttained (λ im lent logLent. cMend im (lent * 8) (logLent * 8) replyBytes 1 .number) ≡ mendNumbers
+  -- "Under 770, 3 or 1 words gives 13 first, in C only", "C's 770 words become 3,074"
   pub undos : undoAttained (toBytes 8 2000 ++ zeros 8) (λ im log e. cUndo im log 8 e 0 .number) ++ (cUndo [] [] 0 0 0 .number ∷ []) ≡ cUndoNumbers

@@ -1,5 +1,5 @@
--- Demand 1, of the numbers in C: "Under 770, 3 or 1 words gives 13 first, in C only". With room for its reply a call gives the library's number, for the
--- whole words of its slices. So what is said of the library's numbers holds of these.
+-- Demand 1, of the numbers in C: "Under 770, 3 or 1 words gives 13 first, in C only", "C's 770 words become 3,074". With room for its reply a call
+-- gives the library's number, for the whole words of its slices. So what is said of the library's numbers holds of these.
 use Prim.Native.Nat.{ℕ, _+_, _*_, _/_, _≤_, _<_}
 use mathlib.Core.List.{List}
 use mathlib.Core.Path.{_≡_}

@@ -22,7 +22,7 @@ mendNumbers = auditNumbers ++ (18 ∷ [])
 abbrev pub undoNumbers : List ℕ
 undoNumbers = 0 ∷ 1 ∷ 18 ∷ 19 ∷ []
 
--- "Under 770, 3 or 1 words gives 13 first, in C only": 13 is a number of all other calls already
+-- "Under 770, 3 or 1 words gives 13 first, in C only", "C's 770 words become 3,074": 13 is a number of all other calls already
 abbrev pub cUndoNumbers : List ℕ
 cUndoNumbers = undoNumbers ++ (13 ∷ [])
 

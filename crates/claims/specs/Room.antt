@@ -1,5 +1,5 @@
--- Demand 2, of the room: "Room is the lesser of 1,024 and the whole pairs lent"; "Room and document 01's pairs are counted in fours." 13, "no room for
--- the next block", is the one answer that depends on it.
+-- Demand 2, of the room: "Room is the lesser of 1,024 and the whole pairs lent", "and blocks to 8,192"; "Room and document 01's pairs are counted in
+-- fours." 13, "no room for the next block", is the one answer that depends on it.
 use Prim.Native.Nat.{ℕ, _≤_}
 use mathlib.Core.List.{List}
 use mathlib.Core.Logic.{_⊎_}

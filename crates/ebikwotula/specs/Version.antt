@@ -3,4 +3,4 @@ use Prim.Native.Nat.{ℕ}
 
 -- raised with every change of a word, an answer, a limit or the stack
 abbrev pub version : ℕ
-version = 5
+version = 6

@@ -11,7 +11,7 @@ ghost use Rattle.ebikwotula.specs.Version.{version};
 pub extern "C" fn ebikwotula_version() -> u32
     ensures { λ r. ⌜ r ≡ version ⌝ }
 {
-    5
+    6
 }
 
 // The audit of an image. `blocks` gets the block list, `reply` the other fields; the number is returned.

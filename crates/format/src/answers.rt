@@ -35,7 +35,7 @@ pub const HEADER_UNSOUND: u8 = 10;
 // "dataset messages unsound"
 pub const DATASET_UNSOUND: u8 = 11;
 
-// "a 257th object"
+// "a 257th object", "objects to 1,024"
 pub const TOO_MANY_OBJECTS: u8 = 12;
 
 // "no room for the next block"

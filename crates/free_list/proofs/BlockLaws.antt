@@ -10,8 +10,7 @@ use Rattle.format.specs.Bytes.{u64}
 use Rattle.format.specs.Blocks.{Block, block, overlapsAny}
 use Rattle.walk.proofs.Tests.{all-fails, all-passes, all-last, field-least, field-below}
 use Rattle.free_map.specs.FreeMap.{MapOf}
-use Rattle.free_list.specs.Spanned.{Spanned}
-use Rattle.free_list.specs.FreeBlocks.{blockSound, BlockAdded}
+use Rattle.free_list.specs.FreeBlocks.{chain, blockSound, BlockAdded}
 
 -- the block's first 16 bytes are not all in the segment
 pub fields-outside : (seg : List ℕ) (off : ℕ) → length seg < off + 16 → (bs : List Block) → false ≡ blockSound seg bs off
@@ -39,13 +38,11 @@ module _ (seg : List ℕ) (off own : ℕ) (inside : off + 16 ≤ length seg) (e 
       (all-passes _ (rw (← e) (le-leb (off + own) (length seg) k)) (ap not (f ∙ ap (overlapsAny bs off) e) ∙ all-last _)))
 
 -- a block that fails a test leaves the map as it is
-pub not-added : {seg map : List ℕ} {low high off : ℕ} →
-    ((bs : List Block) → MapOf map seg bs → Spanned low high bs → false ≡ blockSound seg bs off) → BlockAdded seg map low high off map false
-not-added h = record { sound = h; added = λ bs m s e. let z : _≡_ {A = ℕ} 0 1 = cc in absurd (omega arith); long = refl }
+pub not-added : {seg map : List ℕ} {head met off : ℕ} → false ≡ blockSound seg (chain met seg head) off → BlockAdded seg map head met off map false
+not-added h = record { sound = h; added = λ e. let z : _≡_ {A = ℕ} 0 1 = cc in absurd (omega arith); long = refl }
 
--- one that passes them is added
-pub was-added : {seg map map′ : List ℕ} {low high off : ℕ} (own : ℕ) → own ≡ u64 seg (off + 8) → length map′ ≡ length map →
-    ((bs : List Block) → MapOf map seg bs → Spanned low high bs → true ≡ blockSound seg bs off) →
-    ((bs : List Block) → MapOf map seg bs → Spanned low high bs → MapOf map′ seg (bs ++ (block off own ∷ []))) →
-    BlockAdded seg map low high off map′ true
-was-added own e l h k = record { sound = h; added = λ bs m s t. rw e at (k bs m s); long = l }
+-- one that passes them is added to a map that has cells
+pub was-added : {seg map map′ : List ℕ} {head met off : ℕ} (own : ℕ) → own ≡ u64 seg (off + 8) → length map′ ≡ length map →
+    true ≡ blockSound seg (chain met seg head) off → (0 < length map′ → MapOf map′ seg (chain met seg head ++ (block off own ∷ []))) →
+    BlockAdded seg map head met off map′ true
+was-added own e l h k = record { sound = h; added = λ t p. rw e at (k p); long = l }

@@ -1,4 +1,4 @@
--- Laws of the chain of free blocks and of the free list.
+-- Laws of the free list.
 use Prim.Native.Nat.{ℕ, zero, suc, _+_, _-_, _≤_, _<_}
 use mathlib.Core.Bool.{Bool, true, false, not}
 use mathlib.Core.List.{List, [], _∷_, _++_}
@@ -13,27 +13,11 @@ use Rattle.format.specs.Bytes.{if_then_else_, allHold, u64, undefinedAddress}
 use Rattle.format.specs.Blocks.{Block, block, overlapsAny}
 use Rattle.format.specs.Result.{Result, value, answer, check, _>>=_, _>>_}
 use Rattle.format.specs.FreeList.{freeBlocks, freeList}
-use Rattle.free_map.specs.FreeMap.{MapOf}
 use Rattle.free_map.proofs.RangeLaws.{map-none}
 use Rattle.free_list.specs.Spanned.{Spanned}
-use Rattle.free_list.specs.FreeBlocks.{chain, blockSound, BlockAdded, ListRead}
+use Rattle.free_list.specs.FreeBlocks.{chain, blockSound, Held, BlockAdded, ListRead}
 use Rattle.free_list.specs.declared.FreeList.{FreeList}
-
--- the offset behind n blocks of the chain
-unfoldable pub follow : ℕ → List ℕ → ℕ → ℕ
-follow zero seg off = off
-follow (suc n) seg off = follow n seg (u64 seg off)
-
-pub follow-next : (n : ℕ) (seg : List ℕ) (off : ℕ) → follow (suc n) seg off ≡ u64 seg (follow n seg off)
-unfolding follow
-follow-next zero seg off = refl
-follow-next (suc n) seg off = follow-next n seg (u64 seg off)
-
--- one block more, at the end of the chain
-pub chain-snoc : (n : ℕ) (seg : List ℕ) (off : ℕ) → chain n seg off ++ (block (follow n seg off) (u64 seg (follow n seg off + 8)) ∷ []) ≡ chain (suc n) seg off
-unfolding chain follow
-chain-snoc zero seg off = refl
-chain-snoc (suc n) seg off = ap (λ (bs : List Block). block off (u64 seg (off + 8)) ∷ bs) (chain-snoc n seg (u64 seg off))
+use Rattle.free_list.proofs.ChainLaws.{follow, follow-next, chain-snoc, chained-snoc}
 
 -- a sound block lies in the segment, and begins with its two fields
 pub sound-inside : (seg : List ℕ) (met : List Block) (off : ℕ) → blockSound seg met off ≡ true →
@@ -78,20 +62,25 @@ pub free-undefined : (seg : List ℕ) (head : ℕ) → (eqb head 1 ≡ false) �
 unfolding freeList chain
 free-undefined seg head e f = rw (e, f)
 
--- The list, where `met` blocks are met and in the map, and the next one stands at `at`.
+-- no block is held yet
+pub none-held : {seg map : List ℕ} {head : ℕ} → ((k : ℕ) → getD map k 0 ≡ 0) → Held seg map head 0
+unfolding chain
+none-held z = record { chained = tt; mapped = λ p. map-none z }
+
+-- The list, where `met` blocks are met and held, and the next one stands at `at`.
 pub record Following (seg map : List ℕ) (head at met : ℕ) : Type 0 where
   pub place : at ≡ follow met seg head
   pub left : freeList seg head ≡ freeBlocks (length seg - met) seg at (chain met seg head)
-  pub mapped : MapOf map seg (chain met seg head)
+  pub held : Held seg map head met
 
 pub free-start : (seg map : List ℕ) (head : ℕ) → (eqb head 1 ≡ false) → eqb head undefinedAddress ≡ false → ((k : ℕ) → getD map k 0 ≡ 0) →
     Following seg map head head 0
 unfolding freeList chain follow
-free-start seg map head e f z = record { place = refl; left = rw (e, f, sub-zero); mapped = map-none z }
+free-start seg map head e f z = record { place = refl; left = rw (e, f, sub-zero); held = none-held z }
 
 -- One turn, by the block at `at`.
-module _ {seg map map′ : List ℕ} {low high head at met : ℕ} {r : Bool} (f : Following seg map head at met)
-    (s : Spanned low high (chain met seg head)) (t : BlockAdded seg map low high at map′ r) (h : met < length seg) where
+module _ {seg map map′ : List ℕ} {head at met : ℕ} {r : Bool} (f : Following seg map head at met) (t : BlockAdded seg map head met at map′ r)
+    (h : met < length seg) where
   more : chain met seg head ++ (block at (u64 seg (at + 8)) ∷ []) ≡ chain (met + 1) seg head
   more = rw (f .place, add-one) (chain-snoc met seg head)
 
@@ -101,21 +90,24 @@ module _ {seg map map′ : List ℕ} {low high head at met : ℕ} {r : Bool} (f 
       else answer 9
   step =
       let k : length seg - met ≡ suc (length seg - (met + 1)) = omega arith in
-      f .left ∙ rw k (free-step (length seg - (met + 1)) seg at (chain met seg head) ∙ rw (more, ← t .sound (chain met seg head) (f .mapped) s))
+      f .left ∙ rw k (free-step (length seg - (met + 1)) seg at (chain met seg head) ∙ rw (more, ← t .sound))
 
   pub block-unsound : r ≡ false → freeList seg head ≡ answer 9
   block-unsound p = step ∙ rw p
 
   pub block-inside : r ≡ true → (at + 16 ≤ length seg) × (at + u64 seg (at + 8) ≤ length seg)
-  block-inside p = sound-inside seg (chain met seg head) at (sym (t .sound (chain met seg head) (f .mapped) s) ∙ p)
+  block-inside p = sound-inside seg (chain met seg head) at (sym (t .sound) ∙ p)
 
-  pub block-mapped : r ≡ true → MapOf map′ seg (chain (met + 1) seg head)
-  block-mapped p = rw more at (t .added (chain met seg head) (f .mapped) s p)
+  pub block-held : r ≡ true → Held seg map′ head (met + 1)
+  block-held p = record {
+    chained = rw add-one (chained-snoc met seg head (f .held .chained) (rw (← f .place) (block-inside p .0)));
+    mapped = λ l. rw more at (t .added p l);
+  }
 
   -- the blocks, where those before lie between low and high
-  pub block-spanned : {own low′ high′ : ℕ} → own ≡ u64 seg (at + 8) →
+  pub block-spanned : {own low high low′ high′ : ℕ} → Spanned low high (chain met seg head) → own ≡ u64 seg (at + 8) →
       ((bs : List Block) → Spanned low high bs → Spanned low′ high′ (bs ++ (block at own ∷ []))) → Spanned low′ high′ (chain (met + 1) seg head)
-  block-spanned e w = rw more at (rw e at (w (chain met seg head) s))
+  block-spanned s e w = rw more at (rw e at (w (chain met seg head) s))
 
   pub block-last : r ≡ true → u64 seg at ≡ 1 → freeList seg head ≡ value (chain (met + 1) seg head)
   block-last p q = step ∙ rw (p, eq-eqb (u64 seg at) 1 q)
@@ -124,7 +116,7 @@ module _ {seg map map′ : List ℕ} {low high head at met : ℕ} {r : Bool} (f 
   block-more p n q = record {
     place = n ∙ rw (add-one, follow-next, ← f .place);
     left = rw n (step ∙ rw (p, ne-eqb (u64 seg at) 1 (λ e. q (n ∙ e))));
-    mapped = block-mapped p;
+    held = block-held p;
   }
 
 -- as many blocks as the segment has bytes are too many

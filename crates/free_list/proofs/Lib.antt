@@ -1,3 +1,4 @@
+pub mod ChainLaws
 pub mod SpanLaws
 pub mod BlockLaws
 pub mod FreeLaws

@@ -19,6 +19,11 @@ unfoldable pub chain : ℕ → List ℕ → ℕ → List Block
 chain zero seg off = []
 chain (suc n) seg off = block off (u64 seg (off + 8)) ∷ chain n seg (u64 seg off)
 
+-- the first 16 bytes of each of these blocks, its offset of the next one and its size, lie in the segment
+abbrev pub Chained : ℕ → List ℕ → ℕ → Type 0
+Chained zero seg off = Unit {0}
+Chained (suc n) seg off = (off + 16 ≤ length seg) × Chained n seg (u64 seg off)
+
 -- the free block at the offset off passes its tests, behind those met so far
 unfoldable pub blockSound : List ℕ → List Block → ℕ → Bool
 blockSound seg met off =
@@ -30,25 +35,29 @@ abbrev pub freeOf : List ℕ → ℕ → FreeList → Result (List Block)
 freeOf seg head (Sound n) = value (chain n seg head)
 freeOf seg head Unsound = answer 9
 
--- A map that is lent for the free list: no byte is free, and each byte of the segment has a cell; where there is no list, it may have no cells.
-pub record Sized (map seg : List ℕ) (head : ℕ) : Type 0 where
+-- A map that is lent for the free list: no byte is free, and each byte of the segment has a cell; or it has no cells.
+pub record Sized (map seg : List ℕ) : Type 0 where
   pub zeros : (k : ℕ) → getD map k 0 ≡ 0
   pub long : 0 < length map → length seg ≤ 16 * length map
-  pub some : (head ≡ 1 → ⊥) → (head ≡ undefinedAddress → ⊥) → 0 < length map
 
--- the block at off was tested behind any blocks that the map had, all between low and high; where it is sound, the map has it
-pub record BlockAdded (seg map : List ℕ) (low high off : ℕ) (map′ : List ℕ) (r : Bool) : Type 0 where
-  pub sound : (bs : List Block) → MapOf map seg bs → Spanned low high bs → r ≡ blockSound seg bs off
-  pub added : (bs : List Block) → MapOf map seg bs → Spanned low high bs → r ≡ true → MapOf map′ seg (bs ++ (block off (u64 seg (off + 8)) ∷ []))
+-- the first n blocks of the list can be followed again, and a map that has cells has their bytes
+pub record Held (seg map : List ℕ) (head n : ℕ) : Type 0 where
+  pub chained : Chained n seg head
+  pub mapped : 0 < length map → MapOf map seg (chain n seg head)
+
+-- the block at off was tested behind the blocks met; where it is sound, a map that has cells has it
+pub record BlockAdded (seg map : List ℕ) (head met off : ℕ) (map′ : List ℕ) (r : Bool) : Type 0 where
+  pub sound : r ≡ blockSound seg (chain met seg head) off
+  pub added : r ≡ true → 0 < length map′ → MapOf map′ seg (chain met seg head ++ (block off (u64 seg (off + 8)) ∷ []))
   pub long : length map′ ≡ length map
 
--- the map of a sound list has its blocks
-abbrev pub Mapped : List ℕ → ℕ → List ℕ → FreeList → Type 0
-Mapped seg head map (Sound n) = MapOf map seg (chain n seg head)
-Mapped seg head map Unsound = Unit {0}
+-- the blocks of a sound list are held
+abbrev pub HeldIf : List ℕ → ℕ → List ℕ → FreeList → Type 0
+HeldIf seg head map (Sound n) = Held seg map head n
+HeldIf seg head map Unsound = Unit {0}
 
 -- the list was read as the definition has it, with a map that became another of the same length
 pub record ListRead (seg map : List ℕ) (head : ℕ) (map′ : List ℕ) (r : FreeList) : Type 0 where
   pub value : freeList seg head ≡ freeOf seg head r
-  pub mapped : Mapped seg head map′ r
+  pub held : HeldIf seg head map′ r
   pub long : length map′ ≡ length map

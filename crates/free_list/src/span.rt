@@ -1,12 +1,12 @@
-// Where the free blocks met so far lie. In a list that rises or falls the next block lies outside, and its bytes are not looked for in the map.
-use free_map::meets;
+// Where the free blocks met so far lie. In a list that rises or falls the next block lies outside, and its bytes are not looked for.
+use crate::search::meets_free;
 use order::lesser;
 ghost use mathlib.Core.List.{List, [], _∷_, _++_};
 ghost use mathlib.Core.Path.{_≡_};
 ghost use Prim.Native.Nat.{ℕ, _+_, _≤_, _<_, _^_, max};
 ghost use lib.ListN.{length};
 ghost use Rattle.format.specs.Blocks.{Block, block, overlapsAny};
-ghost use Rattle.free_map.specs.FreeMap.{MapOf};
+ghost use Rattle.free_list.specs.FreeBlocks.{chain, Held};
 ghost use Rattle.free_list.specs.Spanned.{Spanned};
 
 // No block has a byte before `low`, or one from `high` on.
@@ -35,12 +35,21 @@ pub fn widened(span: Span, off: usize, size: usize) -> Span
     }
 }
 
-// Whether one of the `size` bytes at `off` is free.
-pub fn meets_block(map: &[u8], span: Span, off: usize, size: usize) -> bool
+// Whether one of the `size` bytes at `off` lies in one of the first `met` free blocks.
+pub fn meets_block(
+    segment: &[u8],
+    map: &[u8],
+    span: Span,
+    head: u64,
+    met: usize,
+    off: usize,
+    size: usize,
+) -> bool
+    requires { ⌜ Held (now segment) (now map) head met ⌝ }
+    requires { ⌜ Spanned (span .low) (span .high) (chain met (now segment) head) ⌝ }
     requires { ⌜ 0 < size ⌝ }
-    requires { ⌜ off + size < 2 ^ 64 ⌝ }
-    ensures { λ r. ⌜ ((seg : List ℕ) (bs : List Block) → MapOf (now (map .entry)) seg bs → Spanned (span .low) (span .high) bs →
-        off + size ≤ length seg → r ≡ overlapsAny bs off size) ⌝ }
+    requires { ⌜ off + size ≤ length (now segment) ⌝ }
+    ensures { λ r. ⌜ r ≡ overlapsAny (chain met (now (segment .entry)) head) off size ⌝ }
 {
     if span.high <= off {
         return false;
@@ -48,5 +57,5 @@ pub fn meets_block(map: &[u8], span: Span, off: usize, size: usize) -> bool
     if off + size <= span.low {
         return false;
     }
-    meets(map, off, size)
+    meets_free(segment, map, head, met, off, size)
 }

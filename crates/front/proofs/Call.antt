@@ -1,16 +1,13 @@
 -- A call with a working list: room for few blocks is enough where the answer isn't for want of room. One law for every call in C.
 use Prim.Native.Nat.{ℕ, _*_, _/_, _≤_}
-use mathlib.Core.Path.{_≡_, refl, ap, sym, _∙_}
-use mathlib.Core.Bool.{Bool, true, false}
+use mathlib.Core.Path.{_≡_, ap, sym, _∙_}
 use native.Mathlib.Omega.{arith}
-use borrow.Author.Tests.{eqb-true, eqb-false}
 use lib.ListN.{length}
-use lib.Dec.{eqb}
 use Rattle.format.specs.Blocks.{roomOf}
 use Rattle.format.specs.Walk.{Outcome}
 use Rattle.walk.specs.Lent.{left}
 use Rattle.laws.proofs.MoreRoom.{HadRoom}
-use Rattle.front.proofs.Lent.{room-lent, less-room}
+use Rattle.front.proofs.Lent.{room-lent, less-words}
 
 -- A call whose list is a slice of l bytes: its run with so many words lent, what is returned and written at the end of a run, and
 -- the number in that.
@@ -33,23 +30,20 @@ module _ {l : ℕ} {A C : Type 0} (call : Call l A C) where
   abbrev pub replyWith : ℕ → C
   replyWith lent = call .end lent (call .run lent)
 
-  run-same : (lent : ℕ) → lent ≤ l / 8 → call .run lent ≡ call .run (l / 8) → replyWith lent ≡ replyWith (l / 8)
-  run-same lent h e =
+  run-same : (lent more : ℕ) → lent ≤ more → more ≤ l / 8 → call .run lent ≡ call .run more → replyWith lent ≡ replyWith more
+  run-same lent more h k e =
       let fits : 4 * length (left (call .run lent)) ≤ lent = omega (arith, call .fits lent, room-lent lent) in
-      call .same lent (l / 8) (call .run lent) h (omega arith) fits (omega arith) ∙ ap (λ (o : Outcome A). call .end (l / 8) o) e
+      call .same lent more (call .run lent) (omega arith) k fits (omega arith) ∙ ap (λ (o : Outcome A). call .end more o) e
 
-  -- room for m blocks is as good as all, if it is all or the answer isn't for want of room
-  pub enough : (m all : ℕ) → all ≡ roomOf (l / 8) → m ≤ all → (call .number (replyWith (4 * m)) ≡ 13 → m ≡ all) → replyWith (4 * m) ≡ replyWith (l / 8)
-  enough m all e h whole = go (eqb (call .number (replyWith (4 * m))) 13) refl
-    where
-      inside : 4 * m ≤ l / 8
-      inside = omega (arith, room-lent (l / 8))
+  -- room for m blocks is as good as room for more, if the answer isn't for want of room
+  pub as-good : (m all : ℕ) → m ≤ all → 4 * all ≤ l / 8 → (call .number (replyWith (4 * m)) ≡ 13 → ⊥) → replyWith (4 * m) ≡ replyWith (4 * all)
+  as-good m all h k roomy =
+      let had = call .told (4 * m) (call .run (4 * m)) roomy in
+      run-same (4 * m) (4 * all) (omega arith) k (sym (call .more (4 * m) (4 * all) (less-words m all h) had))
 
-      go : (t : Bool) → eqb (call .number (replyWith (4 * m))) 13 ≡ t → replyWith (4 * m) ≡ replyWith (l / 8)
-      go true q = run-same (4 * m) inside (rw (whole (eqb-true _ _ q), e) (call .room (l / 8)))
-      go false q =
-          let had = call .told (4 * m) (call .run (4 * m)) (eqb-false _ _ q) in
-          run-same (4 * m) inside (sym (call .more (4 * m) (l / 8) (less-room m (l / 8) (omega arith)) had))
+  -- the room that all the words are is as good as the words
+  pub all-room : (all : ℕ) → all ≡ roomOf (l / 8) → replyWith (4 * all) ≡ replyWith (l / 8)
+  all-room all e = run-same (4 * all) (l / 8) (omega (arith, room-lent (l / 8))) (omega arith) (rw e (call .room (l / 8)))
 
 -- slices that came back with the same lengths
 pub of-slices : {C : Type 0} (reply : ℕ → ℕ → C) (x : C) (l r l′ r′ : ℕ) → l′ ≡ l → r′ ≡ r → x ≡ reply l′ r′ → x ≡ reply l r

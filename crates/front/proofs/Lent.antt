@@ -22,14 +22,14 @@ pub room-lent : (k : ℕ) → 4 * roomOf k ≤ k
 unfolding roomOf
 room-lent k = omega arith
 
--- no more blocks than a room has fit a list for all blocks, and their words are lent
-pub room-within : (m room k : ℕ) → room ≡ roomOf k → m ≤ room → (m ≤ blocksMost) × (4 * m ≤ k)
-room-within m room k e h = (omega (arith, room-most k), omega (arith, room-lent k))
+-- the blocks of a room fit a list for all blocks, and their words are lent
+pub room-fits : (room k : ℕ) → room ≡ roomOf k → (room ≤ blocksMost) × (4 * room ≤ k)
+room-fits room k e = (omega (arith, room-most k), omega (arith, room-lent k))
 
--- so many words are room for no more than is lent
-pub less-room : (m k : ℕ) → m ≤ roomOf k → roomOf (4 * m) ≤ roomOf k
+-- the words of fewer blocks are no more room
+pub less-words : (m all : ℕ) → m ≤ all → roomOf (4 * m) ≤ roomOf (4 * all)
 unfolding roomOf
-less-room m k h = omega arith
+less-words m all h = omega arith
 
 -- Block lists in so many words lent, as the bytes of a slice of l: what matters are the blocks.
 module _ (l lent : ℕ) (bs : List Block) (fits : 4 * length bs ≤ lent) (h : lent ≤ l / 8) where

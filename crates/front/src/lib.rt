@@ -1,47 +1,31 @@
 // What the calls share: the answer for want of room, the room that is tried first, zeros, and the reply to a refusal.
 use format::answers;
 ghost use mathlib.Core.Path.{_≡_};
-ghost use mathlib.Core.Bool.{true, false};
 ghost use Prim.Native.Nat.{_≤_};
 ghost use lib.ListN.{length, replicate};
 ghost use Rattle.format.specs.Front.{paddedBytes, refusalWords};
+ghost use Rattle.front.specs.Few.{fewBlocks};
 
 // The answer for want of room: to a reply that is too short it is given before the image is read.
 pub const NO_ROOM: u32 = 13;
 
-// A working list for all blocks takes longer to clear than a small file to read. So an image of at most so many bytes is first
-// read with a list for few blocks.
-const SMALL_IMAGE: usize = 16384;
+// A working list for all blocks takes longer to clear than a small file to read, and more stack. So an image of at most so many
+// bytes is first read with a list for few blocks.
+pub const SMALL_IMAGE: usize = 16384;
 
 pub const FEW_BLOCKS: usize = 64;
 
 pub const FEW_WORDS: usize = 5 * FEW_BLOCKS + 128;
 
-// The room that a call is tried with first, of the room that it has. Which it is shows in no reply.
-pub fn first_room(image: usize, room: usize) -> usize
-    ensures { λ r. ⌜ r ≤ room ⌝ }
+// The room that an image of so many bytes is tried with first: few blocks, and no more than it has bytes. A function that calls itself
+// with this room keeps a frame of its own for each list: of a room that is known the compiler would make one function with both.
+pub fn few_room(image: usize) -> usize
+    ensures { λ r. ⌜ r ≤ fewBlocks ⌝ }
 {
-    if SMALL_IMAGE < image {
-        return room;
-    }
-    if room < FEW_BLOCKS {
-        return room;
+    if image < FEW_BLOCKS {
+        return image;
     }
     FEW_BLOCKS
-}
-
-// Whether a call that was tried with less room is decided: it didn't end for want of room, or there is no more.
-pub fn decided(number: u32, first: usize, room: usize) -> bool
-    ensures { λ r. ⌜ (r ≡ true → number ≡ 13 → first ≡ room) ⌝ }
-    ensures { λ r. ⌜ (r ≡ false → number ≡ 13) ⌝ }
-{
-    if number != NO_ROOM {
-        return true;
-    }
-    if first == room {
-        return true;
-    }
-    false
 }
 
 // Zeros for both slices.

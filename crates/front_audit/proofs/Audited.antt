@@ -22,7 +22,7 @@ use Rattle.front.proofs.Reply.{length-places}
 use Rattle.front.proofs.Lent.{list-bytes}
 use Rattle.front.proofs.AuditRoom.{run-room, run-fits}
 use Rattle.front.proofs.Ended.{refusal-words, too-short, long-enough, Ends, list-used, list-zero}
-use Rattle.front.proofs.Call.{Call, enough}
+use Rattle.front.proofs.Call.{Call, as-good, all-room}
 
 -- the number, the block count and the list of a reply
 ends : (im : List ℕ) (lent : ℕ) (o : Outcome (List Linked)) (a : AuditReply) → a ≡ auditEnd im lent o → Ends lent o (a .number) (a .blockCount) (a .list)
@@ -79,9 +79,13 @@ module _ (im : List ℕ) (l r : ℕ) where
     told = told;
   }
 
-  -- the reply with room for m blocks is the call's, if that is all the room or it didn't end for want of room
-  pub whole-reply : 2 + 3 * objectsMost ≤ r / 8 → (m all : ℕ) (x : CReply) → x ≡ cAuditEnd l r (audit im (4 * m)) → all ≡ roomOf (l / 8) →
-      m ≤ all → (x .number ≡ 13 → m ≡ all) → x ≡ cAudit im l r
+  -- the reply with room for m blocks is that with room for more, if it isn't for want of room
+  pub few-reply : (m all : ℕ) (x : CReply) → x ≡ cAuditEnd l r (audit im (4 * m)) → m ≤ all → 4 * all ≤ l / 8 → (x .number ≡ 13 → ⊥) →
+      x ≡ cAuditEnd l r (audit im (4 * all))
+  unfolding audit call
+  few-reply m all x is h k roomy = is ∙ as-good call m all h k (λ q. roomy (ap (λ (y : CReply). y .number) is ∙ q))
+
+  -- the reply with all the room is the call's
+  pub whole-reply : 2 + 3 * objectsMost ≤ r / 8 → (all : ℕ) (x : CReply) → x ≡ cAuditEnd l r (audit im (4 * all)) → all ≡ roomOf (l / 8) → x ≡ cAudit im l r
   unfolding cAudit audit call
-  whole-reply long m all x is e h whole =
-      is ∙ enough call m all e h (λ q. whole (ap (λ (y : CReply). y .number) is ∙ q)) ∙ long-enough l r (2 + 3 * objectsMost) _ long
+  whole-reply long all x is e = is ∙ all-room call all e ∙ long-enough l r (2 + 3 * objectsMost) _ long

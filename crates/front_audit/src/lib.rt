@@ -3,6 +3,7 @@ use format::OBJECTS_MOST;
 use format::answers;
 use front::FEW_BLOCKS;
 use front::FEW_WORDS;
+use front::SMALL_IMAGE;
 use ledger::search::INDEX_WORDS;
 use ledger::search::TABLE_WORDS;
 use walk::blocks::WORK_WORDS;
@@ -122,7 +123,7 @@ fn audit_all(image: &[u8], blocks: &mut [u8], reply: &mut [u8], room: usize) -> 
     audit_with(image, &mut list, &mut addresses, blocks, reply, room)
 }
 
-// The audit with room for so many blocks, in the smaller list that has it.
+// The audit with room for so many blocks, in the smaller list that has it. A small image is first tried with room for few blocks.
 fn audit_in(image: &[u8], blocks: &mut [u8], reply: &mut [u8], room: usize) -> u32
     requires { ⌜ room ≤ blocksMost ⌝ }
     requires { ⌜ 4 * room ≤ length (now blocks) / 8 ⌝ }
@@ -132,6 +133,12 @@ fn audit_in(image: &[u8], blocks: &mut [u8], reply: &mut [u8], room: usize) -> u
 {
     if room <= FEW_BLOCKS {
         return audit_few(image, blocks, reply, room);
+    }
+    if image.len() <= SMALL_IMAGE {
+        let number = audit_in(image, blocks, reply, front::few_room(image.len()));
+        if number != front::NO_ROOM {
+            return number;
+        }
     }
     audit_all(image, blocks, reply, room)
 }
@@ -147,10 +154,5 @@ pub fn audit_bytes(image: &[u8], blocks: &mut [u8], reply: &mut [u8]) -> u32
         return front::NO_ROOM;
     }
     let room = walk::blocks::room(blocks.len() / 8);
-    let first = front::first_room(image.len(), room);
-    let number = audit_in(image, blocks, reply, first);
-    if front::decided(number, first, room) {
-        return number;
-    }
     audit_in(image, blocks, reply, room)
 }

@@ -21,7 +21,7 @@ use Rattle.describe.specs.declared.Description.{Description}
 use Rattle.front.proofs.Lent.{list-bytes}
 use Rattle.front.proofs.Follow.{path-room, path-fits}
 use Rattle.front.proofs.Ended.{refusal-words, too-short, long-enough, Ends, list-used, list-zero}
-use Rattle.front.proofs.Call.{Call, enough}
+use Rattle.front.proofs.Call.{Call, as-good, all-room}
 
 run-fits : (im path : List ℕ) (k : ℕ) → length (left (describeRun im path k)) ≤ roomOf k
 unfolding describeRun
@@ -84,9 +84,14 @@ module _ (im path : List ℕ) (l r : ℕ) where
     told = told;
   }
 
-  -- the reply with room for m blocks is the call's, if that is all the room or it didn't end for want of room
-  pub whole-reply : 10 + 2 * rankMost ≤ r / 8 → (m all : ℕ) (x : CReply) → x ≡ cDescribeEnd l r (describe im path (4 * m)) → all ≡ roomOf (l / 8) →
-      m ≤ all → (x .number ≡ 13 → m ≡ all) → x ≡ cDescribe im path l r
+  -- the reply with room for m blocks is that with room for more, if it isn't for want of room
+  pub few-reply : (m all : ℕ) (x : CReply) → x ≡ cDescribeEnd l r (describe im path (4 * m)) → m ≤ all → 4 * all ≤ l / 8 → (x .number ≡ 13 → ⊥) →
+      x ≡ cDescribeEnd l r (describe im path (4 * all))
+  unfolding describe call
+  few-reply m all x is h k roomy = is ∙ as-good call m all h k (λ q. roomy (ap (λ (y : CReply). y .number) is ∙ q))
+
+  -- the reply with all the room is the call's
+  pub whole-reply : 10 + 2 * rankMost ≤ r / 8 → (all : ℕ) (x : CReply) → x ≡ cDescribeEnd l r (describe im path (4 * all)) → all ≡ roomOf (l / 8) →
+      x ≡ cDescribe im path l r
   unfolding cDescribe describe call
-  whole-reply long m all x is e h whole =
-      is ∙ enough call m all e h (λ q. whole (ap (λ (y : CReply). y .number) is ∙ q)) ∙ long-enough l r (10 + 2 * rankMost) _ long
+  whole-reply long all x is e = is ∙ all-room call all e ∙ long-enough l r (10 + 2 * rankMost) _ long

@@ -3,6 +3,7 @@ use describe::Description;
 use format::answers;
 use front::FEW_BLOCKS;
 use front::FEW_WORDS;
+use front::SMALL_IMAGE;
 use walk::blocks::WORK_WORDS;
 use walk::blocks::work_words;
 ghost use mathlib.Core.Path.{_≡_};
@@ -103,7 +104,7 @@ fn describe_all(image: &[u8], path: &[u8], blocks: &mut [u8], reply: &mut [u8], 
     describe_with(image, path, &mut list, blocks, reply, room)
 }
 
-// The description with room for so many blocks, in the smaller list that has it.
+// The description with room for so many blocks, in the smaller list that has it. A small image is first tried with room for few blocks.
 fn describe_in(image: &[u8], path: &[u8], blocks: &mut [u8], reply: &mut [u8], room: usize) -> u32
     requires { ⌜ room ≤ blocksMost ⌝ }
     requires { ⌜ 4 * room ≤ length (now blocks) / 8 ⌝ }
@@ -113,6 +114,12 @@ fn describe_in(image: &[u8], path: &[u8], blocks: &mut [u8], reply: &mut [u8], r
 {
     if room <= FEW_BLOCKS {
         return describe_few(image, path, blocks, reply, room);
+    }
+    if image.len() <= SMALL_IMAGE {
+        let number = describe_in(image, path, blocks, reply, front::few_room(image.len()));
+        if number != front::NO_ROOM {
+            return number;
+        }
     }
     describe_all(image, path, blocks, reply, room)
 }
@@ -128,10 +135,5 @@ pub fn describe_bytes(image: &[u8], path: &[u8], blocks: &mut [u8], reply: &mut 
         return front::NO_ROOM;
     }
     let room = walk::blocks::room(blocks.len() / 8);
-    let first = front::first_room(image.len(), room);
-    let number = describe_in(image, path, blocks, reply, first);
-    if front::decided(number, first, room) {
-        return number;
-    }
     describe_in(image, path, blocks, reply, room)
 }

@@ -18,7 +18,7 @@ use Rattle.lookup.specs.Lookup.{replyOf}
 use Rattle.lookup.specs.declared.lookup.Located.{Located}
 use Rattle.front.proofs.Ended.{refusal-words, too-short, long-enough}
 use Rattle.front.proofs.Follow.{path-room, path-fits}
-use Rattle.front.proofs.Call.{Call, enough}
+use Rattle.front.proofs.Call.{Call, as-good, all-room}
 
 -- "At lookup's end the list is all zeros"
 end-zeros : (lent : ℕ) (o : Outcome lookups.Located) → lookupEnd lent o .list ≡ replicate lent 0
@@ -69,8 +69,13 @@ module _ (im path : List ℕ) (l r : ℕ) where
     told = told;
   }
 
-  -- the reply with room for m blocks is the call's, if that is all the room or it didn't end for want of room
-  pub whole-reply : 3 ≤ r / 8 → (m all : ℕ) (x : CReply) → x ≡ cLookupEnd l r (lookup im path (4 * m)) → all ≡ roomOf (l / 8) →
-      m ≤ all → (x .number ≡ 13 → m ≡ all) → x ≡ cLookup im path l r
+  -- the reply with room for m blocks is that with room for more, if it isn't for want of room
+  pub few-reply : (m all : ℕ) (x : CReply) → x ≡ cLookupEnd l r (lookup im path (4 * m)) → m ≤ all → 4 * all ≤ l / 8 → (x .number ≡ 13 → ⊥) →
+      x ≡ cLookupEnd l r (lookup im path (4 * all))
+  unfolding lookup call
+  few-reply m all x is h k roomy = is ∙ as-good call m all h k (λ q. roomy (ap (λ (y : CReply). y .number) is ∙ q))
+
+  -- the reply with all the room is the call's
+  pub whole-reply : 3 ≤ r / 8 → (all : ℕ) (x : CReply) → x ≡ cLookupEnd l r (lookup im path (4 * all)) → all ≡ roomOf (l / 8) → x ≡ cLookup im path l r
   unfolding cLookup lookup call
-  whole-reply long m all x is e h whole = is ∙ enough call m all e h (λ q. whole (ap (λ (y : CReply). y .number) is ∙ q)) ∙ long-enough l r 3 _ long
+  whole-reply long all x is e = is ∙ all-room call all e ∙ long-enough l r 3 _ long

@@ -2,6 +2,7 @@
 use format::answers;
 use front::FEW_BLOCKS;
 use front::FEW_WORDS;
+use front::SMALL_IMAGE;
 use walk::blocks::WORK_WORDS;
 use walk::blocks::work_words;
 ghost use mathlib.Core.Path.{_≡_};
@@ -66,7 +67,16 @@ fn lookup_all(image: &[u8], path: &[u8], blocks: &mut [u8], reply: &mut [u8], ro
     lookup_with(image, path, &mut list, blocks, reply, room)
 }
 
-// The lookup with room for so many blocks, in the smaller list that has it.
+// Whether room for few blocks is tried first: for a small image, and for a path without a name, which reads one header, however long
+// the image is.
+fn few_first(image: usize, path: usize) -> bool {
+    if path < 2 {
+        return true;
+    }
+    image <= SMALL_IMAGE
+}
+
+// The lookup with room for so many blocks, in the smaller list that has it. Some are first tried with room for few blocks.
 fn lookup_in(image: &[u8], path: &[u8], blocks: &mut [u8], reply: &mut [u8], room: usize) -> u32
     requires { ⌜ room ≤ blocksMost ⌝ }
     requires { ⌜ 4 * room ≤ length (now blocks) / 8 ⌝ }
@@ -77,17 +87,13 @@ fn lookup_in(image: &[u8], path: &[u8], blocks: &mut [u8], reply: &mut [u8], roo
     if room <= FEW_BLOCKS {
         return lookup_few(image, path, blocks, reply, room);
     }
-    lookup_all(image, path, blocks, reply, room)
-}
-
-// The room that is tried first. A path without a name reads one header, however long the image is.
-fn first_room(image: usize, path: usize, room: usize) -> usize
-    ensures { λ r. ⌜ r ≤ room ⌝ }
-{
-    if path < 2 {
-        return front::first_room(0, room);
+    if few_first(image.len(), path.len()) {
+        let number = lookup_in(image, path, blocks, reply, front::few_room(image.len()));
+        if number != front::NO_ROOM {
+            return number;
+        }
     }
-    front::first_room(image, room)
+    lookup_all(image, path, blocks, reply, room)
 }
 
 // The lookup of a path. `blocks` is only lent, and is zeros at the end; `reply` gets the other fields; the number is returned.
@@ -100,10 +106,5 @@ pub fn lookup_bytes(image: &[u8], path: &[u8], blocks: &mut [u8], reply: &mut [u
         return front::NO_ROOM;
     }
     let room = walk::blocks::room(blocks.len() / 8);
-    let first = first_room(image.len(), path.len(), room);
-    let number = lookup_in(image, path, blocks, reply, first);
-    if front::decided(number, first, room) {
-        return number;
-    }
     lookup_in(image, path, blocks, reply, room)
 }

@@ -26,15 +26,14 @@ use Rattle.undo_log.proofs.LogLaws.{length-logWords}
 use Rattle.front.proofs.Lent.{room-lent, list-bytes, used-bytes}
 use Rattle.front.proofs.Ended.{refusal-words}
 use Rattle.front.proofs.AuditRoom.{run-room, run-fits}
-use Rattle.front.proofs.Call.{Call, enough}
+use Rattle.front.proofs.Call.{Call, as-good, all-room}
 
 -- the words of the log that are lent, of so many
 abbrev pub logRoom : ℕ → ℕ
 logRoom k = min k (2 * objectsMost)
 
 -- the local log has them
-pub log-most : 2 * objectsMost ≤ 512
-unfolding objectsMost
+pub log-most : 2 * objectsMost ≤ 2 * objectsMost
 log-most = omega arith
 
 pub log-words : (zs : List ℕ) (m k : ℕ) → m ≡ logRoom k → 2 * objectsMost ≤ length zs → length (take m zs) ≡ logRoom k
@@ -230,11 +229,16 @@ module _ (im : List ℕ) (l g r n : ℕ) where
     told = told;
   }
 
-  -- the reply with room for m blocks is the call's, if that is all the room or it didn't end for want of room
-  pub whole-reply : 3 ≤ r / 8 → (m all : ℕ) (x : CMend) → x ≡ cMendEnd l g r (mend im (4 * m) (g / 8) n) → all ≡ roomOf (l / 8) →
-      m ≤ all → (x .number ≡ 13 → m ≡ all) → x ≡ cMend im l g r n
+  -- the reply with room for m blocks is that with room for more, if it isn't for want of room
+  pub few-reply : (m all : ℕ) (x : CMend) → x ≡ cMendEnd l g r (mend im (4 * m) (g / 8) n) → m ≤ all → 4 * all ≤ l / 8 → (x .number ≡ 13 → ⊥) →
+      x ≡ cMendEnd l g r (mend im (4 * all) (g / 8) n)
+  unfolding mend audit call
+  few-reply m all x is h k roomy = is ∙ as-good call m all h k (λ q. roomy (ap (λ (y : CMend). y .number) is ∙ q))
+
+  -- the reply with all the room is the call's
+  pub whole-reply : 3 ≤ r / 8 → (all : ℕ) (x : CMend) → x ≡ cMendEnd l g r (mend im (4 * all) (g / 8) n) → all ≡ roomOf (l / 8) → x ≡ cMend im l g r n
   unfolding cMend mend audit call
-  whole-reply long m all x is e h whole = is ∙ enough call m all e h (λ q. whole (ap (λ (y : CMend). y .number) is ∙ q)) ∙ rw (le-leb 3 (r / 8) long)
+  whole-reply long all x is e = is ∙ all-room call all e ∙ rw (le-leb 3 (r / 8) long)
 
 -- slices that came back with the same lengths, and the image as it was
 pub same-slices : (im im′ : List ℕ) (l g r l′ g′ r′ lent n : ℕ) (x : CMend) → im′ ≡ im → l′ ≡ l → g′ ≡ g → r′ ≡ r →

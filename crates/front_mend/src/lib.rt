@@ -3,6 +3,7 @@ use format::OBJECTS_MOST;
 use format::answers;
 use front::FEW_BLOCKS;
 use front::FEW_WORDS;
+use front::SMALL_IMAGE;
 use walk::blocks::WORK_WORDS;
 use walk::blocks::work_words;
 ghost use mathlib.Core.Path.{_≡_};
@@ -122,7 +123,8 @@ fn mend_all(
     mend_with(image, &mut list, blocks, log, reply, limit, room)
 }
 
-// The mending with room for so many blocks, in the smaller list that has it.
+// The mending with room for so many blocks, in the smaller list that has it. A small image is first tried with room for few blocks;
+// a mending for which they aren't room leaves the image as it was.
 fn mend_in(
     image: &mut [u8],
     blocks: &mut [u8],
@@ -141,11 +143,18 @@ fn mend_in(
     if room <= FEW_BLOCKS {
         return mend_few(image, blocks, log, reply, limit, room);
     }
+    if image.len() <= SMALL_IMAGE {
+        let few = front::few_room(image.len());
+        let number = mend_in(image, blocks, log, reply, limit, few);
+        if number != front::NO_ROOM {
+            return number;
+        }
+    }
     mend_all(image, blocks, log, reply, limit, room)
 }
 
 // The mending of an image. `blocks` gets the block list, `log` the undo log, `reply` the other fields; the number is returned.
-// No more than `limit` counts are written. A mending for which few blocks aren't room leaves the image as it was.
+// No more than `limit` counts are written.
 pub fn mend_bytes(
     image: &mut [u8],
     blocks: &mut [u8],
@@ -163,10 +172,5 @@ pub fn mend_bytes(
         return front::NO_ROOM;
     }
     let room = walk::blocks::room(blocks.len() / 8);
-    let first = front::first_room(image.len(), room);
-    let number = mend_in(image, blocks, log, reply, limit, first);
-    if front::decided(number, first, room) {
-        return number;
-    }
     mend_in(image, blocks, log, reply, limit, room)
 }

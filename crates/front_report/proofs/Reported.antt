@@ -18,7 +18,7 @@ use Rattle.report.specs.Report.{fieldsOf, replyOf, ReportedIs}
 use Rattle.report.specs.declared.Reported.{Reported}
 use Rattle.front.proofs.Lent.{roomOf-room, room-lent, list-bytes, used-bytes}
 use Rattle.front.proofs.Ended.{too-short, long-enough}
-use Rattle.front.proofs.Call.{Call, enough}
+use Rattle.front.proofs.Call.{Call, as-good, all-room}
 use Rattle.front_report.specs.With.{wordsOf, Written, written}
 
 -- a reply has the blocks entered in its list, whatever its answer, and their words are lent
@@ -100,18 +100,29 @@ module _ (im : List ℕ) (l r : ℕ) where
     }
 
   -- an image that can't be opened has no blocks, so that no room matters
-  enough-room : (o : Opening) (m all : ℕ) → all ≡ roomOf (l / 8) → m ≤ all → (reportOpened im (4 * m) o .answer ≡ 13 → m ≡ all) →
-      written l r (reportOpened im (4 * m) o) ≡ written l r (reportOpened im (l / 8) o)
-  unfolding call
-  enough-room (opened s) m all e h whole = enough (call s) m all e h whole
-  enough-room (notOpened n) m all e h whole =
-      rw (list-bytes l (4 * m) [] (omega arith) (omega (arith, e, h, room-lent (l / 8))), list-bytes l (l / 8) [] (omega arith) (omega arith))
+  no-blocks : (lent more n : ℕ) → lent ≤ l / 8 → more ≤ l / 8 →
+      written l r (reportOpened im lent (notOpened n)) ≡ written l r (reportOpened im more (notOpened n))
+  no-blocks lent more n h k = rw (list-bytes l lent [] (omega arith) h, list-bytes l more [] (omega arith) k)
 
-  -- what is written with room for m blocks is the call's, if that is all the room or it didn't end for want of room
-  pub whole-reply : 8 ≤ r / 8 → (m all : ℕ) (x : Written) → x ≡ written l r (report im (4 * m)) → all ≡ roomOf (l / 8) → m ≤ all →
-      (x .answer ≡ 13 → m ≡ all) →
+  opened-few : (o : Opening) (m all : ℕ) → m ≤ all → 4 * all ≤ l / 8 → (reportOpened im (4 * m) o .answer ≡ 13 → ⊥) →
+      written l r (reportOpened im (4 * m) o) ≡ written l r (reportOpened im (4 * all) o)
+  unfolding call
+  opened-few (opened s) m all h k roomy = as-good (call s) m all h k roomy
+  opened-few (notOpened n) m all h k roomy = no-blocks (4 * m) (4 * all) n (omega arith) k
+
+  opened-all : (o : Opening) (all : ℕ) → all ≡ roomOf (l / 8) → written l r (reportOpened im (4 * all) o) ≡ written l r (reportOpened im (l / 8) o)
+  unfolding call
+  opened-all (opened s) all e = all-room (call s) all e
+  opened-all (notOpened n) all e = no-blocks (4 * all) (l / 8) n (omega (arith, e, room-lent (l / 8))) (omega arith)
+
+  -- what is written with room for m blocks is that with room for more, if the answer isn't for want of room
+  pub few-reply : (m all : ℕ) (x : Written) → x ≡ written l r (report im (4 * m)) → m ≤ all → 4 * all ≤ l / 8 → (x .answer ≡ 13 → ⊥) →
+      x ≡ written l r (report im (4 * all))
+  unfolding report
+  few-reply m all x is h k roomy = is ∙ opened-few (openImage im) m all h k (λ q. roomy (ap (λ (y : Written). y .answer) is ∙ q))
+
+  -- what is written with all the room is the call's
+  pub whole-reply : 8 ≤ r / 8 → (all : ℕ) (x : Written) → x ≡ written l r (report im (4 * all)) → all ≡ roomOf (l / 8) →
       _≡_ {A = CReply} (record { number = 0; list = x .list; reply = x .reply }) (cReport im l r)
   unfolding cReport report
-  whole-reply long m all x is e h whole =
-      let all-written = enough-room (openImage im) m all e h (λ q. whole (ap (λ (y : Written). y .answer) is ∙ q)) in
-      ap asReply (is ∙ all-written) ∙ long-enough l r 8 _ long
+  whole-reply long all x is e = ap asReply (is ∙ opened-all (openImage im) all e) ∙ long-enough l r 8 _ long

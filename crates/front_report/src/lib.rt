@@ -2,6 +2,7 @@
 use format::OBJECTS_MOST;
 use front::FEW_BLOCKS;
 use front::FEW_WORDS;
+use front::SMALL_IMAGE;
 use ledger::search::INDEX_WORDS;
 use ledger::search::TABLE_WORDS;
 use report::Reported;
@@ -100,7 +101,7 @@ fn report_all(image: &[u8], blocks: &mut [u8], reply: &mut [u8], room: usize) ->
     report_with(image, &mut list, &mut addresses, blocks, reply, room)
 }
 
-// The report with room for so many blocks, in the smaller list that has it.
+// The report with room for so many blocks, in the smaller list that has it. A small image is first tried with room for few blocks.
 fn report_in(image: &[u8], blocks: &mut [u8], reply: &mut [u8], room: usize) -> u32
     requires { ⌜ room ≤ blocksMost ⌝ }
     requires { ⌜ 4 * room ≤ length (now blocks) / 8 ⌝ }
@@ -110,6 +111,12 @@ fn report_in(image: &[u8], blocks: &mut [u8], reply: &mut [u8], room: usize) -> 
 {
     if room <= FEW_BLOCKS {
         return report_few(image, blocks, reply, room);
+    }
+    if image.len() <= SMALL_IMAGE {
+        let answer = report_in(image, blocks, reply, front::few_room(image.len()));
+        if answer != front::NO_ROOM {
+            return answer;
+        }
     }
     report_all(image, blocks, reply, room)
 }
@@ -125,11 +132,6 @@ pub fn report_bytes(image: &[u8], blocks: &mut [u8], reply: &mut [u8]) -> u32
         return front::NO_ROOM;
     }
     let room = walk::blocks::room(blocks.len() / 8);
-    let first = front::first_room(image.len(), room);
-    let answer = report_in(image, blocks, reply, first);
-    if front::decided(answer, first, room) {
-        return 0;
-    }
     report_in(image, blocks, reply, room);
     0
 }

@@ -53,12 +53,15 @@ contentsWalk leafK internalK tree o visit found = do
   s ← treeWalk (record { leafK = leafK; internalK = internalK; heap = heapWith (o .segment) free; visit = visit }) tree (record { last = []; found = found })
   ret (s .found)
 
--- how many cells the shorter maps have
+-- how many cells the maps have
 unfoldable pub fewCells : ℕ
 fewCells = 128
 
 unfoldable pub manyCells : ℕ
 manyCells = 8192
+
+unfoldable pub mostCells : ℕ
+mostCells = 65536
 
 -- what stands behind a heap was read as its walk reads it
 pub record ContentsAre (im wanted ws addresses counts : List ℕ) (eof room leafK internalK : ℕ) (auditing : Bool) (tree : ℕ) (heap : Heap)

@@ -41,7 +41,7 @@ pub fn read_with(
     requires { ⌜ Settings (now image) (reading .«end_of_file») (reading .room) (reading .«leaf_k») (reading .«internal_k») ⌝ }
     requires { ⌜ Ready (reading .auditing) (now list) (now addresses) (now counts) (reading .«end_of_file») (reading .room) count objects ⌝ }
     requires { ⌜ SegmentInside (now image) (reading .«end_of_file») heap ⌝ }
-    requires { ⌜ Sized (now map) (segmentOf (now image) heap) (heap .head) ⌝ }
+    requires { ⌜ Sized (now map) (segmentOf (now image) heap) ⌝ }
     ensures { λ r. ⌜ ContentsAre (now (image .entry)) (now (wanted .entry)) (now (list .entry)) (now (addresses .entry)) (now (counts .entry))
         (reading .«end_of_file») (reading .room) (reading .«leaf_k») (reading .«internal_k») (reading .auditing) tree heap count objects
         (now (list .exit)) (now (addresses .exit)) (now (counts .exit)) r ⌝ }

@@ -1,25 +1,24 @@
-// The map of a heap's free bytes in three sizes, each with a frame of its own: no file pays for a longer map than its heap needs.
+// The map of a heap's free bytes in three sizes: no file pays for a longer map than its heap needs. Without a free list, and for a segment that is
+// too long for a map, it has no cells.
 use crate::contents::Reading;
 use crate::contents::read_with;
-use format::IMAGE_MOST;
 use heap::header::Heap;
 use symbol::entry::Step;
 use walk::numbers::UNDEFINED_ADDRESS;
-ghost use mathlib.Core.Bool.{true, _||_};
+ghost use mathlib.Core.Bool.{_||_};
 ghost use mathlib.Core.Path.{_≡_};
 ghost use Prim.Native.Nat.{_+_, _/_, _≤_};
 ghost use lib.Dec.{eqb};
 ghost use Rattle.format.specs.Bytes.{undefinedAddress};
-ghost use Rattle.format.specs.Limits.{imageMost};
 ghost use Rattle.heap.specs.Header.{SegmentInside};
-ghost use Rattle.group.specs.Group.{Settings, Ready, ContentsAre, fewCells, manyCells};
+ghost use Rattle.group.specs.Group.{Settings, Ready, ContentsAre, fewCells, manyCells, mostCells};
 
-// So many cells of 16 bytes: for segments below 2 KiB, for those below 128 KiB, and for all.
+// So many cells of 16 bytes: for segments below 2 KiB, for those below 128 KiB, and for those below 1 MiB.
 const FEW_CELLS: usize = 128;
 
 const MANY_CELLS: usize = 8192;
 
-const ALL_CELLS: usize = IMAGE_MOST / 16 + 1;
+const MOST_CELLS: usize = 65536;
 
 // Whether there is no free list.
 fn no_list(head: u64) -> bool
@@ -31,7 +30,7 @@ fn no_list(head: u64) -> bool
     head == UNDEFINED_ADDRESS
 }
 
-// No free list: a map of no cells.
+// A map of no cells.
 fn read_plain(
     image: &[u8],
     wanted: &[u8],
@@ -47,7 +46,6 @@ fn read_plain(
     requires { ⌜ Settings (now image) (reading .«end_of_file») (reading .room) (reading .«leaf_k») (reading .«internal_k») ⌝ }
     requires { ⌜ Ready (reading .auditing) (now list) (now addresses) (now counts) (reading .«end_of_file») (reading .room) count objects ⌝ }
     requires { ⌜ SegmentInside (now image) (reading .«end_of_file») heap ⌝ }
-    requires { ⌜ (eqb (heap .head) 1 || eqb (heap .head) undefinedAddress) ≡ true ⌝ }
     ensures { λ r. ⌜ ContentsAre (now (image .entry)) (now (wanted .entry)) (now (list .entry)) (now (addresses .entry)) (now (counts .entry))
         (reading .«end_of_file») (reading .room) (reading .«leaf_k») (reading .«internal_k») (reading .auditing) tree heap count objects
         (now (list .exit)) (now (addresses .exit)) (now (counts .exit)) r ⌝ }
@@ -144,8 +142,8 @@ fn read_many(
     )
 }
 
-// A segment of any length.
-fn read_all(
+// One longer than that.
+fn read_most(
     image: &[u8],
     wanted: &[u8],
     list: &mut [u64],
@@ -160,12 +158,12 @@ fn read_all(
     requires { ⌜ Settings (now image) (reading .«end_of_file») (reading .room) (reading .«leaf_k») (reading .«internal_k») ⌝ }
     requires { ⌜ Ready (reading .auditing) (now list) (now addresses) (now counts) (reading .«end_of_file») (reading .room) count objects ⌝ }
     requires { ⌜ SegmentInside (now image) (reading .«end_of_file») heap ⌝ }
-    requires { ⌜ heap .size / 16 + 1 ≤ imageMost / 16 + 1 ⌝ }
+    requires { ⌜ heap .size / 16 + 1 ≤ mostCells ⌝ }
     ensures { λ r. ⌜ ContentsAre (now (image .entry)) (now (wanted .entry)) (now (list .entry)) (now (addresses .entry)) (now (counts .entry))
         (reading .«end_of_file») (reading .room) (reading .«leaf_k») (reading .«internal_k») (reading .auditing) tree heap count objects
         (now (list .exit)) (now (addresses .exit)) (now (counts .exit)) r ⌝ }
 {
-    let mut map = [0u8; ALL_CELLS];
+    let mut map = [0u8; MOST_CELLS];
     let cells = heap.size / 16 + 1;
     read_with(
         image,
@@ -182,7 +180,8 @@ fn read_all(
     )
 }
 
-// The contents of a group with an entered heap, with a map that is as long as the segment asks for.
+// The contents of a group with an entered heap, with a map that is as long as the segment asks for. A list is followed for each name in a segment that
+// is too long.
 pub fn read_in(
     image: &[u8],
     wanted: &[u8],
@@ -244,7 +243,21 @@ pub fn read_in(
             objects,
         );
     }
-    read_all(
+    if heap.size / 16 < MOST_CELLS {
+        return read_most(
+            image,
+            wanted,
+            list,
+            addresses,
+            counts,
+            reading,
+            tree,
+            heap,
+            count,
+            objects,
+        );
+    }
+    read_plain(
         image,
         wanted,
         list,

@@ -1,7 +1,7 @@
--- A name, by how many bytes it has and the map of the free bytes.
+-- A name, by how many bytes it has and the free blocks.
 use Prim.Native.Nat.{ℕ, _+_, _<_}
 use mathlib.Core.Bool.{true, false}
-use mathlib.Core.List.{List, [], _∷_}
+use mathlib.Core.List.{List, []}
 use mathlib.Core.Path.{_≡_, sym, _∙_}
 use native.Mathlib.Omega.{arith}
 use lib.ListN.{length, drop}
@@ -11,8 +11,6 @@ use Rattle.format.specs.Names.{badForm, inFreeBlock, text, fault, beforeNul, st
 use Rattle.heap.specs.Segment.{heapWith}
 use Rattle.nul.specs.Nul.{LastNul}
 use Rattle.nul.proofs.NulLaws.{ends}
-use Rattle.free_map.specs.FreeMap.{MapOf}
-use Rattle.free_map.proofs.RangeLaws.{no-map}
 use Rattle.names.specs.Sizes.{nameSize}
 use Rattle.names.proofs.NameLaws.{key-sound, name-bad, name-free, free-hit, free-missed, string-length}
 use Rattle.names.proofs.SizeLaws.{name-none, name-some}
@@ -52,7 +50,7 @@ module _ (seg : List ℕ) (ended off : ℕ) (bs : List Block) (l : LastNul seg e
     pub name-missed : overlapsAny bs off (n + 1) ≡ false → text (part seg off n) ≡ nameText (heapWith seg bs) off
     name-missed o = free-missed (heapWith seg bs) off (part seg off n) (rw sized o) ∙ name-free (heapWith seg bs) off read formed
 
-    -- a map of no cells
-    pub name-unmapped : (map : List ℕ) → length map ≡ 0 → MapOf map seg bs → text (part seg off n) ≡ nameText (heapWith seg bs) off
-    name-unmapped [] z m = name-missed (no-map off (n + 1) m (omega (arith, name-inside)) (omega arith))
-    name-unmapped (x ∷ map) z m = absurd (omega arith)
+    -- no free block
+    pub name-alone : bs ≡ [] → text (part seg off n) ≡ nameText (heapWith seg bs) off
+    unfolding overlapsAny
+    name-alone z = name-missed (rw z)

@@ -1,8 +1,8 @@
--- A link value, by the map of the free bytes.
+-- A link value, by the free blocks.
 use Prim.Native.Nat.{ℕ, _+_, _<_}
 use mathlib.Core.Bool.{true, false, not}
-use mathlib.Core.List.{List, [], _∷_}
-use mathlib.Core.Path.{_≡_, sym, _∙_}
+use mathlib.Core.List.{List, []}
+use mathlib.Core.Path.{_≡_, refl, sym, _∙_}
 use native.Mathlib.Omega.{arith}
 use borrow.Author.Tests.{lt-ltb, not-true, not-false}
 use lib.ListN.{length, drop}
@@ -11,10 +11,20 @@ use Rattle.format.specs.Names.{inFreeBlock, text, fault, beforeNul, stringAt, v
 use Rattle.heap.specs.Segment.{heapWith}
 use Rattle.nul.specs.Nul.{LastNul}
 use Rattle.nul.proofs.NulLaws.{ends}
-use Rattle.free_map.specs.FreeMap.{MapOf}
-use Rattle.free_map.proofs.RangeLaws.{no-map}
+use Rattle.free_list.specs.FreeBlocks.{chain}
 use Rattle.string_ends.specs.Ends.{endsOutside}
 use Rattle.names.proofs.NameLaws.{key-sound, value-free, free-hit, free-missed, string-length}
+
+-- where the string ends in the segment, the free bytes decide
+pub free-decides : (seg : List ℕ) (bs : List Block) (off n : ℕ) → off + beforeNul (drop off seg) < length seg → n ≡ beforeNul (drop off seg) + 1 →
+    not (overlapsAny bs off n) ≡ endsOutside seg bs off
+unfolding endsOutside
+free-decides seg bs off n h e = rw (e, lt-ltb (off + beforeNul (drop off seg)) (length seg) h)
+
+-- no blocks are followed
+pub none-followed : (seg : List ℕ) (head : ℕ) {free : ℕ} → free ≡ 0 → chain free seg head ≡ []
+unfolding chain
+none-followed seg head e = rw e
 
 -- the value at off, which ends in the segment
 module _ (seg : List ℕ) (ended off : ℕ) (bs : List Block) (l : LastNul seg ended) (h : off < ended) where
@@ -29,16 +39,13 @@ module _ (seg : List ℕ) (ended off : ℕ) (bs : List Block) (l : LastNul seg e
   missed : overlapsAny bs off (beforeNul (drop off seg) + 1) ≡ false → text (stringAt seg off) ≡ valueText (heapWith seg bs) off
   missed e = free-missed (heapWith seg bs) off (stringAt seg off) (rw sized e) ∙ value-free (heapWith seg bs) off (key-sound seg ended off bs l h)
 
-  -- a map of no cells
-  pub value-unmapped : (map : List ℕ) → length map ≡ 0 → MapOf map seg bs → text (stringAt seg off) ≡ valueText (heapWith seg bs) off
-  value-unmapped [] e m =
-      missed (no-map off (beforeNul (drop off seg) + 1) m (omega (arith, ends seg ended off l h)) (omega arith))
-  value-unmapped (x ∷ map) e m = absurd (omega arith)
+  -- no free block
+  pub value-alone : bs ≡ [] → text (stringAt seg off) ≡ valueText (heapWith seg bs) off
+  unfolding overlapsAny
+  value-alone z = missed (rw z)
 
-  -- the string ends in the segment, so that the free bytes decide
   decided : endsOutside seg bs off ≡ not (overlapsAny bs off (beforeNul (drop off seg) + 1))
-  unfolding endsOutside
-  decided = rw (lt-ltb (off + beforeNul (drop off seg)) (length seg) (ends seg ended off l h))
+  decided = sym (free-decides seg bs off _ (ends seg ended off l h) refl)
 
   pub value-sound : endsOutside seg bs off ≡ true → text (stringAt seg off) ≡ valueText (heapWith seg bs) off
   value-sound e = missed (not-true _ (sym decided ∙ e))

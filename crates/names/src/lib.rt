@@ -1,6 +1,7 @@
 // The strings of a heap's data segment: names, link values and keys. `ended` is how many bytes the segment has up to its last NUL: by it a string
 // ends in the segment or doesn't, and none is read only to know that.
-use free_map::meets;
+use free_list::search::meets_free;
+use free_list::search::overlaps_free;
 use nul::nul_within;
 use order::contains;
 use order::contains_8;
@@ -14,8 +15,8 @@ ghost use Rattle.format.specs.Blocks.{Block};
 ghost use Rattle.format.specs.Bytes.{part, contains};
 ghost use Rattle.format.specs.Names.{beforeNul, keyText, nameText, valueText};
 ghost use Rattle.nul.specs.Nul.{LastNul};
-ghost use Rattle.free_map.specs.FreeMap.{MapOf};
-ghost use Rattle.string_ends.specs.Ends.{Marked};
+ghost use Rattle.free_list.specs.FreeBlocks.{chain, Held};
+ghost use Rattle.string_ends.specs.Ends.{endsOutside, Marked};
 ghost use Rattle.heap.specs.Segment.{heapWith};
 ghost use Rattle.names.specs.Texts.{TextRead, CheckedAs};
 ghost use Rattle.names.specs.Sizes.{Plain, Slashless, nameSize};
@@ -151,11 +152,11 @@ fn name_size(segment: &[u8], off: usize) -> usize
     size_unless_dot(segment, off, n)
 }
 
-// A name of a group.
-pub fn name(segment: &[u8], map: &[u8], ended: usize, off: u64) -> Text
+// A name of a group. `head` is where the segment's free list begins, and `free` how many blocks it has.
+pub fn name(segment: &[u8], map: &[u8], head: u64, free: usize, ended: usize, off: u64) -> Text
     requires { ⌜ LastNul (now segment) ended ⌝ }
-    ensures { λ r. ⌜ ((bs : List Block) → MapOf (now (map .entry)) (now (segment .entry)) bs → TextRead (now (segment .entry)) off r
-        (nameText (heapWith (now (segment .entry)) bs) off)) ⌝ }
+    requires { ⌜ Held (now segment) (now map) head free ⌝ }
+    ensures { λ r. ⌜ TextRead (now (segment .entry)) off r (nameText (heapWith (now (segment .entry)) (chain free (now (segment .entry)) head)) off) ⌝ }
 {
     match key(segment, ended, off) {
         Checked::Fault(f) => Text::Fault(f),
@@ -165,10 +166,10 @@ pub fn name(segment: &[u8], map: &[u8], ended: usize, off: u64) -> Text
             if size == 0 {
                 return Text::Fault(NameFault::BadForm);
             }
-            if map.len() == 0 {
+            if free == 0 {
                 return Text::Sound(size);
             }
-            if meets(map, start, size + 1) {
+            if meets_free(segment, map, head, free, start, size + 1) {
                 return Text::Fault(NameFault::InFreeBlock);
             }
             Text::Sound(size)
@@ -176,19 +177,34 @@ pub fn name(segment: &[u8], map: &[u8], ended: usize, off: u64) -> Text
     }
 }
 
+// Whether the string at `off`, which ends in the segment, has no byte in a free block, its NUL included.
+fn outside_free(segment: &[u8], map: &[u8], head: u64, free: usize, off: usize) -> bool
+    requires { ⌜ off + beforeNul (drop off (now segment)) < length (now segment) ⌝ }
+    requires { ⌜ Held (now segment) (now map) head free ⌝ }
+    requires { ⌜ Marked (now map) (now segment) (chain free (now segment) head) ⌝ }
+    ensures { λ r. ⌜ r ≡ endsOutside (now (segment .entry)) (chain free (now (segment .entry)) head) off ⌝ }
+{
+    if map.len() != 0 {
+        return ends_outside(segment, map, off);
+    }
+    let end = nul_within(segment, off, segment.len() - off);
+    !overlaps_free(segment, head, free, off as u64, (end - off + 1) as u64)
+}
+
 // The value of a symbolic link.
-pub fn value(segment: &[u8], map: &[u8], ended: usize, off: u64) -> Checked
+pub fn value(segment: &[u8], map: &[u8], head: u64, free: usize, ended: usize, off: u64) -> Checked
     requires { ⌜ LastNul (now segment) ended ⌝ }
-    ensures { λ r. ⌜ ((bs : List Block) → MapOf (now (map .entry)) (now (segment .entry)) bs → Marked (now (map .entry)) (now (segment .entry)) bs →
-        CheckedAs r (valueText (heapWith (now (segment .entry)) bs) off)) ⌝ }
+    requires { ⌜ Held (now segment) (now map) head free ⌝ }
+    requires { ⌜ Marked (now map) (now segment) (chain free (now segment) head) ⌝ }
+    ensures { λ r. ⌜ CheckedAs r (valueText (heapWith (now (segment .entry)) (chain free (now (segment .entry)) head)) off) ⌝ }
 {
     match key(segment, ended, off) {
         Checked::Fault(f) => Checked::Fault(f),
         Checked::Sound => {
-            if map.len() == 0 {
+            if free == 0 {
                 return Checked::Sound;
             }
-            if ends_outside(segment, map, off as usize) {
+            if outside_free(segment, map, head, free, off as usize) {
                 return Checked::Sound;
             }
             Checked::Fault(NameFault::InFreeBlock)

@@ -15,7 +15,7 @@ firstLine answer objects = hex 8 answer ++ hex 8 objects ++ (0x0a ∷ [])
 abbrev pub objectLine : ℕ → ℕ → ℕ → List ℕ
 objectLine address stored links = objectLines (record { address = address; storedCount = stored; trueCount = links } ∷ [])
 
--- the most bytes that are printed: the first line, and 256 objects' lines
+-- the most bytes that are printed: the first line, and a line for each object
 unfoldable pub outputMost : ℕ
 outputMost = 17 + 33 * objectsMost
 

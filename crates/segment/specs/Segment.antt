@@ -5,16 +5,15 @@ use mathlib.Core.Path.{_≡_}
 use Rattle.format.specs.Blocks.{Block}
 use Rattle.format.specs.Result.{Result, value, answer}
 use Rattle.format.specs.FreeList.{freeList}
-use Rattle.free_map.specs.FreeMap.{MapOf}
-use Rattle.free_list.specs.FreeBlocks.{chain}
+use Rattle.free_list.specs.FreeBlocks.{chain, Held}
 use Rattle.string_ends.specs.Ends.{Marked}
 use Rattle.nul.specs.Nul.{LastNul}
 use Rattle.segment.specs.declared.SegmentRead.{SegmentRead}
 use Rattle.segment.specs.declared.SegmentRead.the-variants.{Sound, Unsound}
 
--- the map has the bytes of so many free blocks, its cells are marked, and the last NUL is the last of so many bytes
+-- so many free blocks are held, the cells of the map are marked, and the last NUL is the last of so many bytes
 pub record Known (seg map : List ℕ) (head free ended : ℕ) : Type 0 where
-  pub mapped : MapOf map seg (chain free seg head)
+  pub held : Held seg map head free
   pub marked : Marked map seg (chain free seg head)
   pub last : LastNul seg ended
 

@@ -29,9 +29,9 @@ fn mark(segment: &[u8], map: &mut [u8])
     string_ends::mark(segment, map);
 }
 
-// Follows the free list from `head` on. The map is lent for the free bytes: of no cells where there is no list.
+// Follows the free list from `head` on. The map is lent for the free bytes: of no cells where there is no list, or where the segment is too long for a map.
 pub fn read(segment: &[u8], map: &mut [u8], head: u64) -> SegmentRead
-    requires { ⌜ Sized (now map) (now segment) head ⌝ }
+    requires { ⌜ Sized (now map) (now segment) ⌝ }
     ensures { λ r. ⌜ SegmentIs (now (segment .entry)) (now (map .exit)) head r ⌝ }
 {
     match free_list(segment, map, head) {

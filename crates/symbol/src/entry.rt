@@ -12,11 +12,8 @@ use walk::numbers::u32_at;
 use walk::numbers::u64_at;
 ghost use Prim.Native.Nat.{_+_, _*_, _^_, _≤_, _<_};
 ghost use lib.ListN.{length};
-ghost use mathlib.Core.List.{List};
-ghost use Rattle.format.specs.Blocks.{Block};
-ghost use Rattle.nul.specs.Nul.{LastNul};
-ghost use Rattle.free_map.specs.FreeMap.{MapOf};
-ghost use Rattle.string_ends.specs.Ends.{Marked};
+ghost use Rattle.free_list.specs.FreeBlocks.{chain};
+ghost use Rattle.segment.specs.Segment.{Known};
 ghost use Rattle.ledger.specs.Links.{linkSum};
 ghost use Rattle.ledger.specs.Table.{linkedOf};
 ghost use Rattle.range.specs.Range.{nameIn, Floor};
@@ -58,19 +55,19 @@ fn check_value(
     image: &[u8],
     segment: &[u8],
     map: &[u8],
-    ended: usize,
+    group: Group,
     kind: u64,
     at: usize,
 ) -> Value
     requires { ⌜ at + 40 ≤ length (now image) ⌝ }
-    requires { ⌜ LastNul (now segment) ended ⌝ }
-    ensures { λ r. ⌜ ((bs : List Block) → MapOf (now (map .entry)) (now (segment .entry)) bs → Marked (now (map .entry)) (now (segment .entry)) bs →
-        ValueIs (now (image .entry)) (now (segment .entry)) bs kind at r) ⌝ }
+    requires { ⌜ Known (now segment) (now map) (group .head) (group .free) (group .ended) ⌝ }
+    ensures { λ r. ⌜ ValueIs (now (image .entry)) (now (segment .entry)) (chain (group .free) (now (segment .entry)) (group .head)) kind at r ⌝ }
 {
     if kind != 2 {
         return Value::Sound;
     }
-    match names::value(segment, map, ended, u32_at(image, at + 24)) {
+    let off = u32_at(image, at + 24);
+    match names::value(segment, map, group.head, group.free, group.ended, off) {
         Checked::Fault(f) => Value::Unsound(fault_number(f)),
         Checked::Sound => Value::Sound,
     }
@@ -110,7 +107,7 @@ fn named_entry(
     if 2 < kind {
         return Step::Stopped(Refusal::Fault(answers::NODE_UNSOUND, at));
     }
-    match check_value(image, segment, map, group.ended, kind, at) {
+    match check_value(image, segment, map, group, kind, at) {
         Value::Unsound(n) => Step::Stopped(Refusal::Fault(n, at)),
         Value::Sound => {
             let from = name.at;
@@ -164,7 +161,7 @@ fn one_entry(
         at state (now (addresses .exit)) (now (counts .exit)) r ⌝ }
 {
     let off = u64_at(image, at);
-    match names::name(segment, map, group.ended, off) {
+    match names::name(segment, map, group.head, group.free, group.ended, off) {
         Text::Fault(f) => Step::Stopped(Refusal::Fault(fault_number(f), at)),
         Text::Sound(n) => {
             let name = Name {

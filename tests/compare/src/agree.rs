@@ -1,5 +1,6 @@
 //! The proved library against the separate reader on one image: the number and every byte lent.
 
+use crate::generate::corpus::{full_room, SMALL_ROOMS};
 use crate::library;
 use crate::plain::{self, Meeting, Meetings};
 use crate::reader::front::{audit_bytes, describe_bytes, lookup_bytes};
@@ -113,9 +114,10 @@ impl Pair {
         number
     }
 
-    /// Both audits of an image with room for all blocks.
+    /// Both audits of an image with room for all its blocks.
     pub fn audit(&mut self, name: &str, image: &[u8]) -> AuditReply {
-        let number = self.agree(name, image, BLOCK_BYTES * MOST_BLOCKS, 8 * REPLY_WORDS);
+        let blocks = BLOCK_BYTES * full_room(image);
+        let number = self.agree(name, image, blocks, 8 * REPLY_WORDS);
         let first = self.library.word(0);
         AuditReply {
             number,
@@ -311,9 +313,22 @@ impl Pair {
     }
 }
 
-/// Room for 0 to 12 blocks and for 1,024, with 0 to 31 bytes more.
-pub fn lent_bytes(turn: usize) -> impl Iterator<Item = usize> {
-    (0..=12)
-        .chain([MOST_BLOCKS])
+/// One turn in so many has room for the most blocks.
+const TURNS: usize = 16;
+
+/// The small rooms and one for all blocks of an image, now and then for the most, with 0 to 31 bytes more.
+pub fn lent_bytes(image: &[u8], turn: usize) -> impl Iterator<Item = usize> {
+    let all = if turn.is_multiple_of(TURNS) {
+        MOST_BLOCKS
+    } else {
+        full_room(image)
+    };
+    SMALL_ROOMS
+        .chain([all])
         .map(move |room| BLOCK_BYTES * room + (turn + room) % BLOCK_BYTES)
+}
+
+/// The number of a room among those of `lent_bytes`: the small ones have their own, and all others are the last.
+pub fn room_number(blocks: usize) -> usize {
+    (blocks / BLOCK_BYTES).min(SMALL_ROOMS.end() + 1)
 }

@@ -10,10 +10,13 @@ use compare::generate::sheet::value;
 use compare::generate::special::{link, root};
 use compare::generate::write::{write, File};
 use compare::generate::UNDEFINED;
-use compare::reader::{audit, describe, lookup, mend};
+use compare::reader::{audit, describe, lookup, mend, BLOCK_WORDS, MOST_BLOCKS, MOST_OBJECTS};
 
-/// Room for every block that a walk may enter.
-const FULL: usize = 4096;
+/// The words of a list for every block that a walk may enter.
+const FULL: usize = BLOCK_WORDS * MOST_BLOCKS;
+
+/// The words of a log for every object that an audit may find.
+const LOG: usize = 2 * MOST_OBJECTS;
 
 /// The committed datatype's number in every plan.
 const COMMITTED: usize = 3;
@@ -195,7 +198,7 @@ fn a_lowered_count_loses_the_datatype() {
 fn mended_files_lose_nothing() {
     nothing_is_lost(|image| {
         let mut mended = image.to_vec();
-        assert_eq!(mend(&mut mended, FULL, 512, u64::MAX).number, 0);
+        assert_eq!(mend(&mut mended, FULL, LOG, u64::MAX).number, 0);
         mended
     });
 }
@@ -207,7 +210,7 @@ fn files_mended_by_the_proved_library_lose_nothing() {
     use compare::reader::front::MEND_WORDS;
     let mut pair = Pair::default();
     nothing_is_lost(|image| {
-        let lent = (8 * FULL, 8 * 512, 8 * MEND_WORDS);
+        let lent = (8 * FULL, 8 * LOG, 8 * MEND_WORDS);
         assert_eq!(pair.mends_agree("accident", image, lent, u64::MAX), 0);
         pair.left().image.clone()
     });

@@ -9,6 +9,9 @@ use compare::reader::{audit, AuditReply, BLOCK_WORDS, MOST_BLOCKS};
 const MOST: u64 = 300;
 const FILES: u64 = 2_000;
 
+/// More than any of the files with gaps has.
+const ROOM: usize = 512;
+
 fn reply(image: &[u8], blocks: usize) -> AuditReply {
     audit(image, BLOCK_WORDS * blocks)
 }
@@ -68,10 +71,10 @@ fn one_block_more_meets_others_or_none() {
     for seed in 0..FILES {
         let name = format!("file {seed}");
         let image = file(&scattered(seed, MOST).0).bytes;
-        let before = reply(&image, MOST_BLOCKS);
+        let before = reply(&image, ROOM);
         assert_eq!(before.number, 0, "{name}");
         let image = one_more(seed, MOST).bytes;
-        let after = reply(&image, MOST_BLOCKS);
+        let after = reply(&image, ROOM);
         meetings.check(&name, (after.number, after.met), || {
             compare::plain::audit(&image)
         });
@@ -89,7 +92,7 @@ fn data_at_any_byte_meets_others_or_none() {
     for seed in 0..FILES {
         let name = format!("data {seed}");
         let image = data_blocks(seed);
-        let reply = reply(&image, MOST_BLOCKS);
+        let reply = reply(&image, ROOM);
         let plain = compare::plain::audit(&image);
         assert_eq!(reply.number, if plain.is_ok() { 0 } else { 6 }, "{name}");
         meetings.check(&name, (reply.number, reply.met), || plain);
@@ -115,9 +118,10 @@ mod proved {
     fn the_library_agrees_in_every_order() {
         let mut pair = Pair::default();
         for (name, order) in ORDERS {
-            for blocks in (OTHERS + 1..140).chain([500, 1023, MOST_BLOCKS, MOST_BLOCKS + 1]) {
+            let large = [500, 4096, MOST_BLOCKS - 1, MOST_BLOCKS, MOST_BLOCKS + 1];
+            for blocks in (OTHERS + 1..140).chain(large) {
                 let image = touching(order, blocks).bytes;
-                for room in [blocks - 1, blocks, MOST_BLOCKS] {
+                for room in [blocks - 1, blocks, blocks.max(ROOM)] {
                     let number = calls_agree(&mut pair, name, &image, room.min(MOST_BLOCKS));
                     let fits = blocks <= room.min(MOST_BLOCKS);
                     assert_eq!(number, if fits { 0 } else { 13 }, "{name}, {blocks} blocks");
@@ -132,7 +136,7 @@ mod proved {
         let mut sound = 0;
         for seed in 0..FILES {
             let name = format!("data {seed}");
-            let number = calls_agree(&mut pair, &name, &data_blocks(seed), MOST_BLOCKS);
+            let number = calls_agree(&mut pair, &name, &data_blocks(seed), ROOM);
             sound += u64::from(number == 0);
         }
         assert!(sound >= FILES / 2, "{sound}");
@@ -146,7 +150,7 @@ mod proved {
         for seed in 0..FILES {
             let name = format!("file {seed}");
             let image = one_more(seed, MOST).bytes;
-            calls_agree(&mut pair, &name, &image, MOST_BLOCKS);
+            calls_agree(&mut pair, &name, &image, ROOM);
         }
         let meetings = pair.meetings(Call::Audit);
         meetings.are_at_least("the library", [1000, 300, 500, 300]);

@@ -1,6 +1,7 @@
 //! A program in C that includes the header, calls every function, and holds the header's constants against the library.
 
 use compare::generate::{limits, small};
+use compare::reader::MOST_OBJECTS;
 use std::fs;
 use std::path::Path;
 use std::process::{Command, Output};
@@ -34,8 +35,9 @@ fn a_program_in_c_calls_every_function() {
     let files = [
         ("small.h5", small::e().bytes),
         ("wrong.h5", small::h_with(&links, 1, 1).bytes),
+        ("small_deep.h5", limits::small_deep()),
         ("full.h5", limits::everything()),
-        ("crowded.h5", small::objects(257).bytes),
+        ("crowded.h5", small::objects(MOST_OBJECTS as u64 + 1).bytes),
         ("deep.h5", limits::deep()),
     ];
     for (name, image) in &files {

@@ -1,14 +1,15 @@
 //! The proved library against the separate reader: the number and every byte lent.
 
-use compare::agree::{lent_bytes, Call, Pair};
-use compare::generate::corpus::{cases, each};
+use compare::agree::{lent_bytes, room_number, Call, Pair};
+use compare::generate::corpus::{cases, each, full_room};
 use compare::generate::{limits, sharing, small, special};
 use compare::reader::front::{BLOCK_BYTES, REPLY_WORDS};
+use compare::reader::{MOST_BLOCKS, MOST_BYTES};
 use std::collections::hash_map::DefaultHasher;
 use std::collections::{BTreeMap, HashSet};
 use std::hash::{Hash, Hasher};
 
-/// How often each answer was given, by room.
+/// How often each answer was given, by the number of the room.
 type Reached = BTreeMap<usize, [u64; 14]>;
 
 #[test]
@@ -21,9 +22,9 @@ fn audits_agree() {
     each(wanted, |case| {
         let name = format!("{}, copy {}", case.file, case.copy);
         let reply = 8 * REPLY_WORDS + images % 17;
-        for blocks in lent_bytes(images) {
+        for blocks in lent_bytes(case.image, images) {
             let number = pair.agree(&name, case.image, blocks, reply);
-            reached.entry(blocks / BLOCK_BYTES).or_default()[number as usize] += 1;
+            reached.entry(room_number(blocks)).or_default()[number as usize] += 1;
         }
         different.insert(sum(case.image));
         images += 1;
@@ -54,10 +55,10 @@ fn print(images: usize, different: usize, reached: &Reached) {
     }
 }
 
-/// Every image at every room from 0 to 12 and at 1,024, and each answer at one of them.
+/// Every image at every small room and with room enough, and each answer at one of them.
 fn rooms_and_answers_are_complete(images: u64, reached: &Reached) {
     let rooms: Vec<usize> = reached.keys().copied().collect();
-    assert_eq!(rooms, (0..=12).chain([1024]).collect::<Vec<usize>>());
+    assert_eq!(rooms, Vec::from_iter(0..=13));
     for (room, times) in reached {
         assert_eq!(times.iter().sum::<u64>(), images, "room {room}");
     }
@@ -71,20 +72,32 @@ fn rooms_and_answers_are_complete(images: u64, reached: &Reached) {
 fn audits_agree_at_the_limits() {
     let mut pair = Pair::default();
     for (name, image) in limits::all() {
-        for room in [0, 1, 500, 1022, 1023, 1024, 1025, 3000] {
+        for room in [
+            0,
+            1,
+            MOST_BLOCKS / 2,
+            MOST_BLOCKS - 1,
+            MOST_BLOCKS,
+            MOST_BLOCKS + 1,
+        ] {
             let blocks = BLOCK_BYTES * room + room % BLOCK_BYTES;
             let number = pair.agree(name, &image, blocks, 8 * REPLY_WORDS);
-            assert_eq!(number, if room < 1024 { 13 } else { 0 }, "{name}");
+            assert_eq!(number, if room < MOST_BLOCKS { 13 } else { 0 }, "{name}");
         }
         let mut short = image;
-        short.truncate(1_048_575);
-        pair.agree(name, &short, BLOCK_BYTES * 1024, 8 * REPLY_WORDS);
+        short.truncate(MOST_BYTES - 1);
+        pair.agree(name, &short, BLOCK_BYTES * MOST_BLOCKS, 8 * REPLY_WORDS);
     }
     for special in special::all() {
-        for room in [1023, 1024, 1025, 1100] {
+        for room in [
+            MOST_BLOCKS - 1,
+            MOST_BLOCKS,
+            MOST_BLOCKS + 1,
+            MOST_BLOCKS + 100,
+        ] {
             let (name, image) = (&special.name, &special.sheet.bytes);
             let number = pair.agree(name, image, BLOCK_BYTES * room, 8 * REPLY_WORDS);
-            assert!(room < 1024 || number == special.number, "{name}");
+            assert!(room < MOST_BLOCKS || number == special.number, "{name}");
         }
     }
 }
@@ -96,10 +109,10 @@ fn sharings_agree() {
     let mut reached = [0; 14];
     for (turn, file) in sharing::all().iter().enumerate() {
         let image = &file.sheet.bytes;
-        for blocks in lent_bytes(turn) {
+        for blocks in lent_bytes(image, turn) {
             let number = pair.agree(&file.name, image, blocks, 8 * REPLY_WORDS);
             reached[number as usize] += 1;
-            let full = blocks >= BLOCK_BYTES * 1024;
+            let full = blocks >= BLOCK_BYTES * full_room(image);
             assert!(!full || number == file.number, "{}: {number}", file.name);
         }
     }
@@ -115,9 +128,10 @@ fn short_replies_give_13_first() {
     let sound = small::h().bytes;
     let meeting = small::h().with("heap segment", 0, 130).bytes;
     let too_short = vec![0; 95];
-    for reply in [0, 1, 7, 8, 24, 769 * 8, 770 * 8 - 1, 770 * 8, 770 * 8 + 9] {
+    const LEAST: usize = 8 * REPLY_WORDS;
+    for reply in [0, 1, 7, 8, 24, LEAST - 8, LEAST - 1, LEAST, LEAST + 9] {
         for blocks in [0, 5, BLOCK_BYTES * 8, BLOCK_BYTES * 8 + 3] {
-            let enough = reply >= 770 * 8;
+            let enough = reply >= LEAST;
             let number = pair.agree("H", &sound, blocks, reply);
             assert_eq!(number == 0, enough && blocks >= BLOCK_BYTES * 8);
             let number = pair.agree("H, segment at 130", &meeting, blocks, reply);
@@ -127,5 +141,5 @@ fn short_replies_give_13_first() {
             assert_eq!(number, if enough { 1 } else { 13 });
         }
     }
-    pair.agree("no image", &[], 160, 770 * 8);
+    pair.agree("no image", &[], 160, LEAST);
 }

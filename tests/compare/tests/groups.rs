@@ -12,9 +12,10 @@ use compare::generate::superblock::Superblock;
 use compare::generate::write::write;
 use compare::generate::UNDEFINED;
 use compare::reader::front::{BLOCK_BYTES, REPLY_WORDS};
+use compare::reader::{MOST_BLOCKS, MOST_BYTES, MOST_OBJECTS};
 
 /// Room for every block that an audit may enter.
-const FULL: usize = 1024;
+const FULL: usize = MOST_BLOCKS;
 
 struct Case {
     name: String,
@@ -198,50 +199,50 @@ fn empty_nodes() -> Vec<Case> {
     all
 }
 
-/// The longest nodes that an image can hold, and longer ones.
+/// The longest nodes that there can be, as many as an image can hold, and one more.
 fn large_ks() -> Vec<Case> {
-    let cut = |leaf_k, internal_k| {
-        let mut sheet = chain(leaf_k, internal_k, &[0]);
-        sheet.bytes.truncate(1_048_576);
-        sheet.with("superblock end of file", 0, 1_048_576)
-    };
-    let leaf = chain(13_104, 1, &[0]);
-    assert_eq!(leaf.bytes.len(), 1_048_576);
-    let internal = chain(1, 30_000, &[0]);
+    const TOP: u64 = 65_535;
+    let many = |nodes: u8| chain(TOP, TOP, &falling_from(nodes - 1));
+    let mut too_many = many(6);
+    assert!(too_many.bytes.len() > MOST_BYTES);
+    too_many.bytes.truncate(MOST_BYTES);
+    let too_many = too_many.with("superblock end of file", 0, MOST_BYTES as u64);
+    // With these a node's count can be above twice the K.
+    let (leaf, internal) = (chain(32_767, 1, &[0]), chain(1, 32_767, &[0]));
+    let end = leaf.bytes.len() as u64;
     let mut all = vec![
         case("both K 1", chain(1, 1, &[0]), 0),
-        case("leaf K 13,104", leaf.clone(), 0),
-        case("leaf K 13,105", cut(13_105, 1), 5),
-        case("internal K 30,000", internal.clone(), 0),
-        case("internal K 32,758", chain(1, 32_758, &[0]), 0),
-        case("internal K 32,759", cut(1, 32_759), 5),
+        case("both K 65,535", many(5), 0),
+        case("both K 65,535, a node more", too_many, 5),
+        case("leaf K 32,767", leaf.clone(), 0),
+        case("internal K 32,767", internal.clone(), 0),
     ];
     all.extend(changes(
         "both K 1",
         &chain(1, 1, &[0]),
         &[
-            ("superblock leaf K", 0, 65_535, 5),
-            ("superblock internal K", 0, 65_535, 5),
+            ("superblock leaf K", 0, TOP, 5),
+            ("superblock internal K", 0, TOP, 5),
             ("superblock leaf K", 0, 2, 5),
         ],
     ));
     all.extend(changes(
-        "leaf K 13,104",
+        "leaf K 32,767",
         &leaf,
         &[
-            ("superblock end of file", 0, 1_048_575, 5),
+            ("superblock end of file", 0, end - 1, 5),
             // The second entry has the empty name.
-            ("symbols count", 0, 2 * 13_104, 9),
-            ("symbols count", 0, 2 * 13_104 + 1, 8),
+            ("symbols count", 0, 65_534, 9),
+            ("symbols count", 0, 65_535, 8),
         ],
     ));
     all.extend(changes(
-        "internal K 30,000",
+        "internal K 32,767",
         &internal,
         &[
             // The second child is at 0, where the superblock is.
-            ("tree entries", 0, 60_000, 6),
-            ("tree entries", 0, 60_001, 8),
+            ("tree entries", 0, 65_534, 6),
+            ("tree entries", 0, 65_535, 8),
         ],
     ));
     all
@@ -662,20 +663,22 @@ fn outside() -> Vec<Case> {
 }
 
 fn objects() -> Vec<Case> {
-    let many = small::objects(257);
+    let most = MOST_OBJECTS as u64;
+    let many = small::objects(most + 1);
     let mut all = vec![
-        case("256 objects", small::objects(256), 0),
-        case("257 objects", many.clone(), 12),
+        case("most objects", small::objects(most), 0),
+        case("one object more", many.clone(), 12),
     ];
+    let last = MOST_OBJECTS - 1;
     all.extend(changes(
-        "257 objects",
+        "one object more",
         &many,
         &[
-            ("entry address", 255, ROOT, 0),
-            ("entry type", 255, 2, 0),
-            ("entry type", 255, 3, 8),
-            ("entry name", 255, 0, 9),
-            ("entry address", 255, UNDEFINED, 12),
+            ("entry address", last, ROOT, 0),
+            ("entry type", last, 2, 0),
+            ("entry type", last, 3, 8),
+            ("entry name", last, 0, 9),
+            ("entry address", last, UNDEFINED, 12),
             // No other header is read before the root's group is at its end.
             ("header version", 0, 2, 12),
         ],
@@ -752,7 +755,7 @@ fn named_groups_have_their_answers() {
     let cases = all();
     for (turn, case) in cases.iter().enumerate() {
         let (name, image) = (&case.name, &case.sheet.bytes);
-        for lent in lent_bytes(turn) {
+        for lent in lent_bytes(image, turn) {
             pair.agree(name, image, lent, 8 * REPLY_WORDS);
         }
         let number = pair.agree(name, image, BLOCK_BYTES * case.room, 8 * REPLY_WORDS);

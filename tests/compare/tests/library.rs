@@ -4,12 +4,16 @@
 
 use compare::owners::{check_described, check_owners};
 use compare::reader::{audit, describe, lookup, mend, AuditReply, Description, Object};
+use compare::reader::{BLOCK_WORDS, MOST_BLOCKS, MOST_OBJECTS};
 use std::collections::{BTreeSet, HashMap};
 use std::fs;
 use std::path::{Path, PathBuf};
 
-/// Room for every block that an audit may enter.
-const WORDS: usize = 4096;
+/// The words of a list for every block that an audit may enter.
+const WORDS: usize = BLOCK_WORDS * MOST_BLOCKS;
+
+/// The words of a log for every object that it may find.
+const LOG: usize = 2 * MOST_OBJECTS;
 
 /// The lines of one file, each split into its word and its fields.
 struct Recorded {
@@ -270,7 +274,7 @@ fn sharings_of(file: &Recorded) -> Vec<u64> {
 fn mending_restores_the_library_s_counts() {
     every_count_is_restored(|_, image| {
         let mut mended = image.to_vec();
-        assert_eq!(mend(&mut mended, WORDS, 512, u64::MAX).number, 0);
+        assert_eq!(mend(&mut mended, WORDS, LOG, u64::MAX).number, 0);
         mended
     });
 }
@@ -605,7 +609,7 @@ mod proved {
     fn proved_mending_restores_the_library_s_counts() {
         let mut pair = Pair::default();
         every_count_is_restored(|name, image| {
-            let lent = (8 * WORDS, 8 * 512, 8 * MEND_WORDS);
+            let lent = (8 * WORDS, 8 * LOG, 8 * MEND_WORDS);
             assert_eq!(pair.mends_agree(name, image, lent, u64::MAX), 0, "{name}");
             pair.left().image.clone()
         });
@@ -620,7 +624,7 @@ mod proved {
             let recorded = numbers_of(file.one("answer"));
             let (answer, blocks) = (recorded[0], recorded[2] as usize);
             let around = [blocks.saturating_sub(1), blocks].map(|room| BLOCK_BYTES * room);
-            for lent in lent_bytes(turn).chain(around) {
+            for lent in lent_bytes(&image, turn).chain(around) {
                 let number = pair.agree(&file.name, &image, lent, 8 * REPLY_WORDS + turn);
                 let passed = answer == 0 && lent / BLOCK_BYTES >= blocks;
                 assert_eq!(number == 0, passed, "{}, {lent} bytes", file.name);
@@ -675,7 +679,7 @@ mod proved {
             let image = file.image();
             for (name, _) in names_of(file).into_iter().take(40) {
                 let path = path(name);
-                for lent in lent_bytes(turn) {
+                for lent in lent_bytes(&image, turn) {
                     let more = turn % 17;
                     let reply = 8 * LOOKUP_WORDS + more;
                     pair.lookups_agree(&file.name, &image, &path, lent, reply);

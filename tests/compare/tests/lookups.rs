@@ -1,18 +1,21 @@
 //! Lookups and descriptions of the proved library against the separate reader: the number and every byte lent.
 
-use compare::agree::{lent_bytes, Call, Pair};
-use compare::generate::corpus::{cases, each};
+use compare::agree::{lent_bytes, room_number, Call, Pair};
+use compare::generate::corpus::{cases, each, full_room};
 use compare::generate::paths::{self, malformed, well_formed};
 use compare::generate::random::Random;
 use compare::generate::write::write;
 use compare::generate::{asked, files, limits, small, special};
-use compare::reader::front::{BLOCK_BYTES, DESCRIBE_WORDS, LOOKUP_WORDS};
+use compare::reader::front::{BLOCK_BYTES, DESCRIBE_WORDS, LOOKUP_WORDS, REPLY_WORDS};
+use compare::reader::MOST_BLOCKS;
 use std::collections::hash_map::DefaultHasher;
 use std::collections::{BTreeMap, HashSet};
 use std::hash::{Hash, Hasher};
 
-/// Room for every block that a walk may enter.
-const FULL: usize = BLOCK_BYTES * 1024;
+/// The bytes of a list for every block of an image.
+fn full(image: &[u8]) -> usize {
+    BLOCK_BYTES * full_room(image)
+}
 
 /// How often each answer was given.
 type Times = [u64; 21];
@@ -21,7 +24,7 @@ type Times = [u64; 21];
 struct Comparison {
     pair: Pair,
     turn: usize,
-    /// Lookups and descriptions by room.
+    /// Lookups and descriptions by the number of the room.
     reached: BTreeMap<usize, [Times; 2]>,
 }
 
@@ -47,15 +50,15 @@ impl Comparison {
             .descriptions_agree(name, image, path, blocks, reply);
         let left = self.pair.left();
         assert!(described == 0 || left.is_refused(described), "{name}");
-        let times = self.reached.entry(blocks / BLOCK_BYTES).or_default();
+        let times = self.reached.entry(room_number(blocks)).or_default();
         times[0][found as usize] += 1;
         times[1][described as usize] += 1;
         ((found, kind as u32, address), described)
     }
 
-    /// The same at every room from 0 to 12 and at 1,024.
+    /// The same at every small room and with room enough.
     fn ask_at_all_rooms(&mut self, name: &str, image: &[u8], path: &[u8]) {
-        for blocks in lent_bytes(self.turn) {
+        for blocks in lent_bytes(image, self.turn) {
             self.ask(name, image, path, blocks);
         }
     }
@@ -94,7 +97,7 @@ impl Comparison {
 
     fn every_room_is_lent(&self) {
         let rooms: Vec<usize> = self.reached.keys().copied().collect();
-        assert_eq!(rooms, (0..=12).chain([1024]).collect::<Vec<usize>>());
+        assert_eq!(rooms, Vec::from_iter(0..=13));
     }
 }
 
@@ -119,7 +122,7 @@ fn planned_paths_are_answered() {
             .into_iter()
             .flat_map(|path| paths::beside(&path));
         for path in paths::planned(&plan, 3).into_iter().chain(beside) {
-            let (found, described) = comparison.ask(&name, image, &path, FULL);
+            let (found, described) = comparison.ask(&name, image, &path, full(image));
             let expected = paths::answer(&plan, &file, &path);
             assert_eq!(found, expected, "{name}, \"{}\"", path.escape_ascii());
             assert_together(&name, found, described);
@@ -147,7 +150,7 @@ fn damaged_images_agree() {
         // One path at all rooms, that of a dataset if there is one.
         let mut chosen = &paths[images % paths.len()];
         for path in &paths {
-            let (found, described) = comparison.ask(&name, case.image, path, FULL);
+            let (found, described) = comparison.ask(&name, case.image, path, full(case.image));
             assert_together(&name, found, described);
             if found.1 == 2 {
                 chosen = path;
@@ -176,17 +179,22 @@ fn sum(image: &[u8]) -> u64 {
     hasher.finish()
 }
 
-/// Every string of every heap as a component, also where the heap or a name is unsound.
+/// About so many strings of a file are looked up.
+const STRINGS: usize = 60;
+
+/// Strings of every heap as a component, also where the heap or a name is unsound.
 #[test]
 fn special_files_agree() {
     let mut comparison = Comparison::default();
     for special in special::all() {
         let (name, image) = (&special.name, &special.sheet.bytes);
-        for string in special.sheet.strings() {
+        let strings = special.sheet.strings();
+        let some = strings.len().div_ceil(STRINGS).max(1);
+        for string in strings.into_iter().step_by(some) {
             let path = [b"/", string].concat();
             comparison.ask_at_all_rooms(name, image, &path);
             for beside in paths::beside(&path) {
-                comparison.ask(name, image, &beside, FULL);
+                comparison.ask(name, image, &beside, full(image));
             }
         }
         comparison.ask_at_all_rooms(name, image, b"/");
@@ -219,13 +227,13 @@ fn malformed_paths_give_14() {
     for (number, image) in images.iter().enumerate() {
         let name = format!("image {number}");
         for path in malformed() {
-            for blocks in lent_bytes(number) {
+            for blocks in lent_bytes(image, number) {
                 let answers = comparison.ask(&name, image, &path, blocks);
                 assert_eq!(answers, ((14, 0, 0), 14), "{}", path.escape_ascii());
             }
         }
         for path in well_formed() {
-            let (found, _) = comparison.ask(&name, image, &path, FULL);
+            let (found, _) = comparison.ask(&name, image, &path, full(image));
             assert_ne!(found.0, 14, "{}", path.escape_ascii());
             comparison.ask_at_all_rooms(&name, image, &path);
         }
@@ -245,7 +253,7 @@ fn every_byte_in_a_component() {
             (vec![b'/', b'a', byte, b'b'], false),
             (vec![byte, b'a'], false),
         ] {
-            let (found, _) = comparison.ask("H", &image, &path, FULL);
+            let (found, _) = comparison.ask("H", &image, &path, full(&image));
             let expected = match byte {
                 0 => 14,
                 b'/' if path == b"/a/b" => 17,
@@ -278,8 +286,8 @@ fn short_replies_give_13_first() {
     ];
     let (least, most) = (8 * LOOKUP_WORDS, 8 * DESCRIBE_WORDS);
     for (image, path, number) in asked {
-        for blocks in [BLOCK_BYTES * 6, BLOCK_BYTES * 6 + 3, FULL] {
-            for reply in (0..40).chain(most - 17..most + 17).chain([770 * 8]) {
+        for blocks in [BLOCK_BYTES * 6, BLOCK_BYTES * 6 + 3, full(image)] {
+            for reply in (0..40).chain(most - 17..most + 17).chain([8 * REPLY_WORDS]) {
                 let found = pair.lookups_agree("short reply", image, path, blocks, reply);
                 assert_eq!(found, if reply < least { 13 } else { number });
                 assert!(found == 0 || pair.left().is_refused(found));
@@ -298,16 +306,16 @@ fn lookups_agree_at_the_limits() {
         b"/",
         b"/00000",
         b"/00001",
-        b"/00000/00000/00000/00415",
-        b"/00999",
-        b"/01000",
+        b"/00000/00000/00000/00447",
+        b"/11999",
+        b"/12000",
         b"/00001/x",
-        b"/dataset 001",
-        b"/dataset 032",
-        b"/dataset 255",
+        b"/dataset 0001",
+        b"/dataset 0032",
+        b"/dataset 1023",
     ];
     for (name, image) in limits::all() {
-        for room in [0, 1, 2, 3, 500, 1022, 1023, 1024, 1025, 3000] {
+        for room in [0, 2, 3, MOST_BLOCKS - 1, MOST_BLOCKS, MOST_BLOCKS + 1] {
             let blocks = BLOCK_BYTES * room + room % BLOCK_BYTES;
             for path in paths {
                 comparison.ask(name, &image, path, blocks);

@@ -1,19 +1,26 @@
-//! The table of objects at every fill: the library's audit against the separate reader's.
+//! The table of objects at many fills: the library's audit against the separate reader's.
 
 use compare::agree::Pair;
 use compare::generate::block_orders::{falling, random, rising, Order};
 use compare::generate::many_objects::{many, STRIDES};
+use compare::reader::MOST_OBJECTS;
 
-/// "256 objects pass, 257 give 12": so many besides the root.
-const MOST: usize = 255;
+/// As many objects as there may be pass, one more gives 12: so many besides the root.
+const MOST: usize = MOST_OBJECTS - 1;
 
 const ORDERS: [(&str, Order); 3] = [("rising", rising), ("falling", falling), ("random", random)];
 
+/// Every fill up to 300, some above, and all near the limit.
+fn fills() -> impl Iterator<Item = usize> {
+    let some = (300..MOST - 20).step_by(37);
+    (0..300).chain(some).chain(MOST - 20..=MOST + 2)
+}
+
 #[test]
-fn the_library_agrees_at_every_fill() {
+fn the_library_agrees_at_many_fills() {
     let mut pair = Pair::default();
     let mut turn = 0;
-    for wanted in 0..=MOST + 2 {
+    for wanted in fills() {
         for (order_name, order) in ORDERS {
             let stride = STRIDES[turn % STRIDES.len()];
             turn += 1;

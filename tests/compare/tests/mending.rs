@@ -1,8 +1,8 @@
 //! Mending and undo of the proved library against the separate reader: the number and every byte lent, those of the
 //! image too. What each has to do is also told from the library's audit.
 
-use compare::agree::{lent_bytes, words, Call, Pair};
-use compare::generate::corpus::{cases, each};
+use compare::agree::{lent_bytes, room_number, words, Call, Pair};
+use compare::generate::corpus::{cases, each, full_room};
 use compare::generate::paths;
 use compare::generate::random::Random;
 use compare::generate::sheet::{set, Sheet};
@@ -11,15 +11,19 @@ use compare::generate::write::write;
 use compare::generate::{files, limits};
 use compare::reader::front::{BLOCK_BYTES, DESCRIBE_WORDS, LOOKUP_WORDS};
 use compare::reader::front::{MEND_WORDS, REPLY_WORDS, UNDO_WORDS};
+use compare::reader::{MOST_BLOCKS, MOST_BYTES, MOST_OBJECTS};
 use std::collections::hash_map::DefaultHasher;
 use std::collections::{BTreeMap, HashSet};
 use std::hash::{Hash, Hasher};
 
-/// Room for every block that a walk may enter.
-const FULL: usize = BLOCK_BYTES * 1024;
+/// The bytes of a list for every block of an image.
+fn full(image: &[u8]) -> usize {
+    BLOCK_BYTES * full_room(image)
+}
 
-/// A log for every object that an audit may find.
-const LOG: usize = 8 * 512;
+/// The words of a log for every object that an audit may find, and its bytes.
+const LOG_WORDS: usize = 2 * MOST_OBJECTS;
+const LOG: usize = 8 * LOG_WORDS;
 
 /// How often each answer was given.
 type Times = [u64; 21];
@@ -57,7 +61,7 @@ struct Audit {
 struct Comparison {
     pair: Pair,
     turn: usize,
-    /// Mends by room.
+    /// Mends by the number of the room.
     mends: BTreeMap<usize, Times>,
     undos: Times,
     /// Images with wrong counts, and those counts.
@@ -100,7 +104,7 @@ impl Comparison {
         let blocks = audit.blocks.len();
         let lent = (blocks, log, 8 * MEND_WORDS + self.turn % 17);
         let number = self.pair.mends_agree(name, image, lent, limit);
-        self.mends.entry(blocks / BLOCK_BYTES).or_default()[number as usize] += 1;
+        self.mends.entry(room_number(blocks)).or_default()[number as usize] += 1;
         let entries = audit.wrong.len();
         let too_short = audit.number == 0 && log / 8 < 2 * entries;
         let expected = if too_short { 18 } else { audit.number };
@@ -203,7 +207,7 @@ impl Comparison {
 
     /// All limits, all logs and all rooms.
     fn mend_in_all_ways(&mut self, name: &str, image: &[u8], random: &mut Random) -> Audit {
-        let audit = self.audit(name, image, FULL + self.turn % 16);
+        let audit = self.audit(name, image, full(image) + self.turn % 16);
         let entries = audit.wrong.len();
         self.wrong[0] += u64::from(entries > 0);
         self.wrong[1] += entries as u64;
@@ -219,7 +223,7 @@ impl Comparison {
         for log in &logs {
             self.mend(name, image, &audit, *log, random.pick(&limits));
         }
-        for blocks in lent_bytes(self.turn) {
+        for blocks in lent_bytes(image, self.turn) {
             let at_room = self.audit(name, image, blocks);
             let (log, limit) = (random.pick(&logs), random.pick(&limits));
             self.mend(name, image, &at_room, log, limit);
@@ -252,7 +256,7 @@ impl Comparison {
         let log = self.pair.left().log.clone();
         let mut now = self.pair.left().image.clone();
         self.audit_as_before(name, audit, &now);
-        self.paths_as_before(name, [image, &now], paths, FULL);
+        self.paths_as_before(name, [image, &now], paths, full(image));
         self.mend_the_rest(name, image, audit, &now);
         for _ in 0..random.between(2, 7) {
             let taken = match random.below(8) {
@@ -377,7 +381,7 @@ impl Comparison {
 
     fn every_room_is_lent(&self) {
         let rooms: Vec<usize> = self.mends.keys().copied().collect();
-        assert_eq!(rooms, (0..=12).chain([1024]).collect::<Vec<usize>>());
+        assert_eq!(rooms, Vec::from_iter(0..=13));
     }
 }
 
@@ -416,7 +420,7 @@ fn limits_of(entries: u64) -> [u64; 8] {
 /// Whole words with 0 to 7 bytes more, and the least number of bytes that suffices, one more and one less.
 fn logs_of(entries: usize, turn: usize) -> Vec<usize> {
     let least = 2 * entries;
-    let counts = [0, 1, least.saturating_sub(1), least, least + 1, 512];
+    let counts = [0, 1, least.saturating_sub(1), least, least + 1, LOG_WORDS];
     let mut logs: Vec<usize> = (0..)
         .zip(counts)
         .map(|(number, words)| 8 * words + (turn + number) % 8)
@@ -513,7 +517,7 @@ fn planned_files_are_mended() {
             .filter(|wrong| wrong.old != wrong.new)
             .collect();
         assert_eq!(audit.wrong, planned, "{name}");
-        for blocks in lent_bytes(seed as usize) {
+        for blocks in lent_bytes(image, seed as usize) {
             let at_room = comparison.audit(&name, image, blocks);
             for limit in limits_of(planned.len() as u64) {
                 for log in logs_of(planned.len(), comparison.turn) {
@@ -524,7 +528,7 @@ fn planned_files_are_mended() {
         let mut paths = paths::planned(&plan, 2);
         paths.extend(paths::beside(&paths[paths.len() - 1]));
         let mended = with_counts(image, &planned, |wrong| wrong.new);
-        for blocks in lent_bytes(seed as usize).skip(2).step_by(3) {
+        for blocks in lent_bytes(image, seed as usize).skip(2).step_by(3) {
             comparison.paths_as_before(&name, [image, &mended], &paths, blocks);
         }
         for _ in 0..4 {
@@ -615,7 +619,7 @@ fn damaged_logs_agree() {
     for seed in 1000..1300 {
         let file = write(&files::plan(seed), seed);
         let (name, image) = (format!("file {seed}"), file.sheet.bytes);
-        let audit = comparison.audit(&name, &image, FULL);
+        let audit = comparison.audit(&name, &image, full(&image));
         let entries = audit.wrong.len() as u64;
         let limit = random.pick(&[0, entries / 2, entries, entries]);
         comparison.mend(&name, &image, &audit, LOG, limit);
@@ -635,15 +639,15 @@ fn damaged_logs_agree() {
             1,
             2,
             entries + 1,
-            256,
-            257,
+            MOST_OBJECTS as u64,
+            MOST_OBJECTS as u64 + 1,
             1 << 32,
             1 << 59,
             1 << 60,
             1 << 61,
             1 << 63,
         ] {
-            for bytes in [0, 15, 16 * taken.min(300) as usize - 1] {
+            for bytes in [0, 15, 16 * taken.min(1100) as usize - 1] {
                 let log = vec![0xff; bytes];
                 let answer = comparison.undo(&name, &mended, &log, (taken, 1));
                 assert_eq!(answer, 18, "{name}, {taken} entries");
@@ -719,7 +723,7 @@ fn short_replies_give_13_first() {
             for (blocks, full) in [
                 (BLOCK_BYTES * 7, false),
                 (BLOCK_BYTES * 8 + 3, true),
-                (FULL, true),
+                (full(image), true),
             ] {
                 for limit in [0, 1, u64::MAX] {
                     let lent = (blocks, bytes, reply);
@@ -769,14 +773,14 @@ fn lengths_of_images() {
         (95, false),
         (96, true),
         (97, true),
-        (1_048_575, true),
-        (1_048_576, true),
-        (1_048_577, false),
-        (1_100_000, false),
+        (MOST_BYTES - 1, true),
+        (MOST_BYTES, true),
+        (MOST_BYTES + 1, false),
+        (MOST_BYTES + 50_000, false),
     ] {
         let image = vec![0; length];
         let name = format!("{length} bytes");
-        let audit = comparison.audit(&name, &image, FULL);
+        let audit = comparison.audit(&name, &image, full(&image));
         assert_eq!(audit.number, if inside { 2 } else { 1 }, "{name}");
         for bytes in [0, 16, LOG] {
             for limit in [0, u64::MAX] {
@@ -809,17 +813,20 @@ fn lengths_of_images() {
     comparison.answers_are(&[1, 2], &[0, 1, 18, 19]);
 }
 
-/// 256 wrong counts fill 512 words.
+/// As many wrong counts as there may be fill the longest log. Of the files at the limits there are fewer undos, since each
+/// copies 16 MiB.
 #[test]
 fn mends_agree_at_the_limits() {
     let mut comparison = Comparison::default();
     let mut random = Random::new(24);
-    let mut images = vec![("256 objects", small::objects(256).bytes)];
-    images.extend(limits::all());
-    for (name, mut image) in images {
-        let audit = comparison.audit(name, &image, FULL);
+    let most = MOST_OBJECTS as u64;
+    let mut images = vec![("most objects", small::objects(most).bytes, 3)];
+    let large = limits::all().into_iter();
+    images.extend(large.map(|(name, image)| (name, image, 1)));
+    for (name, mut image, undos) in images {
+        let audit = comparison.audit(name, &image, full(&image));
         miscount_all(&mut image, &audit);
-        let audit = comparison.audit(name, &image, FULL + 5);
+        let audit = comparison.audit(name, &image, full(&image) + 5);
         let entries = audit.objects.len() as u64;
         assert_eq!(audit.wrong.len() as u64, entries, "{name}");
         let least = 16 * entries as usize;
@@ -827,8 +834,8 @@ fn mends_agree_at_the_limits() {
             (u64::MAX, least - 1),
             (1, least - 8),
             (1, least),
-            (255, least + 7),
-            (256, least + 8),
+            (most - 1, least + 7),
+            (most, least + 8),
             (u64::MAX, LOG + 3),
         ] {
             let number = comparison.mend(name, &image, &audit, log, limit);
@@ -836,19 +843,19 @@ fn mends_agree_at_the_limits() {
             let mended = comparison.pair.left().image.clone();
             comparison.audit_as_before(name, &audit, &mended);
         }
-        for room in [1023, 1024, 1025, 3000] {
+        for room in [MOST_BLOCKS - 1, MOST_BLOCKS, MOST_BLOCKS + 1] {
             let blocks = BLOCK_BYTES * room + room % BLOCK_BYTES;
             let at_room = comparison.audit(name, &image, blocks);
             comparison.mend(name, &image, &at_room, LOG, 3);
         }
         let paths = [b"/".to_vec(), b"/00001".to_vec(), b"/absent".to_vec()];
-        for _ in 0..3 {
+        for _ in 0..undos {
             comparison.undo_at_random(name, &image, &audit, &paths, &mut random);
         }
     }
-    let image = small::objects(257).bytes;
-    let audit = comparison.audit("257 objects", &image, FULL);
-    let number = comparison.mend("257 objects", &image, &audit, LOG, 1);
+    let image = small::objects(most + 1).bytes;
+    let audit = comparison.audit("one object more", &image, full(&image));
+    let number = comparison.mend("one object more", &image, &audit, LOG, 1);
     assert_eq!(number, 12);
     comparison.print();
     for answer in [0, 12, 13, 18] {

@@ -2,7 +2,8 @@
 //! where there are under 96 bytes, with zeros, and leaves the file as it was. The separate reader answers the same.
 
 use compare::library;
-use compare::reader::front;
+use compare::reader::front::{self, BLOCK_BYTES, REPLY_WORDS};
+use compare::reader::{MOST_BLOCKS, MOST_OBJECTS};
 
 const IMAGE_LENGTH: u32 = 1;
 const NO_SIGNATURE: u32 = 2;
@@ -108,7 +109,8 @@ fn text(length: usize) -> Vec<u8> {
 
 /// Each call's answer. Every slice lent for writing holds zeros after it, and the image is as it was.
 fn answers(image: &[u8]) -> Vec<(&'static str, u32)> {
-    let (mut blocks, mut log, mut reply) = (vec![7; 32_768], vec![7; 4_096], vec![7; 6_160]);
+    let mut blocks = vec![7; BLOCK_BYTES * MOST_BLOCKS];
+    let (mut log, mut reply) = (vec![7; 16 * MOST_OBJECTS], vec![7; 8 * REPLY_WORDS]);
     let mut found = Vec::new();
     let mut note = |call, answer, slices: [&mut [u8]; 2]| {
         for slice in slices {

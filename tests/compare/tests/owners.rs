@@ -1,6 +1,7 @@
 //! Whose block it is, and which block answer 6 names: by the separate reader, and with the feature `proved` by the C front end
 //! of the proved library too.
 
+use compare::generate::corpus::full_room;
 use compare::generate::sheet::Sheet;
 use compare::generate::small::{self, A_BLOCKS, E_BLOCKS, H_BLOCKS};
 use compare::generate::write::write;
@@ -9,9 +10,18 @@ use compare::owners::{check_described, check_owners};
 use compare::plain::{self, Meetings};
 use compare::reader::front::{self, DESCRIBE_WORDS, LOOKUP_WORDS, MEND_WORDS, REPLY_WORDS};
 use compare::reader::{audit, describe, lookup, mend, AuditReply};
+use compare::reader::{BLOCK_WORDS, MOST_BLOCKS, MOST_OBJECTS};
 
-/// Room for every block that a walk may enter.
-const FULL: usize = 4096;
+/// The words of a list for every block that a walk may enter.
+const MOST: usize = BLOCK_WORDS * MOST_BLOCKS;
+
+/// The words of a list for every block of an image.
+fn full(image: &[u8]) -> usize {
+    BLOCK_WORDS * full_room(image)
+}
+
+/// The words of a log for every object that an audit may find.
+const LOG: usize = 2 * MOST_OBJECTS;
 
 /// The calls on bytes, of the reader or of the library.
 struct Calls {
@@ -210,25 +220,25 @@ fn other_refusals_of_a_block_name_none() {
     }
 }
 
-/// 1,024 blocks fill 4,096 words. There is no more room than that, and with a word less there is room for one block less.
+/// The most blocks fill so many words. There is no more room than that, and with a word less there is room for one block less.
 #[test]
-fn there_is_room_for_1024_blocks() {
+fn there_is_room_for_the_most_blocks() {
     let full = limits::everything();
     let special = special::all().into_iter();
-    let mut more = special.filter(|special| special.name == "1,025 blocks");
-    let more = more.next().expect("a file of 1,025 blocks").sheet.bytes;
-    let list = audit(&full, FULL).list;
-    assert!(list[FULL - 2] > 0, "a kind in the last block");
+    let mut more = special.filter(|special| special.name == "8,193 blocks");
+    let more = more.next().expect("a file of 8,193 blocks").sheet.bytes;
+    let list = audit(&full, MOST).list;
+    assert!(list[MOST - 2] > 0, "a kind in the last block");
     for calls in all_calls() {
         for call in [Call::Audit, Call::Mend] {
-            for (words, number) in [(4092, 13), (4095, 13), (4096, 0), (4099, 0), (4100, 0)] {
+            for (words, number) in [(MOST - 4, 13), (MOST - 1, 13), (MOST, 0), (MOST + 3, 0)] {
                 let left = calls.call(call, &full, words, 8 * REPLY_WORDS);
                 assert_eq!(left.number, number, "{call:?}, {words} words");
                 let words_left: &[u64] = if number == 0 { &list } else { &[] };
                 let expected = bytes(words_left, 8 * words + 5);
                 assert!(left.blocks == expected, "{call:?}, {words} words");
             }
-            for words in [4096, 4100, 5000] {
+            for words in [MOST, MOST + 4, MOST + 1000] {
                 let left = calls.call(call, &more, words, 8 * REPLY_WORDS);
                 assert_eq!(left.number, 13, "{call:?}, {words} words");
             }
@@ -278,10 +288,10 @@ fn blocks_have_their_owners(
 #[test]
 fn blocks_of_an_object_are_those_of_its_walk() {
     let described = |_: &str, image: &[u8], path: &[u8]| {
-        let reply = describe(image, path, FULL);
+        let reply = describe(image, path, full(image));
         (reply.number, reply.list)
     };
-    blocks_have_their_owners(|_, image| audit(image, FULL), described);
+    blocks_have_their_owners(|_, image| audit(image, full(image)), described);
 }
 
 /// A block at every address in turn: what each call meets first is what the plain walk meets first.
@@ -289,19 +299,19 @@ fn blocks_of_an_object_are_those_of_its_walk() {
 fn moved_blocks_meet_others() {
     let mut meetings: [Meetings; 3] = Default::default();
     moved::each(|name, image| {
-        let reply = audit(image, FULL);
+        let reply = audit(image, full(image));
         let audited = (reply.number, reply.met);
         meetings[0].check(&name, audited, || plain::audit(image));
         if reply.number == 0 {
             check_owners(name, image, &reply);
         }
-        let reply = lookup(image, b"/a", FULL);
+        let reply = lookup(image, b"/a", full(image));
         let found = (reply.number, reply.met);
         meetings[1].check(&name, found, || plain::lookup(image, b"/a", false));
-        let reply = describe(image, b"/a", FULL);
+        let reply = describe(image, b"/a", full(image));
         let described = (reply.number, reply.met);
         meetings[2].check(&name, described, || plain::lookup(image, b"/a", true));
-        let reply = mend(&mut image.to_vec(), FULL, 512, 0);
+        let reply = mend(&mut image.to_vec(), full(image), LOG, 0);
         assert_eq!((reply.number, reply.met), audited, "{name}");
     });
     for ((call, least), meetings) in LEAST.into_iter().zip(&meetings) {
@@ -327,7 +337,7 @@ mod proved {
         let mut pair = Pair::default();
         let mut others = Pair::default();
         let described = |name: &str, image: &[u8], path: &[u8]| {
-            let lent = (8 * FULL, 8 * DESCRIBE_WORDS);
+            let lent = (8 * full(image), 8 * DESCRIBE_WORDS);
             let number = others.descriptions_agree(name, image, path, lent.0, lent.1);
             (number, words(&others.left().blocks))
         };
@@ -342,9 +352,9 @@ mod proved {
         for blocks in 60..=72 {
             for bytes in [12_000, 16_383, 16_384, 16_385] {
                 let mut image = limits::one_dataset(blocks, bytes);
-                let dataset = audit(&image, FULL).objects[1].address as usize;
+                let dataset = audit(&image, full(&image)).objects[1].address as usize;
                 image[dataset + 4] = 9;
-                for room in [0, 7, 8, 9].into_iter().chain(56..=73).chain([1024]) {
+                for room in [0, 7, 8, 9].into_iter().chain(56..=73).chain([MOST_BLOCKS]) {
                     let name = format!("{blocks} blocks, {bytes} bytes, room {room}");
                     let list = 32 * room + 17;
                     let numbers = [
@@ -373,9 +383,9 @@ mod proved {
             if reply.number == 0 {
                 check_owners(name, image, &reply);
             }
-            pair.lookups_agree(name, image, b"/a", 8 * FULL, 8 * LOOKUP_WORDS);
-            pair.descriptions_agree(name, image, b"/a", 8 * FULL, 8 * DESCRIBE_WORDS);
-            let lent = (8 * FULL, 8 * 512, 8 * MEND_WORDS);
+            pair.lookups_agree(name, image, b"/a", 8 * full(image), 8 * LOOKUP_WORDS);
+            pair.descriptions_agree(name, image, b"/a", 8 * full(image), 8 * DESCRIBE_WORDS);
+            let lent = (8 * full(image), 8 * LOG, 8 * MEND_WORDS);
             let mended = pair.mends_agree(name, image, lent, 0);
             assert_eq!(mended, reply.number, "{name}");
         });

@@ -2,9 +2,10 @@
 //! block is met with 6.
 
 use compare::generate::small::{self, C_COMMITTED};
-use compare::reader::{audit_stop, lookup_stop, Part, Stop};
+use compare::reader::{audit_stop, lookup_stop, Part, Stop, BLOCK_WORDS, MOST_BLOCKS};
 
-const FULL: usize = 4096;
+/// The words of a list for every block that a walk may enter.
+const FULL: usize = BLOCK_WORDS * MOST_BLOCKS;
 
 /// The answer and the place.
 fn fault(stop: Option<Stop>) -> Option<(u32, u64)> {

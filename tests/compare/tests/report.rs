@@ -2,7 +2,7 @@
 //! proved library too, the two compared byte for byte.
 
 use compare::generate::attribute::Attribute;
-use compare::generate::corpus::{cases, each};
+use compare::generate::corpus::{cases, each, full_room, SMALL_ROOMS};
 use compare::generate::dataset::{Dataset, Datatype, Layout};
 use compare::generate::header::{self, Message};
 use compare::generate::plan::{Content, Object, Plan};
@@ -14,13 +14,16 @@ use compare::generate::{limits, moved, sharing, special};
 use compare::plain::Four;
 use compare::reader::front::{report_bytes, BLOCK_BYTES, REPORT_WORDS};
 use compare::reader::{audit, report, ReportReply, SUPERBLOCK_OWNER};
+use compare::reader::{MOST_BLOCKS, MOST_OBJECTS};
 use compare::reports::{check, holds, number, Left, Report};
 use std::collections::BTreeMap;
 use std::fs;
 use std::path::{Path, PathBuf};
 
-/// Room for every block that a walk may enter.
-const FULL: usize = 4096;
+/// The bytes of a list for every block of an image.
+fn full(image: &[u8]) -> usize {
+    BLOCK_BYTES * full_room(image)
+}
 
 /// What lay in the slices before a call.
 const BEFORE: u8 = 0xa5;
@@ -317,10 +320,13 @@ where
 
     /// At full room, and now and then at others with replies of other lengths.
     fn image(&mut self, name: &str, image: &[u8]) -> Report {
-        let full = self.ask(name, image, 8 * FULL, 8 * REPORT_WORDS);
+        let full = self.ask(name, image, full(image), 8 * REPORT_WORDS);
         if self.images.is_multiple_of(PART) {
             let turn = (self.images / PART) as usize;
-            for room in (0..=12).chain([1023, 1024, 1030]) {
+            // Long lists take long, so that there are few of them.
+            let large = [MOST_BLOCKS - 1, MOST_BLOCKS, MOST_BLOCKS + 6].get(turn % 32);
+            let enough = full_room(image);
+            for room in SMALL_ROOMS.chain([enough]).chain(large.copied()) {
                 let blocks = BLOCK_BYTES * room + (turn + 5 * room) % BLOCK_BYTES;
                 self.ask(name, image, blocks, 8 * REPORT_WORDS + turn % 17);
                 self.ask(name, image, blocks, REPLIES[(turn + room) % REPLIES.len()]);
@@ -361,20 +367,20 @@ fn corpus_is_reported(reported: impl FnMut(&str, &[u8], usize, usize) -> Left) {
         let name = format!("{}, copy {}", case.file, case.copy);
         reports.image(&name, case.image);
     });
-    // A 257th object is met in an entry there, never in a message.
+    // One object too many is met in an entry there, never in a message.
     let mut rows = rows();
     rows.retain(|row| !matches!(row, (12, 2 | 3)));
     reports.reached("corpus", &rows);
 }
 
-/// A root group whose attributes share 256 committed datatypes without names: the 257th object is met in its continuation.
+/// A root group whose attributes share committed datatypes without names, one too many: the last is met in its continuation.
 fn many_over_a_continuation() -> Vec<u8> {
     let mut root = special::root(Vec::new());
-    let attributes = (1..=256).map(|object| Attribute::shared(2, object).message());
+    let attributes = (1..=MOST_OBJECTS).map(|object| Attribute::shared(2, object).message());
     root.steps = attributes.collect();
     root.parents = vec![0];
     let mut objects = vec![root];
-    objects.resize(257, Object::new(Content::Committed));
+    objects.resize(MOST_OBJECTS + 1, Object::new(Content::Committed));
     write(&Plan::new(objects), 1).sheet.bytes
 }
 
@@ -396,11 +402,11 @@ fn named_files_are_reported(reported: impl FnMut(&str, &[u8], usize, usize) -> L
     });
     for (name, image) in limits::all() {
         reports.image(name, &image);
-        for room in [1, 500, 1023, 1024] {
+        for room in [1, MOST_BLOCKS / 2, MOST_BLOCKS - 1, MOST_BLOCKS] {
             reports.ask(name, &image, BLOCK_BYTES * room, 8 * REPORT_WORDS);
         }
     }
-    let report = reports.image("257 over a continuation", &many_over_a_continuation());
+    let report = reports.image("one more over a continuation", &many_over_a_continuation());
     assert_eq!((report.answer, report.block[2]), (12, 3));
     let mut rows = rows();
     rows.retain(|row| matches!(row.0, 5 | 6 | 12 | 13));
@@ -432,7 +438,7 @@ fn swept_bytes_are_reported(reported: impl FnMut(&str, &[u8], usize, usize) -> L
             image[at] = old;
         }
     }
-    // Five small files have neither 257 objects nor another length.
+    // Five small files have neither too many objects nor another length.
     let mut rows = rows();
     rows.retain(|row| !matches!(row.0, 1 | 12));
     reports.reached("byte sweep", &rows);
@@ -471,7 +477,7 @@ fn library_files() -> Vec<(String, Vec<u8>)> {
         let image = fs::read(&path).expect("a file");
         (name.display().to_string(), image)
     });
-    let read_here = |file: &(String, Vec<u8>)| audit(&file.1, FULL).number == 0;
+    let read_here = |file: &(String, Vec<u8>)| audit(&file.1, full(&file.1) / 8).number == 0;
     files.filter(read_here).collect()
 }
 

@@ -4,20 +4,19 @@ mod command;
 
 use command::{
     assert_message, assert_stored, built, folder, package, root, run, run_with_input,
-    run_with_name, stored,
+    run_with_name, stored, COMMAND_BLOCKS, INPUT_MOST,
 };
+use compare::generate::block_orders::{rising, touching};
 use compare::generate::moved;
 use compare::generate::small::{self, DATASET, ROOT};
 use compare::generate::special;
+use compare::reader::MOST_BYTES;
 use std::collections::BTreeSet;
 use std::fs;
 use std::path::PathBuf;
 use std::process::{Command, Output};
 
 const A_AND_B: [(&[u8], u64); 2] = [(b"a", DATASET), (b"b", DATASET)];
-
-/// The most bytes that the command answers for.
-const INPUT_MOST: usize = 65_536;
 
 fn program() -> PathBuf {
     built("h5report")
@@ -99,7 +98,7 @@ fn the_command_prints_the_stored_texts() {
 /// Any input of over 65,536 bytes is answered as the shortest of them is, and that of 65,536 bytes is read.
 #[test]
 fn the_command_reads_no_long_input() {
-    for length in [65_538, 131_072, 1_048_576, 3_000_000] {
+    for length in [65_538, 131_072, MOST_BYTES, MOST_BYTES + 1] {
         assert_stored(&report(&e_with_length(length)), "h5report_e_65537_bytes");
     }
     assert_stored(&report(&e_with_length(INPUT_MOST)), "h5report_e");
@@ -196,6 +195,13 @@ fn answers_have_the_words_of_the_table() {
         }
         met.insert(special.number);
     }
+    // The command has room for fewer blocks than a special file can have.
+    let blocks = |count| report(&touching(rising, count).bytes);
+    let thirteen = format!("answer 13: {}\n", answers[13].1);
+    assert!(blocks(COMMAND_BLOCKS + 1).starts_with(&thirteen));
+    met.insert(13);
+    let sound = format!("sound: 1 objects, {COMMAND_BLOCKS} blocks, 0 wrong counts\n");
+    assert_eq!(blocks(COMMAND_BLOCKS), sound);
     // The stored texts have the answer 2.
     let two = format!("answer 2: {}\n", answers[2].1);
     assert!(stored("h5report_e_signature").starts_with(&two));
@@ -203,23 +209,23 @@ fn answers_have_the_words_of_the_table() {
     assert_eq!(met.into_iter().collect::<Vec<_>>(), Vec::from_iter(1..=13));
 }
 
-/// The longest text: every object has a wrong count, of as many digits as there can be.
+/// The longest text: as many objects as the input holds, and every one has a wrong count, of as many digits as there can be.
 #[test]
 fn every_count_is_wrong() {
-    let mut image = small::objects(256).bytes;
+    let mut image = small::packed(INPUT_MOST as u64).bytes;
     let audit = run_with_input(&built("h5audit"), &image);
     let audit = printed(&audit);
     let address = |line: &str| usize::from_str_radix(&line[..16], 16).expect("an address");
     let addresses: Vec<usize> = audit.lines().skip(1).map(address).collect();
-    assert_eq!(addresses.len(), 256);
+    assert_eq!(addresses.len(), 975);
     for at in &addresses {
         image[at + 4..at + 8].copy_from_slice(&[0xff; 4]);
     }
     let text = report(&image);
     let mut lines = text.lines();
     let first = lines.next().expect("a line");
-    assert!(first.starts_with("sound: 256 objects, "), "{first}");
-    assert!(first.ends_with(" blocks, 256 wrong counts"), "{first}");
+    assert!(first.starts_with("sound: 975 objects, "), "{first}");
+    assert!(first.ends_with(" blocks, 975 wrong counts"), "{first}");
     let expected = addresses.iter().enumerate().map(|(number, at)| {
         let count = at + 4;
         format!("object {number} at {at:016x}: count at {count:016x} is 4294967295, links 1")

@@ -1,7 +1,7 @@
 //! The reader alone over the images of the comparison: it never panics, reaches every answer of an audit, and what it
 //! says holds together.
 
-use compare::generate::corpus::{cases, each};
+use compare::generate::corpus::{cases, each, full_room, SMALL_ROOMS};
 use compare::generate::paths;
 use compare::generate::plan::{Content, Plan, Target};
 use compare::generate::random::Random;
@@ -9,9 +9,15 @@ use compare::generate::write::{write, File};
 use compare::generate::{files, limits};
 use compare::plain::{self, Meetings};
 use compare::reader::{audit, audit_stop, describe, lookup, mend, undo, AuditReply, Stop};
+use compare::reader::{BLOCK_WORDS, LEAST_BYTES, MOST_BLOCKS, MOST_BYTES, MOST_OBJECTS};
 
-/// Room for every block that a walk may enter.
-const FULL: usize = 4096;
+/// The words of a list for every block of an image.
+fn full(image: &[u8]) -> usize {
+    BLOCK_WORDS * full_room(image)
+}
+
+/// The words of a log for every object that an audit may find.
+const LOG: usize = 2 * MOST_OBJECTS;
 
 #[test]
 fn every_answer_is_reached_and_sound() {
@@ -21,7 +27,8 @@ fn every_answer_is_reached_and_sound() {
     each(cases(40_000), |case| {
         let (name, image) = (case.file, case.image);
         images += 1;
-        let full = audit(image, FULL);
+        let lent = full(image);
+        let full = audit(image, lent);
         reached[full.number as usize] += 1;
         if full.number == 0 {
             check_passed(name, image, &full);
@@ -31,7 +38,7 @@ fn every_answer_is_reached_and_sound() {
                 AuditReply {
                     number: full.number,
                     met: full.met,
-                    list: vec![0; FULL],
+                    list: vec![0; lent],
                     ..AuditReply::default()
                 }
             );
@@ -41,7 +48,7 @@ fn every_answer_is_reached_and_sound() {
         if full.number == 6 {
             check_refused(name, image);
         }
-        for room in 0..=12 {
+        for room in SMALL_ROOMS {
             let small = audit(image, 4 * room + room % 4);
             reached[small.number as usize] += 1;
             check_room(name, room as u64, &full, &small);
@@ -64,7 +71,7 @@ fn check_refused(name: &str, image: &[u8]) {
         address,
         length,
         ..
-    }) = audit_stop(image, FULL)
+    }) = audit_stop(image, full(image))
     else {
         panic!("{name}: no block is refused");
     };
@@ -127,7 +134,7 @@ fn plans_are_read_back() {
     for seed in 1000..2500 {
         let plan = files::plan(seed);
         let file = write(&plan, seed);
-        let reply = audit(&file.sheet.bytes, FULL);
+        let reply = audit(&file.sheet.bytes, full(&file.sheet.bytes));
         assert_eq!(reply.number, 0, "file {seed}");
         let walk = plan.walk();
         assert_eq!(reply.objects.len(), walk.len(), "file {seed}");
@@ -142,12 +149,13 @@ fn plans_are_read_back() {
 }
 
 fn check_paths(plan: &Plan, file: &File, number: usize, path: &[u8], depth: usize) {
+    let lent = full(&file.sheet.bytes);
     let Content::Group(group) = &plan.objects[number].content else {
         return;
     };
     for link in &group.links {
         let path = [path, b"/", &link.name].concat();
-        let reply = lookup(&file.sheet.bytes, &path, FULL);
+        let reply = lookup(&file.sheet.bytes, &path, lent);
         if path.len() > 1024 {
             assert_eq!(reply.number, 14);
             continue;
@@ -164,12 +172,12 @@ fn check_paths(plan: &Plan, file: &File, number: usize, path: &[u8], depth: usiz
             _ => {
                 assert_eq!((reply.kind, reply.address), (4, 0));
                 let beyond = [path.as_slice(), b"/x"].concat();
-                assert!([14, 16].contains(&lookup(&file.sheet.bytes, &beyond, FULL).number));
+                assert!([14, 16].contains(&lookup(&file.sheet.bytes, &beyond, lent).number));
             }
         }
     }
     let absent = [path, b"/absent"].concat();
-    assert!([14, 15].contains(&lookup(&file.sheet.bytes, &absent, FULL).number));
+    assert!([14, 15].contains(&lookup(&file.sheet.bytes, &absent, lent).number));
 }
 
 /// Every path of three components or fewer, and paths beside those of two, as the plan has them.
@@ -183,7 +191,7 @@ fn planned_paths_are_answered() {
             .into_iter()
             .flat_map(|path| paths::beside(&path));
         for path in paths::planned(&plan, 3).into_iter().chain(beside) {
-            let reply = lookup(&file.sheet.bytes, &path, FULL);
+            let reply = lookup(&file.sheet.bytes, &path, full(&file.sheet.bytes));
             let expected = paths::answer(&plan, &file, &path);
             let found = (reply.number, reply.kind, reply.address);
             let title = path.escape_ascii();
@@ -198,7 +206,7 @@ fn planned_paths_are_answered() {
 }
 
 fn check_object(plan: &Plan, file: &File, number: usize, path: &[u8], kind: u32) {
-    let described = describe(&file.sheet.bytes, path, FULL);
+    let described = describe(&file.sheet.bytes, path, full(&file.sheet.bytes));
     match &plan.objects[number].content {
         Content::Group(_) => assert_eq!((kind, described.number), (1, 20)),
         Content::Committed => assert_eq!((kind, described.number), (3, 20)),
@@ -215,7 +223,8 @@ fn check_object(plan: &Plan, file: &File, number: usize, path: &[u8], kind: u32)
 
 /// Mended in any two steps and undone in any two steps, a file is as before.
 fn check_mending(image: &[u8]) {
-    let before = audit(image, FULL);
+    let lent = full(image);
+    let before = audit(image, lent);
     let wrong = before
         .objects
         .iter()
@@ -223,16 +232,16 @@ fn check_mending(image: &[u8]) {
         .count();
     let mut changed = image.to_vec();
     if wrong > 0 {
-        assert_eq!(mend(&mut changed, FULL, 2 * wrong - 1, 99).number, 18);
+        assert_eq!(mend(&mut changed, lent, 2 * wrong - 1, 99).number, 18);
         assert_eq!(changed, image);
     }
-    let reply = mend(&mut changed, FULL, 2 * wrong + 3, wrong as u64 / 2);
+    let reply = mend(&mut changed, lent, 2 * wrong + 3, wrong as u64 / 2);
     assert_eq!((reply.number, reply.entries), (0, wrong as u64));
     assert_eq!(reply.list, before.list);
     let log = reply.log;
     let mut whole = image.to_vec();
-    mend(&mut whole, FULL, 2 * wrong, u64::MAX);
-    let after = audit(&whole, FULL);
+    mend(&mut whole, lent, 2 * wrong, u64::MAX);
+    let after = audit(&whole, lent);
     assert!(after
         .objects
         .iter()
@@ -258,8 +267,9 @@ fn damaged_images_never_panic() {
     let mut meetings = [Meetings::default(), Meetings::default()];
     each(cases(40_000) / 4, |case| {
         let image = case.image;
+        let full = full(image);
         for path in case.paths(&mut random) {
-            let lent = random.pick(&[0, 8, 19, 20, 32, FULL, FULL, FULL]);
+            let lent = random.pick(&[0, 8, 19, 20, 32, full, full, full]);
             let found = lookup(image, &path, lent);
             let described = describe(image, &path, lent);
             reached[described.number as usize] += 1;
@@ -284,16 +294,17 @@ fn damaged_images_never_panic() {
             }
         }
         let mut changed = image.to_vec();
-        let reply = mend(&mut changed, FULL, 512, u64::MAX);
+        let reply = mend(&mut changed, full, LOG, u64::MAX);
         if reply.number != 0 {
             assert_eq!(changed, image);
-            let audited = audit(image, FULL);
+            let audited = audit(image, full);
             let expected = (audited.number, audited.met);
             assert_eq!((reply.number, reply.met), expected);
         }
         let undone = undo(&mut changed, &reply.log, reply.entries, u64::MAX);
         assert_eq!(changed, image);
-        assert_eq!(undone.number == 0, (96..=1_048_576).contains(&image.len()));
+        let read_here = (LEAST_BYTES..=MOST_BYTES).contains(&image.len());
+        assert_eq!(undone.number == 0, read_here);
     });
     println!("answers of descriptions: {reached:?}");
     for number in [0, 1, 2, 3, 4, 5, 6, 7, 8, 9, 10, 11, 13, 14, 15, 16, 17, 20] {
@@ -306,10 +317,12 @@ fn damaged_images_never_panic() {
 #[test]
 fn files_at_the_limits() {
     for (name, image) in limits::all() {
-        let reply = audit(&image, FULL);
-        assert_eq!(image.len(), 1_048_576, "{name}");
-        assert_eq!((reply.number, reply.block_count), (0, 1024), "{name}");
+        let lent = BLOCK_WORDS * MOST_BLOCKS;
+        let reply = audit(&image, lent);
+        assert_eq!(image.len(), MOST_BYTES, "{name}");
+        let found = (reply.number, reply.block_count);
+        assert_eq!(found, (0, MOST_BLOCKS as u64), "{name}");
         check_passed(name, &image, &reply);
-        assert_eq!(audit(&image, FULL - 1).number, 13, "{name}");
+        assert_eq!(audit(&image, lent - 1).number, 13, "{name}");
     }
 }

@@ -6,9 +6,10 @@ use compare::generate::sharing;
 use compare::generate::small::{self, C_COMMITTED, C_DATASET, ROOT};
 use compare::generate::write::write;
 use compare::reader::{audit, audit_stop, describe, mend, undo, AuditReply, Object};
+use compare::reader::{BLOCK_WORDS, MOST_BLOCKS};
 
-/// Room for every block that a walk may enter.
-const FULL: usize = 4096;
+/// The words of a list for every block that a walk may enter.
+const FULL: usize = BLOCK_WORDS * MOST_BLOCKS;
 
 /// "t" is found before "d", by the root's attribute.
 const C_BLOCKS: [[u64; 4]; 8] = [

@@ -5,11 +5,12 @@ use compare::generate::paths::{malformed, well_formed};
 use compare::generate::small::{self, A_BLOCKS, DATASET, E_BLOCKS, H_BLOCKS, ROOT};
 use compare::generate::special;
 use compare::reader::front::{describe_bytes, lookup_bytes};
-use compare::reader::front::{BLOCK_BYTES, DESCRIBE_WORDS, LOOKUP_WORDS};
+use compare::reader::front::{BLOCK_BYTES, DESCRIBE_WORDS, LOOKUP_WORDS, REPLY_WORDS};
 use compare::reader::{audit, describe, lookup, mend, undo, AuditReply, Object};
+use compare::reader::{BLOCK_WORDS, MOST_BLOCKS};
 
-/// Room for every block that a walk may enter.
-const FULL: usize = 4096;
+/// The words of a list for every block that a walk may enter.
+const FULL: usize = BLOCK_WORDS * MOST_BLOCKS;
 
 fn object(address: u64, stored: u32, true_count: u32) -> Object {
     Object {
@@ -238,7 +239,7 @@ fn descriptions_in_bytes() {
     let mut words = [0; DESCRIBE_WORDS];
     (words[0], words[1], words[2], words[34]) = (3, 1, 4, 4);
     words[66..].copy_from_slice(&[0, 1, 8, 1, 0, 1, 1224, 4]);
-    for length in [0, 24, 591, 592, 593, 599, 600, 6160] {
+    for length in [0, 24, 591, 592, 593, 599, 600, 8 * REPLY_WORDS] {
         let mut blocks = vec![BEFORE; 32 * 6 + 5];
         let mut reply = vec![BEFORE; length];
         let number = describe_bytes(&image, b"/a", &mut blocks, &mut reply);
@@ -313,7 +314,7 @@ fn a_loop() {
 #[test]
 fn special_files() {
     for special in special::all() {
-        for words in [FULL, FULL + 1, 5000] {
+        for words in [FULL, FULL + 1, FULL + 1000] {
             let reply = audit(&special.sheet.bytes, words);
             assert_eq!(reply.number, special.number, "{}", special.name);
         }

@@ -8,11 +8,13 @@ mod command;
 
 use command::{
     assert_message, assert_stored, built, folder, package, root, run, run_with_input,
-    run_with_name, stored,
+    run_with_name, stored, COMMAND_BLOCKS, INPUT_MOST,
 };
+use compare::generate::block_orders::{rising, touching};
 use compare::generate::small::{self, DATASET, ROOT};
 use compare::library;
 use compare::reader::front::{BLOCK_BYTES, DESCRIBE_WORDS, LOOKUP_WORDS, REPLY_WORDS};
+use compare::reader::{MOST_BLOCKS, MOST_BYTES, MOST_OBJECTS};
 use std::collections::BTreeSet;
 use std::fs;
 use std::path::PathBuf;
@@ -35,8 +37,8 @@ fn long_e(length: usize) -> Vec<u8> {
     image
 }
 
-/// The files of "Small files to try", those at the limits of the command's input, some whose blocks meet and some with
-/// sharings, by the name of their texts.
+/// The files of "Small files to try", one object more than there may be, those at the limits of the command's input, some whose
+/// blocks meet and some with sharings, by the name of their texts.
 fn files() -> Vec<(&'static str, Vec<u8>)> {
     let e_ending = |end| small::e().with("superblock end of file", 0, end).bytes;
     vec![
@@ -48,10 +50,9 @@ fn files() -> Vec<(&'static str, Vec<u8>)> {
         ("h_stored_2", small::h_with(&A_AND_B, 1, 2).bytes),
         ("h_names_b_a", small::h_with(&B_AND_A, 1, 2).bytes),
         ("h_loop", small::h_with(&LOOP, 1, 2).bytes),
-        ("objects_256", small::objects(256).bytes),
-        ("objects_257", small::objects(257).bytes),
-        ("e_65536_bytes", long_e(65_536)),
-        ("e_65537_bytes", long_e(65_537)),
+        ("addresses_1025", small::addresses(MOST_OBJECTS).bytes),
+        ("e_65536_bytes", long_e(INPUT_MOST)),
+        ("e_65537_bytes", long_e(INPUT_MOST + 1)),
         ("no_bytes", Vec::new()),
         ("h_root_at_0", small::h().with("root address", 0, 0).bytes),
         (
@@ -68,6 +69,24 @@ fn files() -> Vec<(&'static str, Vec<u8>)> {
     ]
 }
 
+/// Besides those, for the command: as many objects as its input holds, and its own limit of blocks.
+fn command_files() -> Vec<(&'static str, Vec<u8>)> {
+    let mut all = files();
+    all.extend([
+        ("objects_975", small::packed(INPUT_MOST as u64).bytes),
+        ("blocks_1024", touching(rising, COMMAND_BLOCKS).bytes),
+        ("blocks_1025", touching(rising, COMMAND_BLOCKS + 1).bytes),
+    ]);
+    all
+}
+
+/// Besides those, for C: as many objects as there may be.
+fn c_files() -> Vec<(&'static str, Vec<u8>)> {
+    let mut all = files();
+    all.push(("objects_1024", small::objects(MOST_OBJECTS as u64).bytes));
+    all
+}
+
 /// An audit's text on standard output, nothing else, and status 0.
 fn assert_audit(output: &Output, name: &str) {
     let text = String::from_utf8_lossy(&output.stdout);
@@ -78,7 +97,7 @@ fn assert_audit(output: &Output, name: &str) {
 
 #[test]
 fn the_command_reads_standard_input() {
-    for (name, image) in files() {
+    for (name, image) in command_files() {
         assert_audit(&run_with_input(&program(), &image), name);
     }
 }
@@ -86,7 +105,7 @@ fn the_command_reads_standard_input() {
 #[test]
 fn the_command_reads_a_file() {
     let folder = folder("file");
-    for (name, image) in files() {
+    for (name, image) in command_files() {
         let path = folder.join(name).with_extension("h5");
         fs::write(&path, &image).expect("a file");
         assert_audit(&run_with_name(&program(), &folder, &path), name);
@@ -111,7 +130,7 @@ fn the_command_reads_an_input_in_parts() {
 #[test]
 fn the_command_reads_no_long_input() {
     let folder = folder("long");
-    for length in [65_538, 131_072, 131_872, 1_048_576, 1_048_577, 3_000_000] {
+    for length in [65_538, 131_072, 131_872, MOST_BYTES, MOST_BYTES + 1] {
         let image = long_e(length);
         assert_audit(&run_with_input(&program(), &image), "e_65537_bytes");
         fs::write(folder.join("long.h5"), &image).expect("a file");
@@ -173,7 +192,7 @@ fn the_script_gives_a_status() {
     let folder = folder("script");
     let script = root().join("h5audit");
     let mut met = BTreeSet::new();
-    for (name, image) in files() {
+    for (name, image) in command_files() {
         let file = format!("{name}.h5");
         fs::write(folder.join(&file), &image).expect("a file");
         assert_status(&run_with_name(&script, &folder, &file), name);
@@ -316,8 +335,8 @@ fn words(slice: &str, bytes: &[u8]) -> String {
 
 #[test]
 fn the_c_front_end_leaves_the_stored_words() {
-    for (name, image) in files() {
-        assert_stored(&left_by_c(&image, 1024), &format!("{name}_c"));
+    for (name, image) in c_files() {
+        assert_stored(&left_by_c(&image, MOST_BLOCKS), &format!("{name}_c"));
     }
 }
 
@@ -327,8 +346,9 @@ fn the_c_front_end_at_other_rooms() {
     let e = small::e().bytes;
     assert_stored(&left_by_c(&e, 5), "e_5_blocks_c");
     assert_stored(&left_by_c(&e, 4), "e_4_blocks_c");
-    for (name, image) in files() {
-        assert_stored(&left_by_c(&image, 2000), &format!("{name}_c"));
+    for (name, image) in c_files() {
+        let text = left_by_c(&image, MOST_BLOCKS + 1000);
+        assert_stored(&text, &format!("{name}_c"));
     }
 }
 
@@ -356,7 +376,7 @@ const DESCRIPTIONS: [(&str, &[u8]); 6] = [
 #[test]
 fn lookups_in_h_leave_the_stored_words() {
     let image = small::h().bytes;
-    for room in [6, 7, 1024, 2000] {
+    for room in [6, 7, MOST_BLOCKS, MOST_BLOCKS + 1000] {
         for (name, path) in LOOKUPS {
             let text = left_by(room, LOOKUP_WORDS, |blocks, reply| {
                 library::lookup(&image, path, blocks, reply)
@@ -398,9 +418,12 @@ fn lookups_in_c_leave_the_stored_words() {
 /// A text that no file is compared with is a mistake.
 #[test]
 fn every_text_is_used() {
-    let mut used: Vec<String> = files()
-        .iter()
-        .flat_map(|(name, _)| [format!("{name}.txt"), format!("{name}_c.txt")])
+    let by_command = command_files().into_iter();
+    let by_command = by_command.map(|(name, _)| format!("{name}.txt"));
+    let by_c = c_files().into_iter();
+    let by_c = by_c.map(|(name, _)| format!("{name}_c.txt"));
+    let mut used: Vec<String> = by_command
+        .chain(by_c)
         .chain(["e_5_blocks_c.txt", "e_4_blocks_c.txt", "c_describe_d_c.txt"].map(str::to_string))
         .chain(
             [LOOKUPS, DESCRIPTIONS]

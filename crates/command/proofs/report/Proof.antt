@@ -1,4 +1,4 @@
--- A long input has the first line alone; an audited one has what the audit's contract determines. Room for 256 lines is enough.
+-- A long input has the first line alone; an audited one has what the audit's contract determines. Room for a line of each object is enough.
 use mathlib.Core.Path.{refl}
 use native.Mathlib.Omega.{arith}
 use denote.Ref.{now}

@@ -5,11 +5,10 @@ use mathlib.Core.Path.{_≡_, refl, sym, _∙_}
 use borrow.Author.Tests.{eq-eqb, ne-eqb, not-true, not-false}
 use lib.ListN.{length}
 use Rattle.format.specs.Bytes.{u64, undefinedAddress}
-use Rattle.free_map.proofs.RangeLaws.{map-none}
 use Rattle.free_list.specs.FreeBlocks.{chain}
 use Rattle.free_list.specs.Spanned.{Spanned}
-use Rattle.free_list.proofs.FreeLaws.{Following, free-none, free-undefined, free-start}
-use Rattle.free_list.proofs.FreeLaws.{block-unsound, block-inside, block-mapped, block-spanned, block-last, block-more, free-long}
+use Rattle.free_list.proofs.FreeLaws.{Following, none-held, free-none, free-undefined, free-start}
+use Rattle.free_list.proofs.FreeLaws.{block-unsound, block-inside, block-held, block-spanned, block-last, block-more, free-long}
 use borrow.Author.Needs.{needs}
 use native.Mathlib.Omega.{arith}
 use Rattle.free_list.proofs.free_list.Statement.{statement}
@@ -25,18 +24,11 @@ Inv-loop segment map₀ head at₀ met₀ span₀ map at met span =
 abbrev μ-loop : tie.MeasureT-loop
 μ-loop segment map₀ head at₀ met₀ span₀ map at met span = length segment - met
 
--- the segment's bytes all have cells
-mapped-whole : (c : tie.Else2 Inv-loop μ-loop) →
-    let a = c .before .before .before .before .args in length (now (a .segment)) ≤ 16 * length (now (a .map))
-unfolding undefinedAddress
-mapped-whole c =
-    let p = c .before .before .before .before .pre in p .long (p .some (λ e. omega arith) (λ e. omega arith))
-
 returns : tie.Need-returns Inv-loop μ-loop
 unfolding chain
 returns c =
     let start = c .before .before .before in
-    record { value = free-none _ _ (eq-eqb (start .args .head) 1 (omega arith)); mapped = map-none (start .pre .zeros); long = refl }
+    record { value = free-none _ _ (eq-eqb (start .args .head) 1 (omega arith)); held = none-held (start .pre .zeros); long = refl }
 
 returns-2 : tie.Need-returns-2 Inv-loop μ-loop
 unfolding chain undefinedAddress
@@ -44,7 +36,7 @@ returns-2 c =
     let start = c .before .before .before .before in
     let head = start .args .head in record {
       value = free-undefined _ _ (ne-eqb head 1 (λ e. omega arith)) (eq-eqb head undefinedAddress (omega arith));
-      mapped = map-none (start .pre .zeros);
+      held = none-held (start .pre .zeros);
       long = refl;
     }
 
@@ -61,7 +53,10 @@ loop-holds c =
     )
 
 add-block-requires : tie.Need-add-block-requires Inv-loop μ-loop
-add-block-requires c κs = let l = c .before .before in omega (arith, mapped-whole (l .before), l .loop .inv .2)
+add-block-requires c κs =
+    let l = c .before .before .loop in
+    let start = c .before .before .before .before .before .before .before in
+    (λ h. omega (arith, l .inv .2, start .pre .long (omega (arith, l .inv .2))), (l .inv .1 .held, l .inv .3))
 
 same-length : tie.Need-same-length Inv-loop μ-loop
 same-length c = search needs
@@ -71,7 +66,7 @@ returns-3 c =
     let at-add = c .before .before .before in
     let l = at-add .before .before .before .loop in
     let t = at-add .add-block .ensures in
-    record { value = block-unsound (l .inv .1) (l .inv .3) t (omega arith) (not-true _ (c .if3 .taken)); mapped = tt; long = t .long ∙ l .inv .2 }
+    record { value = block-unsound (l .inv .1) t (omega arith) (not-true _ (c .if3 .taken)); held = tt; long = t .long ∙ l .inv .2 }
 
 -- the block lies in the segment
 inside : (c : tie.Else3 Inv-loop μ-loop) →
@@ -81,7 +76,7 @@ inside : (c : tie.Else3 Inv-loop μ-loop) →
 inside c =
     let at-add = c .before .before .before in
     let l = at-add .before .before .before .loop in
-    block-inside (l .inv .1) (l .inv .3) (at-add .add-block .ensures) (omega arith) (not-false _ (c .if3 .left))
+    block-inside (l .inv .1) (at-add .add-block .ensures) (omega arith) (not-false _ (c .if3 .left))
 
 add-u64-at : tie.Need-add-u64-at Inv-loop μ-loop
 add-u64-at c = omega (arith, inside c .0)
@@ -108,8 +103,8 @@ returns-4 c =
     let l = at-add .before .before .before .loop in
     let t = at-add .add-block .ensures in
     let s = not-false _ (at-test .if3 .left) in record {
-      value = block-last (l .inv .1) (l .inv .3) t (omega arith) s (sym (c .before .u64-at2 .ensures .value) ∙ c .if4 .taken);
-      mapped = block-mapped (l .inv .1) (l .inv .3) t (omega arith) s;
+      value = block-last (l .inv .1) t (omega arith) s (sym (c .before .u64-at2 .ensures .value) ∙ c .if4 .taken);
+      held = block-held (l .inv .1) t (omega arith) s;
       long = t .long ∙ l .inv .2;
     }
 
@@ -126,16 +121,16 @@ loop-again c =
     let l = at-add .before .before .before .loop in
     let t = at-add .add-block .ensures in (
       omega arith,
-      block-more (l .inv .1) (l .inv .3) t (omega arith) (not-false _ (at-test .if3 .left)) (at-next .u64-at2 .ensures .value) (c .if4 .left),
+      block-more (l .inv .1) t (omega arith) (not-false _ (at-test .if3 .left)) (at-next .u64-at2 .ensures .value) (c .if4 .left),
       t .long ∙ l .inv .2,
-      block-spanned (l .inv .1) (l .inv .3) t (omega arith) (at-size .u64-at .ensures .value) (at-widened .widened .ensures),
+      block-spanned (l .inv .1) t (omega arith) (l .inv .3) (at-size .u64-at .ensures .value) (at-widened .widened .ensures),
     )
 
 same-length-3 : tie.Need-same-length-3 Inv-loop μ-loop
 same-length-3 c = search needs
 
 returns-5 : tie.Need-returns-5 Inv-loop μ-loop
-returns-5 c = let l = c .before in record { value = free-long (l .loop .inv .1) (omega arith); mapped = tt; long = l .loop .inv .2 }
+returns-5 c = let l = c .before in record { value = free-long (l .loop .inv .1) (omega arith); held = tt; long = l .loop .inv .2 }
 
 pub free-list-spec : {M : Type 1} → statement M
 free-list-spec =

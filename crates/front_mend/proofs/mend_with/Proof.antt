@@ -7,6 +7,7 @@ use lib.Seq.{length-take-le}
 use denote.Ref.{now}
 use Rattle.format.specs.Answers as definitions
 use Rattle.format.specs.Front.{paddedBytes}
+use Rattle.format.specs.Limits.{objectsMost}
 use Rattle.walk.specs.Lent.{handed}
 use Rattle.mend.specs.Mended.{replyOf}
 use Rattle.front.proofs.Part.{Back, came-back}
@@ -18,8 +19,8 @@ use Rattle.front_mend.proofs.mend_with.Statement.{statement}
 use Rattle.front_mend.proofs.mend_with.Tie as tie
 
 -- the log has the words that are lent
-log-fits : (c : tie.After-log-room) → c .log-room .result ≤ 512
-log-fits c = omega (arith, c .log-room .ensures, log-most)
+log-fits : (c : tie.After-log-room) → c .log-room .result ≤ 2 * objectsMost
+log-fits c = omega (arith, c .log-room .ensures)
 
 -- Where the words of the working list are known.
 lends : (c : tie.After-work-words) →
@@ -59,6 +60,7 @@ mended : (c : tie.After-mend-in) →
     Taken (length (now (a .blocks))) (length (now (a .log))) (length (now (a .reply)))
     (replyOf (handed lent (count c) (list c)) (entries c) (c .mend-in .last .0) (c .mend-in .result))
     (definitions.mend (now (a .image)) lent (length (now (a .log)) / 8) (a .limit))
+unfolding objectsMost
 mended c =
     let s = start c in
     let is = c .mend-in .ensures .1 (4 * s .args .room) (lends (at-words c) .fit) in
@@ -66,6 +68,7 @@ mended c =
     (s .pre .1 .0) (log-words _ _ _ (at-words c .before .log-room .ensures) log-most) (is .reply) (is .most)
 
 entries-fit : (c : tie.After-mend-in) → 2 * c .mend-in .result .entries ≤ length (entries c)
+unfolding objectsMost
 entries-fit c =
     within _ _ _ _ (c .mend-in .kept .1 .1 .0) (log-words _ _ _ (at-words c .before .log-room .ensures) log-most) (mended c .entriesFit)
 
@@ -86,9 +89,11 @@ slice-aggregate-mend-in : tie.Need-slice-aggregate-mend-in
 slice-aggregate-mend-in c = lends (c .before .before) .long
 
 array-borrow-prefix-entries : tie.Need-array-borrow-prefix-entries
+unfolding objectsMost
 array-borrow-prefix-entries c = log-fits (c .before .before .before)
 
 slice-aggregate-mend-in-2 : tie.Need-slice-aggregate-mend-in-2
+unfolding objectsMost
 slice-aggregate-mend-in-2 c =
     let at-log-room = c .before .before .before .before in sym (length-take-le (at-log-room .log-room .result) _ (log-fits at-log-room))
 
@@ -132,6 +137,7 @@ mul-used c =
     record { fits = omega (arith, list-back d .counted, start d .pre .0, start d .good .1 .0 .0) }
 
 mul-logged : tie.Need-mul-logged
+unfolding objectsMost
 mul-logged c =
     let d = c .before .before .before .before .before .before .before .before .before in
     record { fits = omega (arith, mended d .entriesFit, log-most) }

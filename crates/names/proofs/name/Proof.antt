@@ -1,4 +1,4 @@
--- How many bytes the name has, then the map.
+-- How many bytes the name has, then the free blocks.
 use denote.Ref.{now}
 use Prim.Native.Nat.{_+_, _<_}
 use mathlib.Core.List.{[]}
@@ -6,7 +6,8 @@ use mathlib.Core.Path.{sym, _∙_}
 use lib.ListN.{length}
 use Rattle.nul.proofs.NulLaws.{ends}
 use Rattle.names.proofs.NameLaws.{same-check, key-inside, name-fault}
-use Rattle.names.proofs.FormLaws.{name-formless, name-inside, name-unmapped, name-hit, name-missed}
+use Rattle.names.proofs.FormLaws.{name-formless, name-inside, name-alone, name-hit, name-missed}
+use Rattle.names.proofs.ValueLaws.{none-followed}
 use native.Mathlib.Omega.{arith}
 use borrow.Author.Needs.{needs}
 use Rattle.names.proofs.name.Statement.{statement}
@@ -17,7 +18,7 @@ inside : (c : tie.After-enum-told) → let a = c .before .before .before .before
 inside c =
     let start = c .before .before .before .before .before in
     let a = start .args in
-    key-inside (now (a .segment)) (a .ended) (a .off) [] (start .pre) (same-check _ (c .enum-told .given .1) (c .before .before .key .ensures []) .1)
+    key-inside (now (a .segment)) (a .ended) (a .off) [] (start .pre .0) (same-check _ (c .enum-told .given .1) (c .before .before .key .ensures []) .1)
 
 -- the name's NUL is behind it in the segment
 whole : (c : tie.Else1) →
@@ -27,7 +28,7 @@ whole c =
     let told = c .before .before in
     let start = told .before .before .before .before .before in
     let a = start .args in
-    name-inside (now (a .segment)) (a .ended) (a .off) [] (start .pre) (inside told) (c .before .name-size .ensures) (c .if1 .left)
+    name-inside (now (a .segment)) (a .ended) (a .off) [] (start .pre .0) (inside told) (c .before .name-size .ensures) (c .if1 .left)
 
 key-requires : tie.Need-key-requires
 key-requires c κs = search needs
@@ -41,15 +42,15 @@ enum-told c = search needs
 name-size-requires : tie.Need-name-size-requires
 name-size-requires c κs =
     let start = c .before .before .before .before .before in
-    ends (now (start .args .segment)) (start .args .ended) (start .args .off) (start .pre) (inside c)
+    ends (now (start .args .segment)) (start .args .ended) (start .args .off) (start .pre .0) (inside c)
 
 returns : tie.Need-returns
 returns c =
     let sized = c .before in
     let start = sized .before .before .before .before .before .before in
     let a = start .args in
-    λ bs m. record {
-      value = name-formless (now (a .segment)) (a .ended) (a .off) bs (start .pre) (inside (sized .before)) (sized .name-size .ensures) (c .if1 .taken);
+    record {
+      value = name-formless (now (a .segment)) (a .ended) (a .off) _ (start .pre .0) (inside (sized .before)) (sized .name-size .ensures) (c .if1 .taken);
       inside = tt;
     }
 
@@ -59,18 +60,20 @@ returns-2 c =
     let sized = formed .before in
     let start = sized .before .before .before .before .before .before in
     let a = start .args in
-    λ bs m. record {
+    record {
       value =
-          name-unmapped (now (a .segment)) (a .ended) (a .off) bs (start .pre) (inside (sized .before)) (sized .name-size .ensures) (formed .if1 .left)
-          (now (a .map)) (c .if2 .taken) m;
+          name-alone (now (a .segment)) (a .ended) (a .off) _ (start .pre .0) (inside (sized .before)) (sized .name-size .ensures) (formed .if1 .left)
+          (none-followed _ _ (c .if2 .taken));
       inside = whole formed;
     }
 
-add-meets : tie.Need-add-meets
-add-meets c = record { fits = omega (arith, whole (c .before)) }
+add-meets-free : tie.Need-add-meets-free
+add-meets-free c = record { fits = omega (arith, whole (c .before)) }
 
-meets-requires : tie.Need-meets-requires
-meets-requires c κs = (omega arith, omega (arith, whole (c .before)))
+meets-free-requires : tie.Need-meets-free-requires
+meets-free-requires c κs =
+    let start = c .before .before .before .before .before .before .before .before in
+    (start .pre .1, (omega arith, omega (arith, whole (c .before))))
 
 returns-3 : tie.Need-returns-3
 returns-3 c =
@@ -78,15 +81,14 @@ returns-3 c =
     let sized = formed .before in
     let start = sized .before .before .before .before .before .before in
     let a = start .args in
-    λ bs m.
-    let met = sym (c .before .meets .ensures _ bs m (omega (arith, whole formed))) ∙ c .if3 .taken in record {
+    let met = sym (c .before .meets-free .ensures) ∙ c .if3 .taken in record {
       value =
-          name-hit (now (a .segment)) (a .ended) (a .off) bs (start .pre) (inside (sized .before)) (sized .name-size .ensures) (formed .if1 .left) met;
+          name-hit (now (a .segment)) (a .ended) (a .off) _ (start .pre .0) (inside (sized .before)) (sized .name-size .ensures) (formed .if1 .left) met;
       inside = tt;
     }
 
 returns-4 : tie.Need-returns-4
-returns-4 c = λ bs m. record { value = name-fault _ _ (same-check _ (c .before .f .given .1) (c .before .before .before .key .ensures bs)); inside = tt }
+returns-4 c = record { value = name-fault _ _ (same-check _ (c .before .f .given .1) (c .before .before .before .key .ensures _)); inside = tt }
 
 returns-5 : tie.Need-returns-5
 returns-5 c =
@@ -94,10 +96,9 @@ returns-5 c =
     let sized = formed .before in
     let start = sized .before .before .before .before .before .before in
     let a = start .args in
-    λ bs m.
-    let met = sym (c .before .meets .ensures _ bs m (omega (arith, whole formed))) ∙ c .if3 .left in record {
+    let met = sym (c .before .meets-free .ensures) ∙ c .if3 .left in record {
       value =
-          name-missed (now (a .segment)) (a .ended) (a .off) bs (start .pre) (inside (sized .before)) (sized .name-size .ensures) (formed .if1 .left) met;
+          name-missed (now (a .segment)) (a .ended) (a .off) _ (start .pre .0) (inside (sized .before)) (sized .name-size .ensures) (formed .if1 .left) met;
       inside = whole formed;
     }
 
@@ -111,8 +112,8 @@ name-spec =
     name-size-requires
     returns
     returns-2
-    add-meets
-    meets-requires
+    add-meets-free
+    meets-free-requires
     returns-3
     returns-4
     returns-5)

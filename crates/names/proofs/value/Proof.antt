@@ -1,11 +1,12 @@
--- The string that stands there; then the map is empty, or says whether it ends outside the free blocks.
+-- The string that stands there; then there is no free block, or it is known whether the string ends outside them.
 use denote.Ref.{now}
 use Prim.Native.Nat.{_<_}
 use mathlib.Core.List.{[]}
 use mathlib.Core.Path.{sym, _∙_}
 use Rattle.format.specs.Names.{stringAt}
+use Rattle.nul.proofs.NulLaws.{ends}
 use Rattle.names.proofs.NameLaws.{same-check, key-inside, value-fault}
-use Rattle.names.proofs.ValueLaws.{value-unmapped, value-sound, value-in-free}
+use Rattle.names.proofs.ValueLaws.{value-alone, none-followed, value-sound, value-in-free}
 use native.Mathlib.Omega.{arith}
 use borrow.Author.Needs.{needs}
 use Rattle.names.proofs.value.Statement.{statement}
@@ -16,7 +17,7 @@ inside : (c : tie.After-enum-told) → let a = c .before .before .before .before
 inside c =
     let start = c .before .before .before .before .before in
     let a = start .args in
-    key-inside (now (a .segment)) (a .ended) (a .off) [] (start .pre) (same-check _ (c .enum-told .given .1) (c .before .before .key .ensures []) .1)
+    key-inside (now (a .segment)) (a .ended) (a .off) [] (start .pre .0) (same-check _ (c .enum-told .given .1) (c .before .before .key .ensures []) .1)
 
 key-requires : tie.Need-key-requires
 key-requires c κs = search needs
@@ -32,35 +33,33 @@ returns c =
     let told = c .before in
     let start = told .before .before .before .before .before in
     let a = start .args in
-    λ bs m k.
-    let empty = value-unmapped (now (a .segment)) (a .ended) (a .off) bs (start .pre) (inside told) (now (a .map)) (c .if1 .taken) m in
-    (stringAt (now (a .segment)) (a .off), empty)
+    let alone = value-alone (now (a .segment)) (a .ended) (a .off) _ (start .pre .0) (inside told) (none-followed _ _ (c .if1 .taken)) in
+    (stringAt (now (a .segment)) (a .off), alone)
 
-ends-outside-requires : tie.Need-ends-outside-requires
-ends-outside-requires c κs =
+outside-free-requires : tie.Need-outside-free-requires
+outside-free-requires c κs =
     let told = c .before in
-    omega (arith, inside told, told .before .before .before .before .before .pre .within)
+    let start = told .before .before .before .before .before in
+    (ends (now (start .args .segment)) (start .args .ended) (start .args .off) (start .pre .0) (inside told), start .pre .1)
 
 returns-2 : tie.Need-returns-2
 returns-2 c =
     let told = c .before .before .before in
     let start = told .before .before .before .before .before in
     let a = start .args in
-    λ bs m k.
-    let e = c .before .ends-outside .ensures bs m k (omega arith) in
-    (stringAt (now (a .segment)) (a .off), value-sound (now (a .segment)) (a .ended) (a .off) bs (start .pre) (inside told) (sym e ∙ c .if2 .taken))
+    let e = c .before .outside-free .ensures in
+    (stringAt (now (a .segment)) (a .off), value-sound (now (a .segment)) (a .ended) (a .off) _ (start .pre .0) (inside told) (sym e ∙ c .if2 .taken))
 
 returns-3 : tie.Need-returns-3
-returns-3 c = λ bs m k. value-fault _ _ (same-check _ (c .before .f .given .1) (c .before .before .before .key .ensures bs))
+returns-3 c = value-fault _ _ (same-check _ (c .before .f .given .1) (c .before .before .before .key .ensures _))
 
 returns-4 : tie.Need-returns-4
 returns-4 c =
     let told = c .before .before .before in
     let start = told .before .before .before .before .before in
     let a = start .args in
-    λ bs m k.
-    let e = c .before .ends-outside .ensures bs m k (omega arith) in
-    value-in-free (now (a .segment)) (a .ended) (a .off) bs (start .pre) (inside told) (sym e ∙ c .if2 .left)
+    let e = c .before .outside-free .ensures in
+    value-in-free (now (a .segment)) (a .ended) (a .off) _ (start .pre .0) (inside told) (sym e ∙ c .if2 .left)
 
 pub value-spec : {M : Type 1} → statement M
 value-spec =
@@ -70,7 +69,7 @@ value-spec =
     enum-known-f
     enum-told
     returns
-    ends-outside-requires
+    outside-free-requires
     returns-2
     returns-3
     returns-4)

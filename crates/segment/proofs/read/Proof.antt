@@ -41,7 +41,7 @@ returns-2 c =
     let marks = c .before .before .before in
     let free = marks .before .before .before in
     let list = free .before .before .before .before in
-    list-sound _ _ _ _ _ _ _ (free .free .given .1) (list .free-list .ensures) (marks .mark .ensures) (c .last-nul .ensures)
+    list-sound _ _ _ _ _ _ _ (free .free .given .1) (list .free-list .ensures) (search needs) (marks .mark .ensures) (c .last-nul .ensures)
 
 pub read-spec : {M : Type 1} → statement M
 read-spec =

@@ -3,7 +3,7 @@
 //! median over several runs of the median over many calls.
 
 use compare::generate::block_orders::{touching, ORDERS};
-use compare::generate::hostile::{Hostile, KINDS};
+use compare::generate::hostile::{Hostile, Kind, FREE_KINDS, KINDS};
 use compare::generate::{limits, small};
 use compare::library;
 use compare::reader::front::{audit_bytes, lookup_bytes, BLOCK_BYTES, REPLY_WORDS};
@@ -16,8 +16,11 @@ const RUNS: (usize, Duration) = (7, Duration::from_millis(150));
 const SHORT_RUNS: (usize, Duration) = (5, Duration::from_millis(40));
 
 const KIB: usize = 1024;
-/// The last is twice the one before it.
-const SIZES: [usize; 4] = [64 * KIB, 256 * KIB, 512 * KIB, 1024 * KIB];
+const MIB: usize = 1024 * KIB;
+/// In each list of sizes the last is twice the one before it.
+const SIZES: [usize; 5] = [64 * KIB, 256 * KIB, MIB, 8 * MIB, 16 * MIB];
+/// For heaps with free blocks: above 1 MiB the library follows the free list for each name and value.
+const FREE_SIZES: [usize; 4] = [64 * KIB, 256 * KIB, 512 * KIB, MIB];
 
 struct Slices {
     blocks: Vec<u8>,
@@ -103,15 +106,31 @@ fn own_sizes(slices: &mut Slices) {
     }
 }
 
-/// Of every kind of hostile file the ratio at each size, both times at the last, and how much longer than at half of it.
-fn hostile(what: &str, calls: [Call; 2], wanted: &str, slices: &mut Slices) {
-    println!("\n| {what} | 64 KiB | 256 KiB | 512 KiB | 1 MiB | library, us | plain reader, us | twice the size |");
-    println!("|---|---|---|---|---|---|---|---|");
-    for (name, make) in KINDS {
+fn size_name(size: &usize) -> String {
+    match size / MIB {
+        0 => format!("{} KiB", size / KIB),
+        mib => format!("{mib} MiB"),
+    }
+}
+
+/// Kinds of hostile files, and the sizes at which they are made.
+type Table<'a> = (&'a [Kind], &'a [usize]);
+
+const TABLES: [Table; 2] = [(&KINDS, &SIZES), (&FREE_KINDS, &FREE_SIZES)];
+
+/// Of every kind the ratio at each size, both times at the last, and how much longer than at half of it.
+fn hostile(what: &str, calls: [Call; 2], (kinds, sizes): Table, wanted: &str, slices: &mut Slices) {
+    let names: Vec<String> = sizes.iter().map(size_name).collect();
+    println!(
+        "\n| {what} | {} | library, us | plain reader, us | twice the size |",
+        names.join(" | ")
+    );
+    println!("|{}", "---|".repeat(sizes.len() + 4));
+    for (name, make) in kinds {
         if !name.contains(wanted) {
             continue;
         }
-        let times: Vec<[u64; 2]> = SIZES
+        let times: Vec<[u64; 2]> = sizes
             .iter()
             .map(|size| measure(calls, &make(*size), SHORT_RUNS, slices))
             .collect();
@@ -119,7 +138,7 @@ fn hostile(what: &str, calls: [Call; 2], wanted: &str, slices: &mut Slices) {
             .iter()
             .map(|times| format!("{:.2}", ratio(*times)))
             .collect();
-        let [half, whole] = [times[SIZES.len() - 2], times[SIZES.len() - 1]];
+        let [half, whole] = [times[sizes.len() - 2], times[sizes.len() - 1]];
         let growth = whole[0] as f64 / half[0] as f64;
         let [library, reader] = whole.map(|time| time as f64 / 1000.0);
         println!(
@@ -140,6 +159,9 @@ fn main() {
         own_sizes(&mut slices);
     }
     let wanted = wanted.unwrap_or_default();
-    hostile("audit", AUDIT, &wanted, &mut slices);
-    hostile("lookup", LOOKUP, &wanted, &mut slices);
+    for (what, calls) in [("audit", AUDIT), ("lookup", LOOKUP)] {
+        for table in TABLES {
+            hostile(what, calls, table, &wanted, &mut slices);
+        }
+    }
 }

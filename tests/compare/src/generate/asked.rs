@@ -1,6 +1,7 @@
 //! Lookups and descriptions by name, each with the answers that document 01 gives.
 
 use super::dataset::{Dataset, Datatype, Layout};
+use super::limits::eight_each;
 use super::paths::Answer;
 use super::plan::{Content, Link, Object, Plan, Target};
 use super::sheet::Sheet;
@@ -8,6 +9,7 @@ use super::small::{self, C_COMMITTED, C_DATASET, DATASET, ROOT};
 use super::special::{self, link, root};
 use super::write::{write, File};
 use super::UNDEFINED;
+use crate::reader::{MOST_BLOCKS, MOST_OBJECTS};
 
 pub struct Asked {
     pub name: String,
@@ -29,7 +31,7 @@ impl Asked {
 }
 
 /// Room for every block that a walk may enter.
-const FULL: usize = 1024;
+const FULL: usize = MOST_BLOCKS;
 
 fn asked(
     name: &str,
@@ -289,7 +291,7 @@ fn other_addresses_in_h() -> Vec<Asked> {
 fn rooms_in_h() -> Vec<Asked> {
     let image = &small::h().bytes;
     let mut all = Vec::new();
-    for lent in (0..=12).chain([1023, 1024, 1025, 3000]) {
+    for lent in (0..=12).chain([FULL - 1, FULL, FULL + 1, 3 * FULL]) {
         let mut ask = |path: &[u8], needed: usize, lookup: Answer, description: u32| {
             all.push(if lent < needed {
                 refused("H", image, path, lent, 13)
@@ -316,7 +318,7 @@ fn continued(count: usize, layout: Layout) -> File {
         layout,
     };
     let mut object = Object::new(Content::Dataset(dataset));
-    object.parents = vec![0; count];
+    object.parents = eight_each(count);
     let links = vec![link("d", Target::Object(1))];
     write(&Plan::new(vec![root(links), object]), 9)
 }
@@ -324,7 +326,7 @@ fn continued(count: usize, layout: Layout) -> File {
 /// Headers that need more blocks than the group: the superblock, the header and its continuations, then the data.
 fn rooms_of_the_last_header() -> Vec<Asked> {
     let mut all = Vec::new();
-    for count in [4, 5, 6, 9, 1021, 1022, 1023] {
+    for count in [4, 5, 6, 9, FULL - 3, FULL - 2, FULL - 1] {
         for (layout, data) in [
             (Layout::Stored(4), 1),
             (Layout::At(UNDEFINED, 4), 0),
@@ -393,19 +395,20 @@ fn limits() -> Vec<Asked> {
         refused(name, &looped, &loops(512, b"/"), FULL, 14),
         refused(name, &looped, &loops(512, b"/a"), FULL, 14),
     ];
+    let files = special::all();
     let named = |name: &str| {
-        let special = special::all().into_iter().find(|file| file.name == name);
-        special.expect("a special file of that name").sheet.bytes
+        let special = files.iter().find(|file| file.name == name);
+        &special.expect("a special file of that name").sheet.bytes
     };
-    all.extend(long_names(&named("name of 255")));
-    let many = named("257 objects");
-    all.push(refused("257 objects", &many, b"/257", FULL, 15));
-    all.push(refused("257 objects", &many, b"/256/x", FULL, 17));
-    let many = small::objects(257).bytes;
+    all.extend(long_names(named("name of 255")));
+    let (name, many) = ("1,025 objects", named("1,025 objects"));
+    all.push(refused(name, many, b"/1025", FULL, 15));
+    all.push(refused(name, many, b"/1024/x", FULL, 17));
+    let many = small::objects(MOST_OBJECTS as u64 + 1).bytes;
     let last = many.len() as u64 - 40;
-    all.push(asked("257 objects", &many, b"/256", FULL, (0, 3, last), 20));
-    let many = named("1,025 blocks");
-    all.push(refused("1,025 blocks", &many, b"/x", FULL, 13));
+    all.push(asked(name, &many, b"/1024", FULL, (0, 3, last), 20));
+    let (name, many) = ("8,193 blocks", named("8,193 blocks"));
+    all.push(refused(name, many, b"/x", FULL, 13));
     all
 }
 

@@ -13,7 +13,7 @@ pub const FIRST: u64 = TREE + 664;
 pub const OTHERS: usize = 5;
 /// A message without a body, and one that names a continuation.
 const EMPTY: u64 = 8;
-const LINK: u64 = 24;
+pub const LINK: u64 = 24;
 
 /// Where a continuation lies: its address, from that of the first, and its length.
 #[derive(Clone, Copy, Debug)]

@@ -7,9 +7,22 @@ use super::random::Random;
 use super::sheet::Sheet;
 use super::write::write;
 use super::{files, special};
+use crate::reader::MOST_BLOCKS;
 
 /// So many images come from one file: the file itself and damaged copies.
 const COPIES: u64 = 25;
+
+/// Longer files take too long for so many calls. Other tests read all special files.
+const LONGEST: usize = 1 << 20;
+
+/// The rooms that most images are read with, besides one that is enough.
+pub const SMALL_ROOMS: std::ops::RangeInclusive<usize> = 0..=12;
+
+/// Room for all blocks of an image, or for as many as a walk may enter. A block has 8 bytes or more, or it is data, whose
+/// header has twice as many. Short lists keep the many calls on small images quick.
+pub fn full_room(image: &[u8]) -> usize {
+    (image.len() / 8).clamp(SMALL_ROOMS.end() + 1, MOST_BLOCKS)
+}
 
 pub struct Case<'a> {
     /// The file that the image comes from.
@@ -61,7 +74,9 @@ impl Case<'_> {
 /// Calls `visit` with images, `cases` times or a few more.
 pub fn each(cases: u64, mut visit: impl FnMut(&Case)) {
     let mut done = 0;
-    for (number, special) in special::all().iter().enumerate() {
+    let mut specials = special::all();
+    specials.retain(|special| special.sheet.bytes.len() <= LONGEST);
+    for (number, special) in specials.iter().enumerate() {
         let large = special.sheet.bytes.len() > 60_000;
         let copies = if large { 2 } else { COPIES };
         done += copies;

@@ -1,6 +1,6 @@
 //! Files on which a slow search shows: each is sound, so that it is read to its end, and as long as asked for.
 
-use super::block_orders::{self, touching, Order};
+use super::block_orders::{self, touching, Order, FIRST, LINK, OTHERS as OTHER_BLOCKS};
 use super::group::{write_heap, write_node, write_symbols, Child, Entry};
 use super::header::{self, Message};
 use super::plan::{Content, Group, Object, Plan, Target};
@@ -10,7 +10,7 @@ use super::special::{link, root};
 use super::superblock::Superblock;
 use super::write::write;
 use super::UNDEFINED;
-use crate::reader::MOST_BLOCKS;
+use crate::reader::{MOST_BLOCKS, MOST_OBJECTS};
 
 /// A file, and the path of an object in it.
 pub struct Hostile {
@@ -18,10 +18,10 @@ pub struct Hostile {
     pub path: Vec<u8>,
 }
 
-/// A kind of file by its name, made of any length from 64 KiB on.
+/// A kind of file by its name, made of any length from 64 KiB on up to the limit.
 pub type Kind = (&'static str, fn(usize) -> Hostile);
 
-pub const KINDS: [Kind; 22] = [
+pub const KINDS: [Kind; 17] = [
     ("chain, rising", |size| chain(size, block_orders::rising)),
     ("chain, falling", |size| chain(size, block_orders::falling)),
     ("chain, inward", |size| chain(size, block_orders::inward)),
@@ -37,6 +37,12 @@ pub const KINDS: [Kind; 22] = [
     ("names of 255 bytes", |size| names(size, 255, b"")),
     ("long keys", keys),
     ("one long value", |size| values(size, false)),
+    ("tree of level 8", |size| deep(size, 5)),
+    ("tree of level 8, long names", |size| deep(size, 255)),
+];
+
+/// The kinds with free blocks.
+pub const FREE_KINDS: [Kind; 5] = [
     ("one long value, free behind", |size| values(size, true)),
     ("free blocks, rising", |size| {
         free(size, block_orders::rising)
@@ -48,18 +54,18 @@ pub const KINDS: [Kind; 22] = [
         free(size, block_orders::random)
     }),
     ("names and free blocks", names_and_free),
-    ("tree of level 8", |size| deep(size, 5)),
-    ("tree of level 8, long names", |size| deep(size, 255)),
 ];
 
 const ROOT: u64 = 96;
 /// A header with a symbol table message or a datatype message.
 const HEADER: u64 = 40;
 const ENTRY: usize = 40;
-/// More than the superblock, the root's header, tree and heap, and the head of a symbol node.
-const OTHERS: usize = 512;
+/// More than the superblock, the root's header, tree and heap, and what symbol nodes have besides their entries.
+const OTHERS: usize = 1024;
 /// The least size of a free block.
 const FREE: usize = 16;
+/// The most entries of a symbol node: its count has 16 bits, and it has room for an even number.
+const NODE_ENTRIES: usize = 65_534;
 
 /// The root group of a file with committed datatypes behind its header.
 #[derive(Default)]
@@ -105,10 +111,12 @@ impl Root {
         self.free_head = place(order[0]);
     }
 
-    /// All entries in one symbol node, with the last one's name as the key behind it.
-    fn one_node(&mut self, entries: Vec<Entry>) {
-        let key = entries.last().expect("an entry").name;
-        self.nodes = vec![(entries, key)];
+    /// All entries in as few symbol nodes as can be, each with its last one's name as the key behind it.
+    fn few_nodes(&mut self, entries: Vec<Entry>) {
+        let nodes = entries.len().div_ceil(NODE_ENTRIES);
+        let node = |some: &[Entry]| (some.to_vec(), some[some.len() - 1].name);
+        let some = entries.len().div_ceil(nodes);
+        self.nodes = entries.chunks(some).map(node).collect();
     }
 
     /// The file, of so many bytes.
@@ -183,15 +191,19 @@ fn with_path(root: &Root, size: usize, name: &[u8]) -> Hostile {
 
 /// A header that goes on in as many continuations as there is room for, each of which names the next.
 fn chain(size: usize, order: Order) -> Hostile {
+    let fitting = (size - FIRST as usize) / LINK as usize + OTHER_BLOCKS;
     Hostile {
-        image: filled(touching(order, MOST_BLOCKS).bytes, size),
+        image: filled(touching(order, fitting.min(MOST_BLOCKS)).bytes, size),
         path: b"/".to_vec(),
     }
 }
 
+/// More than an empty group takes with its entry and its name. It has four blocks, so that there are enough of these.
+const GROUP: usize = 200;
+
 /// A root that names as many empty groups as there is room for.
 fn groups(size: usize) -> Hostile {
-    let count = (MOST_BLOCKS - 6) / 4;
+    let count = ((size - OTHERS) / GROUP).min(OBJECTS);
     let links = (1..=count).map(|number| link(counter(number, 5), Target::Object(number)));
     let mut objects = vec![root(links.collect())];
     for _ in 0..count {
@@ -237,29 +249,34 @@ fn messages(size: usize) -> Hostile {
 }
 
 /// How many objects there may be besides the root.
-const OBJECTS: usize = 255;
+const OBJECTS: usize = MOST_OBJECTS - 1;
 
-fn last_object(_: usize) -> usize {
-    OBJECTS - 1
+fn last_object(_: usize, objects: usize) -> usize {
+    objects - 1
 }
 
-fn spread_object(turn: usize) -> usize {
-    7919 * turn % OBJECTS
+fn spread_object(turn: usize, objects: usize) -> usize {
+    7919 * turn % objects
 }
 
-/// One link to each object, then links to objects by their turn.
-fn links(size: usize, object: fn(usize) -> usize) -> Hostile {
+/// One link to each object, then links to objects by their turn. Of a short file at most a third is objects and their links.
+fn links(size: usize, object: fn(usize, usize) -> usize) -> Hostile {
     let mut root = Root::new();
-    root.objects = OBJECTS as u64;
-    let used = OTHERS + HEADER as usize * OBJECTS;
+    let objects = (size / 256).min(OBJECTS);
+    root.objects = objects as u64;
+    let used = OTHERS + HEADER as usize * objects;
     let count = (size - used) / (ENTRY + 6);
     let mut entries = Vec::new();
     for turn in 0..count {
-        let target = if turn < OBJECTS { turn } else { object(turn) };
+        let target = if turn < objects {
+            turn
+        } else {
+            object(turn, objects)
+        };
         let name = root.string(&counter(turn, 5));
         entries.push(hard(name, object_at(target as u64)));
     }
-    root.one_node(entries);
+    root.few_nodes(entries);
     with_path(&root, size, &counter(count - 1, 5))
 }
 
@@ -280,7 +297,7 @@ fn names(size: usize, bytes: usize, behind: &[u8]) -> Hostile {
         root.segment.extend_from_slice(behind);
         entries.push(hard(name, ROOT));
     }
-    root.one_node(entries);
+    root.few_nodes(entries);
     with_path(&root, size, &name_of(count - 1, bytes))
 }
 
@@ -320,7 +337,7 @@ fn values(size: usize, free_behind: bool) -> Hostile {
             scratch: value,
         });
     }
-    root.one_node(entries);
+    root.few_nodes(entries);
     with_path(&root, size, &counter(count - 1, 5))
 }
 
@@ -341,14 +358,14 @@ fn names_and_free(size: usize) -> Hostile {
         entries.push(hard(name, ROOT));
     }
     root.free(&block_orders::random(size / 2 / FREE));
-    root.one_node(entries);
+    root.few_nodes(entries);
     with_path(&root, size, &counter(count - 1, 5))
 }
 
 /// A tree of level 8 whose nodes have at most two children, over at most 256 symbol nodes.
 fn deep(size: usize, bytes: usize) -> Hostile {
-    // Behind the nodes of the tree.
-    let left = size - 24 * 1024;
+    // Behind the nodes of the tree; the last symbol node may have few entries.
+    let left = size - 24 * 1024 - size / 256;
     let count = left / (ENTRY + (bytes + 1).next_multiple_of(8));
     let links = (0..count).map(|number| link(name_of(number, bytes), Target::Object(0)));
     let mut root = root(links.collect());

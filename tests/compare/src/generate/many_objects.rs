@@ -7,17 +7,17 @@ use super::random::Random;
 use super::sheet::Sheet;
 use super::small::{committed_message, ROOT};
 use super::superblock::Superblock;
+use crate::reader::MOST_BYTES;
 
 /// The superblock and the root's blocks lie below this address, the other objects from there on.
-const OBJECTS: u64 = 32_768;
-const LONGEST: u64 = 1 << 20;
+const OBJECTS: u64 = 131_072;
 
-/// How far from each other objects may lie.
-pub const STRIDES: [u64; 8] = [40, 48, 64, 256, 1024, 2048, 4000, 4096];
+/// How far from each other objects may lie. With the last, a file has no room for as many as there may be.
+pub const STRIDES: [u64; 8] = [40, 48, 64, 256, 1024, 4096, 16_000, 16_384];
 
 /// So many objects besides the root, fewer if a file has no room for them, found in that order. Some have more links.
 pub fn many(objects: usize, order: Order, stride: u64) -> (Sheet, usize) {
-    let room = (LONGEST - OBJECTS) / stride;
+    let room = (MOST_BYTES as u64 - OBJECTS) / stride;
     let objects = objects.min(room as usize);
     let mut random = Random::new(objects as u64 + stride);
     let address = |object: usize| OBJECTS + stride * object as u64;
@@ -34,7 +34,7 @@ pub fn many(objects: usize, order: Order, stride: u64) -> (Sheet, usize) {
     let mut entries = Vec::new();
     for (number, &address) in targets.iter().enumerate() {
         entries.push(Entry {
-            name: segment.string(format!("{number:03}").as_bytes()),
+            name: segment.string(format!("{number:04}").as_bytes()),
             address,
             kind: 0,
             scratch: 0,

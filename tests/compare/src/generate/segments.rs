@@ -52,11 +52,11 @@ struct Segment {
     edges: Vec<usize>,
 }
 
-/// Everything of a file that depends on its seed.
-pub fn edges(seed: u64) -> Edges {
+/// Everything of a file that depends on its seed. So many bytes, a multiple of 16, stand before all items of the segment.
+pub fn edges(seed: u64, before: usize) -> Edges {
     let mut random = Random::new(seed);
     let names = names(&mut random);
-    let mut segment = Segment::new(random, &names, (seed % 16) as usize);
+    let mut segment = Segment::new(random, &names, (seed % 16) as usize, before);
     let entries = segment.entries();
     // Of four files one is left as it is, and one has two changes.
     let changes = [0, 1, 1, 2][(seed / 16 % 4) as usize];
@@ -102,11 +102,11 @@ fn names(random: &mut Random) -> Vec<Vec<u8>> {
 }
 
 impl Segment {
-    /// All items in any order; `odd` is the length modulo 16.
-    fn new(random: Random, names: &[Vec<u8>], odd: usize) -> Segment {
+    /// All items in any order, behind so many bytes; `odd` is the length modulo 16.
+    fn new(random: Random, names: &[Vec<u8>], odd: usize, before: usize) -> Segment {
         let mut segment = Segment {
             random,
-            bytes: Vec::new(),
+            bytes: vec![b'b'; before],
             free: Vec::new(),
             head: 1,
             names: vec![0; names.len()],

@@ -9,6 +9,7 @@ use super::sheet::Sheet;
 use super::special::{link, root, special, Special};
 use super::write::write;
 use super::UNDEFINED;
+use crate::reader::MOST_OBJECTS;
 
 /// Files with two faults, one or none.
 pub fn all() -> Vec<Special> {
@@ -338,7 +339,7 @@ fn own_messages() -> Vec<Special> {
 /// A root group with so many committed datatypes below it, the last with these messages, and one more without a name.
 fn named(count: usize, last: Object) -> Sheet {
     let links = (1..=count)
-        .map(|number| link(format!("{number:03}"), Target::Object(number)))
+        .map(|number| link(format!("{number:04}"), Target::Object(number)))
         .collect();
     let mut objects = vec![root(links)];
     objects.resize(count, committed());
@@ -366,35 +367,39 @@ fn last_message(sheet: &Sheet, field: &str) -> u64 {
     last.expect("a field of that name") as u64 - 8
 }
 
-/// 256 objects, some of them found by sharings, and a 257th.
+/// How many objects there may be besides the root.
+const MOST: usize = MOST_OBJECTS - 1;
+
+/// As many objects as there may be, some of them found by sharings, and one more.
 fn limits() -> Vec<Special> {
     let mut all = Vec::new();
     let shared = |object| Attribute::shared(2, object).message();
     let bad = || Message::step(2, 0, &[]);
     // A later step of an object with one message stands before an earlier one.
     for (name, count, steps, number) in [
-        ("256th by attribute", 254, vec![shared(255)], 0),
-        ("257th by attribute", 255, vec![shared(256)], 12),
+        ("last by attribute", MOST - 1, vec![shared(MOST)], 0),
+        ("one more by attribute", MOST, vec![shared(MOST + 1)], 12),
         (
-            "257th by attribute, then 3",
-            255,
-            vec![bad(), shared(256)],
+            "one more by attribute, then 3",
+            MOST,
+            vec![bad(), shared(MOST + 1)],
             12,
         ),
-        ("256 objects, one shared", 255, vec![shared(7)], 0),
-        ("256 objects, the root shared", 255, vec![shared(0)], 10),
+        ("most objects, one shared", MOST, vec![shared(7)], 0),
+        ("most objects, the root shared", MOST, vec![shared(0)], 10),
     ] {
         let sheet = named(count, with_steps(committed(), steps));
         let place = last_message(&sheet, "attribute version");
         all.push(special(name, sheet, number).at(place));
     }
-    let last = with_steps(committed(), vec![shared(256), bad()]);
-    all.push(special("3, then 257th by attribute", named(255, last), 3));
+    let last = with_steps(committed(), vec![shared(MOST + 1), bad()]);
+    let name = "3, then one more by attribute";
+    all.push(special(name, named(MOST, last), 3));
     for (name, count, object, number) in [
-        ("256th by dataset", 254, 255, 0),
-        ("257th by dataset", 255, 256, 12),
-        ("256 objects, a dataset shares one", 255, 7, 0),
-        ("256 objects, a dataset shares the root", 255, 0, 10),
+        ("last by dataset", MOST - 1, MOST, 0),
+        ("one more by dataset", MOST, MOST + 1, 12),
+        ("most objects, a dataset shares one", MOST, 7, 0),
+        ("most objects, a dataset shares the root", MOST, 0, 10),
     ] {
         let sheet = named(count, dataset(sharing(object)));
         let space = sheet.with("dataspace version", 0, 0);
@@ -405,17 +410,17 @@ fn limits() -> Vec<Special> {
         let place = last_message(&sheet, "shared version");
         all.push(special(name, sheet, number).at(place));
     }
-    let sheet = unnamed(255, 256);
+    let sheet = unnamed(MOST, MOST + 1);
     let place = last_message(&sheet, "attribute version");
-    all.push(special("257 by attributes", sheet, 12).at(place));
-    let sheet = unnamed(255, 0);
+    all.push(special("one more by attributes", sheet, 12).at(place));
+    let sheet = unnamed(MOST, 0);
     let root = sheet.value(sheet.field("root address", 0));
-    all.push(special("256 by attributes, the root too", sheet, 10).at(root));
-    all.push(special("255 by attributes", unnamed(254, 1), 0));
-    all.push(special("256 by attributes", unnamed(254, 255), 0));
+    all.push(special("most by attributes, the root too", sheet, 10).at(root));
+    all.push(special("one less by attributes", unnamed(MOST - 1, 1), 0));
+    all.push(special("most by attributes", unnamed(MOST - 1, MOST), 0));
     all.push(special(
-        "256 by attributes, one again",
-        unnamed(255, 255),
+        "most by attributes, one again",
+        unnamed(MOST, MOST),
         0,
     ));
     all

@@ -24,14 +24,18 @@ pub fn e() -> Sheet {
 }
 
 pub fn write_superblock(sheet: &mut Sheet, end: u64) {
-    let head = Superblock {
+    superblock(end).write(sheet);
+}
+
+/// That of E and H, in a file that ends there.
+fn superblock(end: u64) -> Superblock {
+    Superblock {
         version: 0,
         leaf_k: 4,
         internal_k: 16,
         end,
         root: ROOT,
-    };
-    head.write(sheet);
+    }
 }
 
 fn write_root(sheet: &mut Sheet, end: u64, stored: u32) {
@@ -160,40 +164,114 @@ pub fn committed_message() -> Message {
     Message::step(3, 0, &[0x13, 0, 0, 0, 1, 0, 0, 0, 0, 0, 0, 0, 0, 0, 0, 0])
 }
 
-/// The root group of E with names for so many committed datatypes less one. A header's stored count is its number, so
-/// that each can be told from the others. In order: tree, heap, segment, symbol nodes, headers.
+/// The leaf K of a group with so many names that all its symbol nodes hang below one tree node, and the bytes of each.
+const MANY_K: u64 = 16;
+const MANY_NODE: u64 = 8 + 80 * MANY_K;
+
+/// A root group like that of E, but with names for so many committed datatypes less one. A header's stored count is its
+/// number, so that each can be told from the others. In order: tree, heap, segment, symbol nodes, headers.
 pub fn objects(count: u64) -> Sheet {
-    let mut segment = Segment::new();
-    let names: Vec<u64> = (1..count)
-        .map(|number| segment.string(format!("{number:03}").as_bytes()))
-        .collect();
-    let nodes = 712 + segment.sheet.bytes.len() as u64;
-    let headers = nodes + 328 * names.len().div_ceil(8) as u64;
-    let mut sheet = Sheet::default();
-    write_heap(&mut sheet, 680, 1, 712, &segment.sheet);
-    let mut children = Vec::new();
-    for (number, some) in names.chunks(8).enumerate() {
-        let address = nodes + 328 * number as u64;
-        let first = headers + 40 * 8 * number as u64;
-        write_symbols(&mut sheet, address, &entries(some, first));
-        let key = some[some.len() - 1];
-        children.push(Child { address, key });
-    }
-    write_node(&mut sheet, TREE, 0, 0, &children);
+    let (mut sheet, headers) = many_names(count - 1, 40);
     for number in 1..count {
         let messages = vec![committed_message()];
         let place = headers + 40 * (number - 1);
         header::write(&mut sheet, &[place], number as u32, &[messages]);
     }
-    let end = sheet.reserve(0);
-    write_root(&mut sheet, end, 1);
+    end_many(sheet)
+}
+
+/// The same group with names for so many addresses, one behind the other, and no headers there: it fits into few bytes.
+pub fn addresses(count: usize) -> Sheet {
+    end_many(many_names(count as u64, 1).0)
+}
+
+/// Tree, heap, segment and symbol nodes of a root group with so many names, whose objects come behind these so many bytes
+/// apart; gives the address of the first.
+fn many_names(count: u64, apart: u64) -> (Sheet, u64) {
+    let mut segment = Segment::new();
+    let names: Vec<u64> = (1..=count)
+        .map(|number| segment.string(format!("{number:04}").as_bytes()))
+        .collect();
+    let nodes = 712 + segment.sheet.bytes.len() as u64;
+    let in_node = 2 * MANY_K;
+    let objects = nodes + MANY_NODE * count.div_ceil(in_node);
+    let mut sheet = Sheet::default();
+    sheet.reserve(objects);
+    write_heap(&mut sheet, 680, 1, 712, &segment.sheet);
+    let mut children = Vec::new();
+    for (number, some) in (0..).zip(names.chunks(in_node as usize)) {
+        let address = nodes + MANY_NODE * number;
+        let first = objects + apart * in_node * number;
+        write_symbols(&mut sheet, address, &entries(some, first, apart));
+        let key = some[some.len() - 1];
+        children.push(Child { address, key });
+    }
+    write_node(&mut sheet, TREE, 0, 0, &children);
+    (sheet, objects)
+}
+
+fn end_many(mut sheet: Sheet) -> Sheet {
+    let head = Superblock {
+        leaf_k: MANY_K as u16,
+        ..superblock(sheet.reserve(0))
+    };
+    head.write(&mut sheet);
+    header::write(&mut sheet, &[ROOT], 1, &[vec![table(TREE)]]);
     sheet
 }
 
-/// Hard links of these names to headers of 40 bytes from `first` on.
-fn entries(names: &[u64], first: u64) -> Vec<Entry> {
+/// The bytes of an object in `packed`: a header whose message has none, an entry, and a name of two letters.
+const PACKED: u64 = 24 + 40 + 3;
+
+/// A root group with names for committed datatypes in as few bytes as can be: as many as so many bytes hold.
+pub fn packed(bytes: u64) -> Sheet {
+    let (tree, heap, segment_at) = (136, 200, 232);
+    // An even number. Segment and symbol node have 8 bytes besides.
+    let count = (bytes - (segment_at + 16)) / PACKED / 2 * 2;
+    let (segment, names) = two_letters(count);
+    let symbols = segment_at + segment.bytes.len() as u64;
+    let headers = symbols + 8 + 40 * count;
+    let mut sheet = Sheet::default();
+    write_heap(&mut sheet, heap, 1, segment_at, &segment);
+    let child = Child {
+        address: symbols,
+        key: names[names.len() - 1],
+    };
+    write_node(&mut sheet, tree, 0, 0, &[child]);
+    write_symbols(&mut sheet, symbols, &entries(&names, headers, 24));
+    for number in 0..count {
+        let place = headers + 24 * number;
+        let empty = vec![Message::step(3, 0, &[])];
+        header::write(&mut sheet, &[place], number as u32 + 1, &[empty]);
+    }
+    let table = Message::symbol_table(tree, heap);
+    header::write(&mut sheet, &[ROOT], 1, &[vec![table]]);
+    let head = Superblock {
+        leaf_k: (count / 2) as u16,
+        internal_k: 1,
+        ..superblock(sheet.reserve(0))
+    };
+    head.write(&mut sheet);
+    sheet
+}
+
+/// A segment of so many names without gaps, in rising order, and their offsets.
+fn two_letters(count: u64) -> (Sheet, Vec<u64>) {
+    let mut segment = Sheet::default();
+    segment.reserve(8);
+    let names: Vec<u64> = (0..count).map(|number| 8 + 3 * number).collect();
+    for (number, name) in names.iter().enumerate() {
+        let letter = |digit: usize| b'A' + digit as u8;
+        let text = [letter(number / 50), letter(number % 50), 0];
+        segment.text("heap string", *name, &text);
+    }
+    (segment, names)
+}
+
+/// Hard links of these names to headers from `first` on, so many bytes apart.
+fn entries(names: &[u64], first: u64, apart: u64) -> Vec<Entry> {
     (first..)
-        .step_by(40)
+        .step_by(apart as usize)
         .zip(names)
         .map(|(address, name)| Entry {
             name: *name,

@@ -1,10 +1,12 @@
 //! Files at the edges of what is read, each with the audit's answer at full room.
 
 use super::dataset::{Dataset, Datatype, Layout};
+use super::header::{self, Message};
 use super::plan::{Content, Group, Link, Object, Plan, Target};
 use super::sheet::Sheet;
 use super::write::write;
 use super::{bodies, edges, orders, sharing, small, UNDEFINED};
+use crate::reader::{MOST_BLOCKS, MOST_BYTES, MOST_OBJECTS};
 
 pub struct Special {
     pub name: String,
@@ -85,35 +87,54 @@ pub fn root(links: Vec<Link>) -> Object {
 /// A root group with so many objects below it.
 fn with_objects(count: usize) -> Plan {
     let links = (1..=count)
-        .map(|number| link(format!("{number:03}"), Target::Object(number)))
+        .map(|number| link(format!("{number:04}"), Target::Object(number)))
         .collect();
     let mut objects = vec![root(links)];
     objects.resize(count + 1, Object::new(Content::Committed));
     Plan::new(objects)
 }
 
-/// A group of so many continuations has five blocks more.
-fn with_continuations(count: usize) -> Plan {
-    let mut root = root(Vec::new());
-    root.parents = vec![0; count];
-    Plan::new(vec![root])
+/// A root group without names in so many blocks: the superblock, header, tree, heap and segment, and continuations that the
+/// header names all.
+fn with_blocks(count: usize) -> Sheet {
+    let continuations = count - 5;
+    let mut header = vec![small::table(0)];
+    header.extend((1..=continuations).map(|number| Message::continuation(number as u64, 0)));
+    let tree = small::ROOT + 16 + header::length(&header);
+    header[0] = small::table(tree);
+    let mut blocks = vec![header];
+    blocks.resize(continuations + 1, vec![Message::step(0, 0, &[])]);
+    let mut places = vec![small::ROOT];
+    places.extend((tree + 664..).step_by(8).take(continuations));
+    let mut sheet = Sheet::default();
+    let end = tree + 664 + 8 * continuations as u64;
+    sheet.reserve(end);
+    small::write_superblock(&mut sheet, end);
+    small::write_group(&mut sheet, tree, &[]);
+    header::write(&mut sheet, &places, 1, &blocks);
+    sheet
 }
 
 fn objects_and_blocks() -> Vec<Special> {
-    let mut later_fault = with_objects(256);
+    let mut later_fault = with_objects(MOST_OBJECTS);
     if let Content::Group(group) = &mut later_fault.objects[0].content {
         group.links.push(link("9/", Target::Object(1)));
     }
     vec![
-        special("256 objects", write(&with_objects(255), 1).sheet, 0),
-        special("257 objects", write(&with_objects(256), 1).sheet, 12),
-        special("257 objects, then 9", write(&later_fault, 1).sheet, 12),
-        special("1,024 blocks", write(&with_continuations(1019), 1).sheet, 0),
         special(
-            "1,025 blocks",
-            write(&with_continuations(1020), 1).sheet,
-            13,
+            "1,024 objects",
+            write(&with_objects(MOST_OBJECTS - 1), 1).sheet,
+            0,
         ),
+        special(
+            "1,025 objects",
+            write(&with_objects(MOST_OBJECTS), 1).sheet,
+            12,
+        ),
+        special("1,025 objects, then 9", write(&later_fault, 1).sheet, 12),
+        special("1,025 addresses", small::addresses(MOST_OBJECTS), 12),
+        special("8,192 blocks", with_blocks(MOST_BLOCKS), 0),
+        special("8,193 blocks", with_blocks(MOST_BLOCKS + 1), 13),
     ]
 }
 
@@ -415,7 +436,7 @@ fn lengths() -> Vec<Special> {
     sheet.bytes.truncate(99);
     sheet.fields.retain(|field| field.at + field.width <= 99);
     all.push(special("version 1 in 99, end 96", sheet, 4));
-    for (length, number) in [(1_048_576, 0), (1_048_577, 1)] {
+    for (length, number) in [(MOST_BYTES, 0), (MOST_BYTES + 1, 1)] {
         let mut sheet = small::h();
         sheet.bytes.resize(length, 0);
         all.push(special(format!("{length} bytes"), sheet, number));

@@ -7,9 +7,6 @@ use std::ops::Range;
 /// "four words: address, length, kind [..] and the number of the object"
 pub const BLOCK_WORDS: usize = 4;
 
-/// "Room is the lesser of 1,024 and the whole pairs lent", "counted in fours".
-pub const MOST_BLOCKS: usize = 1024;
-
 /// "all ones the superblock"
 pub const SUPERBLOCK_OWNER: u64 = u64::MAX;
 

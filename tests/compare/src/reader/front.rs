@@ -5,6 +5,7 @@
 use super::audit::{self, Audited};
 use super::blocks::{Blocks, BLOCK_WORDS};
 use super::describe::{self, Described, Description};
+use super::limits::MOST_OBJECTS;
 use super::lookup;
 use super::mend;
 use super::refusal::{ask, Located, Refusal, Stop, Walked, NOWHERE};
@@ -13,8 +14,8 @@ use super::report;
 /// The bytes of a block in the list.
 pub const BLOCK_BYTES: usize = 8 * BLOCK_WORDS;
 
-/// "block count, objects, then address, stored and true count of each": 2 words and 3 for each of 256 objects.
-pub const REPLY_WORDS: usize = 770;
+/// "block count, objects, then address, stored and true count of each": 2 words and 3 for each object.
+pub const REPLY_WORDS: usize = 2 + 3 * MOST_OBJECTS;
 
 /// Block count, kind and address.
 pub const LOOKUP_WORDS: usize = 3;
@@ -134,7 +135,8 @@ pub fn report_bytes(image: &[u8], blocks: &mut [u8], reply: &mut [u8]) -> u32 {
     0
 }
 
-/// "Under 770, 3 or 1 words gives 13 first, in C only." The others have their own least number of words.
+/// "Under 770, 3 or 1 words gives 13 first, in C only", and "C's 770 words become 3,074". The others have their own least
+/// number of words.
 fn long_enough(reply: &[u8], words: usize) -> Walked<()> {
     ask(reply.len() / 8 >= words, Refusal::NoRoom).at(NOWHERE)
 }

@@ -11,6 +11,7 @@ mod gaps;
 mod group;
 mod header;
 mod heap;
+mod limits;
 mod lookup;
 mod mend;
 mod object;
@@ -21,8 +22,9 @@ mod table;
 mod text;
 
 pub use audit::{audit, audit_stop, AuditReply};
-pub use blocks::{Block, BLOCK_WORDS, MOST_BLOCKS, SUPERBLOCK_OWNER};
+pub use blocks::{Block, BLOCK_WORDS, SUPERBLOCK_OWNER};
 pub use describe::{describe, DescribeReply, Description};
+pub use limits::{LEAST_BYTES, MOST_BLOCKS, MOST_BYTES, MOST_OBJECTS};
 pub use lookup::{lookup, lookup_stop, LookupReply};
 pub use mend::{mend, undo, MendReply, UndoReply};
 pub use object::object_alone;
@@ -30,7 +32,7 @@ pub use refusal::{Part, Refusal, Site, Stop};
 pub use report::{report, ReportReply};
 pub use table::Object;
 
-/// "Room and document 01's pairs are counted in fours."
+/// The lesser of the limit and the whole fours lent: "Room and document 01's pairs are counted in fours."
 pub fn room(lent_words: usize) -> usize {
     (lent_words / BLOCK_WORDS).min(MOST_BLOCKS)
 }

@@ -1,7 +1,8 @@
 //! One object alone.
 
-use super::blocks::{Block, Blocks, MOST_BLOCKS};
+use super::blocks::{Block, Blocks};
 use super::header::{self, Kind};
+use super::limits::MOST_BLOCKS;
 use super::refusal::{Located, Site, Walked};
 use super::{dataset, group, superblock};
 

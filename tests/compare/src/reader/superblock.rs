@@ -1,6 +1,7 @@
 //! The superblock of versions 0 and 1.
 
 use super::bytes::{u16_at, u32_at, u64_at, UNDEFINED};
+use super::limits::{LEAST_BYTES, MOST_BYTES};
 use super::refusal::{ask, Read, Refusal};
 
 const SIGNATURE: [u8; 8] = [0x89, 0x48, 0x44, 0x46, 0x0d, 0x0a, 0x1a, 0x0a];
@@ -15,9 +16,8 @@ pub struct Superblock {
     pub root: u64,
 }
 
-/// "Image 96 to 1,048,576 bytes."
 pub fn length_in_range(image: &[u8]) -> bool {
-    (96..=1_048_576).contains(&image.len())
+    (LEAST_BYTES..=MOST_BYTES).contains(&image.len())
 }
 
 /// "1, 2, 3, 4 for the superblock"

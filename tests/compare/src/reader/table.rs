@@ -1,5 +1,6 @@
-//! "Objects 256, kept in a table of 256 places that starts empty."
+//! The objects found: "kept in a table" of as many places as there may be objects, "that starts empty".
 
+use super::limits::MOST_OBJECTS;
 use super::refusal::{ask, Read, Refusal};
 
 #[derive(Clone, Copy, PartialEq, Eq, Debug)]
@@ -25,9 +26,8 @@ impl Known {
     }
 }
 
-const PLACES: usize = 256;
 /// Twice the places, so that a search ends soon.
-const SLOTS: usize = 512;
+const SLOTS: usize = 2 * MOST_OBJECTS;
 
 pub struct Table {
     objects: Vec<Object>,
@@ -72,7 +72,7 @@ impl Table {
             }
             slot = (slot + 1) % SLOTS;
         }
-        ask(self.objects.len() < PLACES, Refusal::TooManyObjects)?;
+        ask(self.objects.len() < MOST_OBJECTS, Refusal::TooManyObjects)?;
         self.add(address, slot);
         Ok(())
     }
@@ -116,7 +116,7 @@ impl Table {
     }
 }
 
-/// The top nine bits of a product spread addresses well.
+/// The top bits of a product spread addresses well.
 fn own_slot(address: u64) -> usize {
-    (address.wrapping_mul(0x9e37_79b9_7f4a_7c15) >> 55) as usize
+    (address.wrapping_mul(0x9e37_79b9_7f4a_7c15) >> (u64::BITS - SLOTS.ilog2())) as usize
 }

@@ -6,6 +6,10 @@ use std::io::{ErrorKind, Write};
 use std::path::{Path, PathBuf};
 use std::process::{Command, Output, Stdio};
 
+/// The most bytes that a command answers for, and the most blocks that it has room for.
+pub const INPUT_MOST: usize = 65_536;
+pub const COMMAND_BLOCKS: usize = 1024;
+
 pub fn package() -> &'static Path {
     Path::new(env!("CARGO_MANIFEST_DIR"))
 }
@@ -52,7 +56,7 @@ pub fn assert_stored(text: &str, name: &str) {
     assert!(text == stored, "{name}: {text:?} and {stored:?}");
 }
 
-/// Runs a command to its end. Its output is shorter than what a pipe holds, so it is read after the input is written.
+/// Runs a command to its end. It has read its input before it prints, so that its output is read after the input is written.
 pub fn run<'a>(command: &mut Command, input: impl Iterator<Item = &'a [u8]>) -> Output {
     let mut child = command
         .stdin(Stdio::piped())

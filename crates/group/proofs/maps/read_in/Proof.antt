@@ -1,6 +1,5 @@
 -- By the head of the free list and the length of the segment.
-use mathlib.Core.Path.{_∙_, sym}
-use Rattle.group.specs.Group.{fewCells, manyCells}
+use Rattle.group.specs.Group.{fewCells, manyCells, mostCells}
 use native.Mathlib.Omega.{arith}
 use borrow.Author.Needs.{needs}
 use Rattle.group.proofs.maps.read_in.Statement.{statement}
@@ -15,9 +14,7 @@ no-list-requires c κs = search needs
 
 read-plain-requires : tie.Need-read-plain-requires
 read-plain-requires c κs =
-    let none = c .before .before .before in
-    let p = start (none .before) .pre in
-    (p .0, (p .1 .0, (p .1 .1, sym (none .before .no-list .ensures) ∙ none .if1 .taken)))
+    start (c .before .before .before .before) .pre
 
 same-length : tie.Need-same-length
 same-length c = search needs
@@ -69,10 +66,12 @@ same-length-9 c = search needs
 returns-3 : tie.Need-returns-3
 returns-3 c = search needs
 
-read-all-requires : tie.Need-read-all-requires
-read-all-requires c κs =
-    let p = start (c .before .before .before .before .before .before .before .before) .pre in
-    (p .0, (p .1 .0, (p .1 .1, omega (arith, p .0 .bounded, p .1 .1 .file))))
+read-most-requires : tie.Need-read-most-requires
+unfolding mostCells
+read-most-requires c κs =
+    let most = c .before .before .before in
+    let p = start (most .before .before .before .before .before .before .before) .pre in
+    (p .0, (p .1 .0, (p .1 .1, omega (arith, most .if4 .taken))))
 
 same-length-10 : tie.Need-same-length-10
 same-length-10 c = search needs
@@ -85,6 +84,21 @@ same-length-12 c = search needs
 
 returns-4 : tie.Need-returns-4
 returns-4 c = search needs
+
+read-plain-requires-2 : tie.Need-read-plain-requires-2
+read-plain-requires-2 c κs = start (c .before .before .before .before .before .before .before .before .before .before) .pre
+
+same-length-13 : tie.Need-same-length-13
+same-length-13 c = search needs
+
+same-length-14 : tie.Need-same-length-14
+same-length-14 c = search needs
+
+same-length-15 : tie.Need-same-length-15
+same-length-15 c = search needs
+
+returns-5 : tie.Need-returns-5
+returns-5 c = search needs
 
 pub read-in-spec : {M : Type 1} → statement M
 read-in-spec =
@@ -106,8 +120,13 @@ read-in-spec =
     same-length-8
     same-length-9
     returns-3
-    read-all-requires
+    read-most-requires
     same-length-10
     same-length-11
     same-length-12
-    returns-4)
+    returns-4
+    read-plain-requires-2
+    same-length-13
+    same-length-14
+    same-length-15
+    returns-5)

@@ -1,5 +1,4 @@
--- A map of no cells, where there is no free list.
-use denote.Ref.{now}
+-- A map of no cells.
 use Rattle.group.proofs.MapLaws.{sized-none}
 use borrow.Author.Needs.{needs}
 use Rattle.group.proofs.maps.read_plain.Statement.{statement}
@@ -14,8 +13,7 @@ slice-aggregate-read-with c = search needs
 read-with-requires : tie.Need-read-with-requires
 read-with-requires c κs =
     let start = c .before .before .before .before .before .before .before .before .before in
-    let inside = start .pre .1 .1 .0 in
-    (start .pre .0, (start .pre .1 .0, (inside, sized-none (now (start .args .image)) _ (start .args .heap) inside 1 (start .pre .1 .1 .1))))
+    (start .pre .0, (start .pre .1 .0, (start .pre .1 .1, sized-none 1 _)))
 
 same-length : tie.Need-same-length
 same-length c = search needs

@@ -7,7 +7,7 @@ use Rattle.symbol.proofs.entry.check_value.Statement.{statement}
 use Rattle.symbol.proofs.entry.check_value.Tie as tie
 
 returns : tie.Need-returns
-returns c = λ bs m k. value-none _ _ bs _ _ (c .if1 .taken)
+returns c = value-none _ _ _ _ _ (c .if1 .taken)
 
 add-u32-at : tie.Need-add-u32-at
 add-u32-at c = search needs
@@ -16,7 +16,9 @@ u32-at-requires : tie.Need-u32-at-requires
 u32-at-requires c κs = search needs
 
 value-requires : tie.Need-value-requires
-value-requires c κs = search needs
+value-requires c κs =
+    let known = c .before .before .before .before .before .pre .1 in
+    (known .last, (known .held, known .marked))
 
 enum-known-f : tie.Need-enum-known-f
 enum-known-f c = search needs
@@ -32,17 +34,16 @@ returns-2 c =
     let value = c .before .before .before .before in
     let a = value .before .before .before .before .before .before .args in
     let two : a .kind ≡ 2 = omega arith in
-    λ bs m k. value-refused _ _ bs _ _ two (value .before .u32-at .result) (value .before .u32-at .ensures .value) (c .before .before .f .given .0 .0) _
-    (c .fault-number .ensures) (same-checked _ (c .before .before .f .given .1) (value .value .ensures bs m k))
+    value-refused _ _ _ _ _ two (value .before .u32-at .result) (value .before .u32-at .ensures .value) (c .before .before .f .given .0 .0) _
+    (c .fault-number .ensures) (same-checked _ (c .before .before .f .given .1) (value .value .ensures))
 
 returns-3 : tie.Need-returns-3
 returns-3 c =
     let value = c .before .before in
     let a = value .before .before .before .before .before .before .args in
     let two : a .kind ≡ 2 = omega arith in
-    λ bs m k.
-    let read = same-checked _ (c .enum-told .given .1) (value .value .ensures bs m k) in
-    value-read _ _ bs _ _ two (value .before .u32-at .result) (value .before .u32-at .ensures .value) (read .0) (read .1)
+    let read = same-checked _ (c .enum-told .given .1) (value .value .ensures) in
+    value-read _ _ _ _ _ two (value .before .u32-at .result) (value .before .u32-at .ensures .value) (read .0) (read .1)
 
 pub check-value-spec : {M : Type 1} → statement M
 check-value-spec =

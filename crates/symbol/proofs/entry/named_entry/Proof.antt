@@ -114,7 +114,7 @@ returns-4 c =
     let s = start (two .before .before .before) in
     link-refused _ _ _ _ _ _ _ _ _ _ _ _ (s .pre .1 .1 .1 .1) (passed two .0) (passed two .1) (three .before .u32-at .result) (three .before .u32-at .ensures .value)
     (three .if3 .left) _
-    (same-value _ _ _ _ _ (c .before .n .given .1) (value .check-value .ensures _ (s .pre .1 .0 .known .mapped) (s .pre .1 .0 .known .marked)))
+    (same-value _ _ _ _ _ (c .before .n .given .1) (value .check-value .ensures))
 
 same-length : tie.Need-same-length
 same-length c = search needs
@@ -133,7 +133,7 @@ returns-5 c =
     let s = start (two .before .before .before) in
     visit-refused _ _ _ _ _ _ _ _ _ _ _ _ (s .pre .1 .1 .1 .1) (passed two .0) (passed two .1) (three .before .u32-at .result) (three .before .u32-at .ensures .value)
     (three .if3 .left)
-    (same-value _ _ _ _ _ (sound .enum-told .given .1) (value .check-value .ensures _ (s .pre .1 .0 .known .mapped) (s .pre .1 .0 .known .marked))) (header .u64-at .result) (header .u64-at .ensures .value)
+    (same-value _ _ _ _ _ (sound .enum-told .given .1) (value .check-value .ensures)) (header .u64-at .result) (header .u64-at .ensures .value)
     (same-visit (part-between (now (s .args .segment)) (s .args .name .at) (s .args .name .size)) (c .enum-told2 .given .1) (visit .visit-entry .ensures))
 
 same-length-3 : tie.Need-same-length-3
@@ -153,7 +153,7 @@ returns-6 c =
     let s = start (two .before .before .before) in
     visited _ _ _ _ _ _ _ _ _ _ _ _ (s .pre .1 .1 .1 .1) (passed two .0) (passed two .1) (three .before .u32-at .result) (three .before .u32-at .ensures .value)
     (three .if3 .left)
-    (same-value _ _ _ _ _ (sound .enum-told .given .1) (value .check-value .ensures _ (s .pre .1 .0 .known .mapped) (s .pre .1 .0 .known .marked))) (header .u64-at .result) (header .u64-at .ensures .value) _ _
+    (same-value _ _ _ _ _ (sound .enum-told .given .1) (value .check-value .ensures)) (header .u64-at .result) (header .u64-at .ensures .value) _ _
     (same-visit (part-between (now (s .args .segment)) (s .args .name .at) (s .args .name .size)) (c .before .objects .given .1) (visit .visit-entry .ensures))
 
 pub named-entry-spec : {M : Type 1} → statement M

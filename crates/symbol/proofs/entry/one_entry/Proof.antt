@@ -21,7 +21,7 @@ read : (c : tie.After-n) →
     let a = start (c .before .before) .args in
     let off = c .before .before .before .u64-at .result in
     TextRead (now (a .segment)) off (Sound (c .n .given .0 .0)) (nameText (chainedHeap (now (a .segment)) (a .group .head) (a .group .free)) off)
-read c = let name = c .before .before in same-text (c .n .given .1) (name .name .ensures _ (start name .pre .1 .0 .known .mapped))
+read c = let name = c .before .before in same-text (c .n .given .1) (name .name .ensures)
 
 -- the entry's name
 named : (c : tie.After-n) →
@@ -36,7 +36,7 @@ u64-at-requires : tie.Need-u64-at-requires
 u64-at-requires c κs = search needs
 
 name-requires : tie.Need-name-requires
-name-requires c κs = c .before .before .before .before .before .before .before .pre .1 .0 .known .last
+name-requires c κs = let known = c .before .before .before .before .before .before .before .pre .1 .0 .known in (known .last, known .held)
 
 enum-known-f : tie.Need-enum-known-f
 enum-known-f c = search needs
@@ -65,7 +65,7 @@ returns : tie.Need-returns
 returns c =
     let name = c .before .before .before .before in
     name-refused _ _ _ _ _ _ _ _ _ _ _ (name .before .u64-at .result) (name .before .u64-at .ensures .value) (c .before .before .f .given .0 .0) _
-    (c .fault-number .ensures) (same-text (c .before .before .f .given .1) (name .name .ensures _ (start name .pre .1 .0 .known .mapped)) .value)
+    (c .fault-number .ensures) (same-text (c .before .before .f .given .1) (name .name .ensures) .value)
 
 same-length : tie.Need-same-length
 same-length c = search needs

@@ -1,28 +1,28 @@
--- A map for a segment of any length.
+-- A map for a longer one.
 use denote.Ref.{now}
 use mathlib.Core.Path.{_≡_, refl, sym}
-use Rattle.format.specs.Limits.{imageMost}
+use Rattle.group.specs.Group.{mostCells}
 use Rattle.group.proofs.MapLaws.{cells-taken, sized}
 use native.Mathlib.Omega.{arith}
 use borrow.Author.Needs.{needs}
-use Rattle.group.proofs.maps.read_all.Statement.{statement}
-use Rattle.group.proofs.maps.read_all.Tie as tie
+use Rattle.group.proofs.maps.read_most.Statement.{statement}
+use Rattle.group.proofs.maps.read_most.Tie as tie
 
 add-cells : tie.Need-add-cells
 add-cells c = search needs
 
 array-borrow-prefix-map : tie.Need-array-borrow-prefix-map
-unfolding imageMost
+unfolding mostCells
 array-borrow-prefix-map c = c .before .before .before .before .before .before .before .before .before .pre .1 .1 .1
 
 slice-aggregate-read-with : tie.Need-slice-aggregate-read-with
-unfolding imageMost
+unfolding mostCells
 slice-aggregate-read-with c =
     let start = c .before .before .before .before .before .before .before .before .before .before in
     sym (cells-taken _ _ (start .pre .1 .1 .1))
 
 read-with-requires : tie.Need-read-with-requires
-unfolding imageMost
+unfolding mostCells
 read-with-requires c κs =
     let start = c .before .before .before .before .before .before .before .before .before .before in
     let inside = start .pre .1 .1 .0 in
@@ -40,8 +40,8 @@ same-length-3 c = search needs
 returns : tie.Need-returns
 returns c = search needs
 
-pub read-all-spec : {M : Type 1} → statement M
-read-all-spec =
+pub read-most-spec : {M : Type 1} → statement M
+read-most-spec =
     tie.close
     (tie.spec
     add-cells
