@@ -1,4 +1,6 @@
 // The words for an answer and for a kind of block.
+#![tactic(auto)]
+
 use format::answers;
 use text_line::put_text;
 use walk::kinds;

@@ -1,4 +1,6 @@
 // The attribute message, versions 1 to 3, as far as the audit reads it: whether its datatype is shared, and from where.
+#![tactic(auto)]
+
 ghost use Rattle.std.specs.Prelude.{not, ◌&&◌, ◌||◌, ◌≡◌, ◌+◌, ◌≤◌, eqb, leb, length};
 ghost use Rattle.format.specs.Attribute.{name_start, read_shared_part, read_attribute};
 ghost use Rattle.attribute.specs.Attribute.{attribute_result, Taken};
@@ -8,7 +10,7 @@ use format::answers;
 use walk::numbers::{u16_at, u64_at};
 
 // Where the datatype is shared from, or that it stands in the message itself.
-#[derive(Drop)]
+#[derive(Clone, Copy)]
 pub enum AttributeRead {
     Own,
     Shares(u64),

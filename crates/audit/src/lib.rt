@@ -1,4 +1,6 @@
 // The link audit: counts the hard links and sharings that reach each object of a file.
+#![tactic(auto)]
+
 ghost use Rattle.std.specs.Prelude.{◌≡◌, ℕ, ◌≤◌, length};
 ghost use Rattle.format.specs.Blocks.{room_of};
 ghost use Rattle.walk.specs.Lent.{places_of, handed};
@@ -17,7 +19,7 @@ use walk::blocks;
 use walk::blocks::{Entry, WORK_WORDS};
 
 // The answer, with 6 the first block met, and the numbers of blocks entered and of objects found, 0 where the answer isn't.
-#[derive(Drop)]
+#[derive(Clone, Copy)]
 pub struct Audited {
     pub number: u8,
     pub met: u64,

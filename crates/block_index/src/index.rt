@@ -40,7 +40,7 @@ pub fn second_run(words: usize, count: usize) -> Run
 }
 
 // Whether a block is met, the places of the address in the first run and in the second, and how many blocks were compared.
-#[derive(Drop)]
+#[derive(Clone, Copy)]
 pub struct Found {
     pub met: bool,
     pub first: usize,

@@ -4,7 +4,7 @@ ghost use Rattle.block_index.specs.Index.{Meets, Apart};
 ghost use Rattle.block_index.specs.Search.{Sorted, Placed};
 
 // The numbers of `count` blocks in the order of their addresses, from the word `base` on, counted from the block `first`.
-#[derive(Drop)]
+#[derive(Clone, Copy)]
 pub struct Run {
     pub base: usize,
     pub first: usize,
@@ -12,7 +12,7 @@ pub struct Run {
 }
 
 // How many blocks of a run end at an address or before it, and how many are compared for that.
-#[derive(Drop)]
+#[derive(Clone, Copy)]
 pub struct Place {
     pub place: usize,
     pub tests: usize,

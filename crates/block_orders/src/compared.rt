@@ -7,7 +7,7 @@ use walk::blocks::{Entry, enter, places};
 use walk::kinds;
 
 // How many blocks were entered, and with how many others one of them was compared at most.
-#[derive(Drop)]
+#[derive(Clone, Copy)]
 pub struct Compared {
     pub entered: usize,
     pub most: usize,

@@ -12,7 +12,7 @@ fn address(number: usize) -> u64 {
 }
 
 // Each block behind the one before it; each before it; the first, the last, the second, the last but one, and so on.
-#[derive(Drop)]
+#[derive(Clone, Copy)]
 pub enum Order {
     Rising,
     Falling,

@@ -1,5 +1,7 @@
 // The starred small files of document 01 and a file with sharings, and these with single bytes changed, held against the
 // definitions.
+#![tactic(auto)]
+
 ghost use Rattle.std.specs.Prelude.{map, ◌≡◌, length};
 ghost use Rattle.cases.specs.Table.{Case, table};
 ghost use Rattle.cases.specs.Damaged.{damaged_table};

@@ -1,4 +1,6 @@
 // The audit command: what it prints for an input, and the reading and writing around that.
+#![tactic(auto)]
+
 ghost use Rattle.std.specs.Prelude.{◌≤◌, ◌<◌, length};
 ghost use Rattle.format.specs.Limits.{input_most};
 ghost use Rattle.output.specs.Text.{output_most, Printed};
@@ -35,7 +37,7 @@ pub fn report(input: &[u8], out: &mut [u8]) -> usize
 }
 
 // How many bytes are printed, or that the input couldn't be read.
-#[derive(Drop)]
+#[derive(Clone, Copy)]
 pub enum Response {
     Text(usize),
     Failed,

@@ -1,4 +1,6 @@
 // One component of a path, looked up in the object at an address, on a block list of its own.
+#![tactic(auto)]
+
 ghost use Rattle.std.specs.Prelude.{false, List, ◌≡◌, ℕ};
 ghost use Rattle.format.specs.Lookup.{target_walk};
 ghost use Rattle.visit.specs.Visit.{link_of};
@@ -16,7 +18,7 @@ use visit::{ABSENT, HARD};
 use walk::blocks::Entry;
 
 // Where a component leads, or the refusal.
-#[derive(Drop)]
+#[derive(Clone, Copy)]
 pub enum Target {
     Object(u64),
     Symbolic,

@@ -1,5 +1,7 @@
 // The continuations of a header. They are a queue: each is entered when its turn comes and read whole before the next. The
 // header's blocks stand one after the other in the block list, so that a cursor over their messages finds the next one.
+#![tactic(auto)]
+
 ghost use Rattle.std.specs.Prelude.{List, ℕ, ◌+◌, ◌*◌, ◌≤◌, ◌<◌, length};
 ghost use Rattle.format.specs.Limits.{blocks_most};
 ghost use Rattle.format.specs.Message.{Message};
@@ -18,7 +20,7 @@ use walk::{blocks, kinds};
 
 // What stays the same while a header is read: the file, the room for blocks, and whether what its messages share is
 // discovered.
-#[derive(Drop)]
+#[derive(Clone, Copy)]
 pub struct Reading {
     pub end_of_file: u64,
     pub room: usize,
@@ -26,7 +28,7 @@ pub struct Reading {
 }
 
 // A place among the messages of the block of this number in the list; the block's messages end at `end`.
-#[derive(Drop)]
+#[derive(Clone, Copy)]
 pub struct Cursor {
     pub block: usize,
     pub at: usize,
@@ -56,7 +58,7 @@ fn seek(image: &[u8], list: &[u64], count: usize, cursor: Cursor) -> Cursor
     Cursor { block, at, end }
 }
 
-#[derive(Drop)]
+#[derive(Clone, Copy)]
 pub enum Continuing {
     Done { gathering: Gathering, count: usize },
     Stopped(Refusal),

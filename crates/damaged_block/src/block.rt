@@ -12,7 +12,7 @@ use walk::numbers::UNDEFINED_ADDRESS;
 use walk::owner::{last_owner, owner_after};
 
 // A block as the list has it.
-#[derive(Drop)]
+#[derive(Clone, Copy)]
 pub struct ListedBlock {
     pub address: u64,
     pub size: u64,

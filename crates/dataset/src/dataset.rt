@@ -23,7 +23,7 @@ use walk::numbers::UNDEFINED_ADDRESS;
 use walk::{blocks, kinds};
 
 // What the messages say. The sizes and maxima themselves stay in the body of the dataspace message.
-#[derive(Drop)]
+#[derive(Clone, Copy)]
 pub struct Dataset {
     pub rank: usize,
     pub maxima_stored: bool,
@@ -32,26 +32,26 @@ pub struct Dataset {
 }
 
 // What the first two of them say: the dataset before its layout.
-#[derive(Drop)]
+#[derive(Clone, Copy)]
 pub struct Parts {
     pub rank: usize,
     pub maxima_stored: bool,
     pub datatype: Datatype,
 }
 
-#[derive(Drop)]
+#[derive(Clone, Copy)]
 pub enum PartsRead {
     Read(Parts),
     Refused(Refusal),
 }
 
-#[derive(Drop)]
+#[derive(Clone, Copy)]
 pub enum MessagesRead {
     Read(Dataset),
     Refused(Refusal),
 }
 
-#[derive(Drop)]
+#[derive(Clone, Copy)]
 pub enum DatasetRead {
     Read(Dataset, usize),
     Stopped(Refusal),

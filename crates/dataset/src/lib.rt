@@ -1,2 +1,4 @@
 // The dataset walk over its messages and its data.
+#![tactic(auto)]
+
 pub mod dataset;

@@ -1,4 +1,6 @@
 // The dataset at an address, walked on a block list of its own.
+#![tactic(auto)]
+
 ghost use Rattle.std.specs.Prelude.{◌≤◌, [], length};
 ghost use Rattle.format.specs.Limits.{blocks_most};
 ghost use Rattle.format.specs.Dataset.{dataset_walk};
@@ -19,7 +21,7 @@ use superblock::Superblock;
 use walk::blocks::Entry;
 
 // What the messages of a dataset say, with the body of its dataspace message and the number of blocks entered, or the refusal.
-#[derive(Drop)]
+#[derive(Clone, Copy)]
 pub enum DatasetAt {
     Read {
         dataset: Dataset,

@@ -1,4 +1,6 @@
 // The dataspace message, version 1. A reader sees the body alone.
+#![tactic(auto)]
+
 ghost use Rattle.std.specs.Prelude.{◌≡◌, ◌+◌, ◌*◌, ◌≤◌, eqb, length, drop};
 ghost use Rattle.format.specs.Limits.{rank_most};
 ghost use Rattle.format.specs.Bytes.{to_words, contains, padded};
@@ -8,7 +10,7 @@ ghost use Rattle.dataspace.specs.Dataspace.{SpaceRead, Sizes};
 use format::answers;
 use walk::numbers::u64_at;
 
-#[derive(Drop)]
+#[derive(Clone, Copy)]
 pub enum DataspaceRead {
     Read { rank: usize, maxima_stored: bool },
     Refused(u8),

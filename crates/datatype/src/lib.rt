@@ -1,4 +1,6 @@
 // The datatype message, versions 1 to 3, and the shared message that may stand in its place.
+#![tactic(auto)]
+
 ghost use Rattle.std.specs.Prelude.{◌≡◌, ◌^◌, ◌≤◌, ◌<◌, length};
 ghost use Rattle.format.specs.Bytes.{◌implies◌};
 ghost use Rattle.format.specs.Datatype.{class_read, has_bits, extent, read_datatype, shared_read, read_shared};
@@ -8,7 +10,7 @@ ghost use Rattle.datatype.specs.Datatype.{type_result, bits_sound};
 use format::answers;
 use walk::numbers::{u16_at, u32_at, u64_at};
 
-#[derive(Drop)]
+#[derive(Clone, Copy)]
 pub enum Datatype {
     Own {
         class: u8,
@@ -19,7 +21,7 @@ pub enum Datatype {
     Shared(u64),
 }
 
-#[derive(Drop)]
+#[derive(Clone, Copy)]
 pub enum DatatypeRead {
     Read(Datatype),
     Refused(u8),

@@ -1,1 +1,3 @@
 // Theorems about the definitions of mending and undo. There is no code here.
+
+#![tactic(auto)]

@@ -14,7 +14,7 @@ use layout::Layout;
 use message::Body;
 
 // A datatype's own fields, or the address of a shared one; those not given are 0.
-#[derive(Drop)]
+#[derive(Clone, Copy)]
 pub struct TypeFields {
     pub class: u8,
     pub version: u8,
@@ -49,7 +49,7 @@ pub fn type_fields(datatype: Datatype) -> TypeFields
     }
 }
 
-#[derive(Drop)]
+#[derive(Clone, Copy)]
 pub struct LayoutFields {
     pub class: u8,
     pub address: u64,

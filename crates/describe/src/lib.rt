@@ -1,4 +1,6 @@
 // The description of the dataset that a path leads to.
+#![tactic(auto)]
+
 mod fields;
 
 ghost use Rattle.std.specs.Prelude.{◌≡◌, List, [], ℕ, ◌≤◌, length};

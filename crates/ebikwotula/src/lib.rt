@@ -1,5 +1,7 @@
 // The C front end: the calls on byte slices, where a word is 8 little-endian bytes. Each is the function of a crate of its own, under
 // the name that C has for it.
+#![tactic(auto)]
+
 ghost use Rattle.std.specs.Prelude.{◌≡◌, length};
 ghost use Rattle.format.specs.Front.{CReply, CMend, CUndo, c_audit, c_lookup, c_describe, c_mend, c_undo};
 ghost use Rattle.format.specs.Report.{c_report};

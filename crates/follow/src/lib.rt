@@ -1,4 +1,6 @@
 // All components of a path, from the root on.
+#![tactic(auto)]
+
 ghost use Rattle.std.specs.Prelude.{◌≤◌, length};
 ghost use Rattle.walk.specs.Lent.{Lent, places_of};
 ghost use Rattle.superblock.specs.Superblock.{superblock_of};

@@ -1,1 +1,3 @@
 // Theorems about the definitions of lookup and description. There is no code here.
+
+#![tactic(auto)]

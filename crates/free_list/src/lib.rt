@@ -1,4 +1,6 @@
 // The free list of a heap's data segment: a chain of blocks, each with the offset of the next one.
+#![tactic(auto)]
+
 pub mod search;
 pub mod span;
 
@@ -10,7 +12,7 @@ use crate::span::{Span, meets_block, widened};
 use free_map::adding::add;
 use walk::numbers::{UNDEFINED_ADDRESS, u64_at};
 
-#[derive(Drop)]
+#[derive(Clone, Copy)]
 pub enum FreeList {
     // So many blocks.
     Sound(usize),

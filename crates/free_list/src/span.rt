@@ -8,7 +8,7 @@ use crate::search::meets_free;
 use order::lesser;
 
 // No block has a byte before `low`, or one from `high` on.
-#[derive(Drop)]
+#[derive(Clone, Copy)]
 pub struct Span {
     pub low: usize,
     pub high: usize,

@@ -1,4 +1,6 @@
 // The map of a segment's free bytes: one byte for each 16 bytes of the segment, a cell.
+#![tactic(auto)]
+
 pub mod adding;
 
 ghost use Rattle.std.specs.Prelude.{List, ◌≡◌, ℕ, ◌+◌, ◌≤◌, ◌<◌, ◌^◌, length, get_or};

@@ -1,4 +1,6 @@
 // What the calls share: the answer for want of room, the room that is tried first, zeros, and the reply to a refusal.
+#![tactic(auto)]
+
 ghost use Rattle.std.specs.Prelude.{◌≡◌, ◌≤◌, length, replicate};
 ghost use Rattle.format.specs.Front.{padded_bytes, refusal_words};
 ghost use Rattle.front.specs.Few.{few_blocks};

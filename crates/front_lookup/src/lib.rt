@@ -1,4 +1,6 @@
 // Path lookup on byte slices.
+#![tactic(auto)]
+
 ghost use Rattle.std.specs.Prelude.{◌≡◌, ◌*◌, ◌/◌, ◌≤◌, length};
 ghost use Rattle.format.specs.Limits.{blocks_most};
 ghost use Rattle.format.specs.Front.{CReply, c_lookup};

@@ -1,4 +1,6 @@
 // Mending on byte slices.
+#![tactic(auto)]
+
 ghost use Rattle.std.specs.Prelude.{◌≡◌, ◌*◌, ◌/◌, ◌≤◌, min, length, replicate};
 ghost use Rattle.format.specs.Limits.{objects_most, blocks_most};
 ghost use Rattle.format.specs.Front.{padded_bytes, refusal_words, CMend, c_mend};

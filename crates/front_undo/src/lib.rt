@@ -1,4 +1,6 @@
 // Undo on byte slices.
+#![tactic(auto)]
+
 ghost use Rattle.std.specs.Prelude.{◌≡◌, length};
 ghost use Rattle.format.specs.Front.{CUndo, c_undo};
 

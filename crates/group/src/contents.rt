@@ -13,7 +13,7 @@ use visit::{ABSENT, Link};
 
 // What every group of an image is read with: the end of file, the room for blocks and the superblock's two K. `auditing` is true for the
 // audit and false for a lookup.
-#[derive(Drop)]
+#[derive(Clone, Copy)]
 pub struct Reading {
     pub end_of_file: u64,
     pub room: usize,

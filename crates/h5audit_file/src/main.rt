@@ -1,4 +1,6 @@
 // The audit command.
+#![tactic(auto)]
+
 fn main() {
     command::start();
 }

@@ -1,4 +1,6 @@
 // The command of the damage report.
+#![tactic(auto)]
+
 fn main() {
     report_command::start();
 }

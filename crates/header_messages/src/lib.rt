@@ -1,4 +1,6 @@
 // All messages of an object header, version 1, over its blocks.
+#![tactic(auto)]
+
 ghost use Rattle.std.specs.Prelude.{◌+◌, ◌≤◌, ◌<◌, length};
 ghost use Rattle.format.specs.Bytes.{part};
 ghost use Rattle.format.specs.Walk.{header_block, shown};

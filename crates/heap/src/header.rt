@@ -13,14 +13,14 @@ use walk::numbers::{u32_at, u64_at};
 const HEAP: u64 = 0x50414548;
 
 // A heap: the address and the size of its data segment, and the head of its free list.
-#[derive(Drop)]
+#[derive(Clone, Copy)]
 pub struct Heap {
     pub segment: usize,
     pub size: usize,
     pub head: u64,
 }
 
-#[derive(Drop)]
+#[derive(Clone, Copy)]
 pub enum HeapOpened {
     // The heap, and the number of blocks entered.
     Opened(Heap, usize),
@@ -28,7 +28,7 @@ pub enum HeapOpened {
 }
 
 // A header that passed its tests, or the answer of the first that failed.
-#[derive(Drop)]
+#[derive(Clone, Copy)]
 enum Header {
     Fields { size: u64, head: u64, address: u64 },
     Wrong(u8),

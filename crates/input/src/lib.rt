@@ -1,17 +1,19 @@
 // The input of a command, read to its end.
+#![tactic(auto)]
+
 ghost use Rattle.std.specs.Prelude.{◌≡◌, ◌<◌, length, take};
 ghost use Rattle.format.specs.Limits.{input_most};
 ghost use Rattle.input.specs.Reading.{Within, Reads};
 
 // What one read brought: so many bytes, none at the end of the input; or that it failed.
-#[derive(Drop)]
+#[derive(Clone, Copy)]
 pub enum Brought {
     Bytes(usize),
     Failed,
 }
 
 // How many bytes were read in all, and how many the last read brought; or that a read failed.
-#[derive(Drop)]
+#[derive(Clone, Copy)]
 pub enum Input {
     Read { length: usize, last: usize },
     Failed,

@@ -1,4 +1,6 @@
 // The keys of a tree node: strings of the heap's segment.
+#![tactic(auto)]
+
 ghost use Rattle.std.specs.Prelude.{List, ◌≡◌, ◌+◌, ◌*◌, ◌≤◌, length};
 ghost use Rattle.format.specs.Names.{fault_number};
 ghost use Rattle.names.specs.Texts.{fault_of};
@@ -23,7 +25,7 @@ pub fn fault_number(fault: NameFault) -> u8
     }
 }
 
-#[derive(Drop)]
+#[derive(Clone, Copy)]
 pub enum Keys {
     Sound,
     Unsound(Refusal),

@@ -1,4 +1,6 @@
 // The kind of an object, by the messages of its header.
+#![tactic(auto)]
+
 ghost use Rattle.std.specs.Prelude.{List, ◌≡◌, ℕ, ◌+◌, ◌<◌};
 ghost use Rattle.format.specs.Message.{Message};
 ghost use Rattle.format.specs.Header.{has_counts};
@@ -44,7 +46,7 @@ fn body_at(image: &[u8], place: usize) -> Body
 }
 
 // The object that a header tells of, with the number of blocks then entered, or the refusal.
-#[derive(Drop)]
+#[derive(Clone, Copy)]
 pub enum HeaderRead {
     Group {
         tree: u64,

@@ -1,4 +1,6 @@
 // The kind of the object that a path leads to, by its header, read on a block list of its own.
+#![tactic(auto)]
+
 ghost use Rattle.walk.specs.Lent.{Lent};
 ghost use Rattle.object.specs.Object.{Opened};
 ghost use Rattle.last_object.specs.Last.{KindIs};
@@ -16,7 +18,7 @@ const DATASET: u8 = 2;
 
 const COMMITTED_DATATYPE: u8 = 3;
 
-#[derive(Drop)]
+#[derive(Clone, Copy)]
 pub enum Kind {
     Known(u8),
     Stopped(Refusal),

@@ -1,1 +1,3 @@
 // The laws of walks and of readers of parts. No code.
+
+#![tactic(auto)]

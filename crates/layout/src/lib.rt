@@ -1,4 +1,6 @@
 // The data layout message, version 3: compact or contiguous.
+#![tactic(auto)]
+
 ghost use Rattle.std.specs.Prelude.{◌≡◌, ◌+◌, ◌^◌, ◌≤◌, ◌<◌, length};
 ghost use Rattle.format.specs.Layout.{read_compact, read_contiguous, read_layout};
 ghost use Rattle.layout.specs.Layout.{layout_result};
@@ -6,13 +8,13 @@ ghost use Rattle.layout.specs.Layout.{layout_result};
 use format::answers;
 use walk::numbers::{u16_at, u64_at};
 
-#[derive(Drop)]
+#[derive(Clone, Copy)]
 pub enum Layout {
     Compact { address: u64, size: u64 },
     Contiguous { address: u64, size: u64 },
 }
 
-#[derive(Drop)]
+#[derive(Clone, Copy)]
 pub enum LayoutRead {
     Read(Layout),
     Refused(u8),

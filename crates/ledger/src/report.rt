@@ -7,7 +7,7 @@ use walk::numbers::u32_at;
 
 // Of each object, in order of discovery, the address, the count stored in its header, and the number of links met. Unused
 // places are zeros.
-#[derive(Drop)]
+#[derive(Clone, Copy)]
 pub struct Ledger {
     pub objects: usize,
     pub addresses: [u64; OBJECTS_MOST],

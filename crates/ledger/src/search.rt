@@ -42,7 +42,7 @@ fn guessed(addresses: &[u64], objects: usize, address: u64) -> usize
 }
 
 // How many objects have an address below this one, and how many are compared for that.
-#[derive(Drop)]
+#[derive(Clone, Copy)]
 pub struct Place {
     pub place: usize,
     pub tests: usize,
@@ -71,7 +71,7 @@ fn halve(addresses: &[u64], from: usize, objects: usize, address: u64) -> Place
 
 // The object with an address, or `objects` if none has it; then also how many objects have a lower address, which is where a new
 // one stands in the order. And how many addresses were compared at most.
-#[derive(Drop)]
+#[derive(Clone, Copy)]
 pub struct Search {
     pub place: usize,
     pub order: usize,

@@ -9,7 +9,7 @@ use crate::search;
 use crate::search::Search;
 
 // The number of objects after the link, or that the table holds as many as it may.
-#[derive(Drop)]
+#[derive(Clone, Copy)]
 pub enum Discovery {
     Counted(usize),
     Full,

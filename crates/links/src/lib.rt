@@ -1,1 +1,3 @@
 // Theorems about the audit's definition. There is no code here.
+
+#![tactic(auto)]

@@ -1,2 +1,4 @@
 // Path lookup.
+#![tactic(auto)]
+
 pub mod lookup;

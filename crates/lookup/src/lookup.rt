@@ -20,7 +20,7 @@ use walk::blocks::WORK_WORDS;
 const SYMBOLIC_LINK: u8 = 4;
 
 // The answer, with 6 the first block met, the kind and the address; zeros where the answer isn't 0.
-#[derive(Drop)]
+#[derive(Clone, Copy)]
 pub struct Located {
     pub number: u8,
     pub met: u64,

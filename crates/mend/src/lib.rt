@@ -1,4 +1,6 @@
 // Mending: the counts that an audit finds wrong are set right, after a log that can undo this is written whole.
+#![tactic(auto)]
+
 ghost use Rattle.std.specs.Prelude.{◌≡◌, ℕ, min, ◌≤◌, length, replicate};
 ghost use Rattle.format.specs.Blocks.{room_of};
 ghost use Rattle.walk.specs.Lent.{places_of, handed};
@@ -10,7 +12,7 @@ use walk::blocks::WORK_WORDS;
 
 // The answer, with 6 the first block met, and the numbers of blocks entered, of entries in the log and of counts written, 0
 // where the answer isn't.
-#[derive(Drop)]
+#[derive(Clone, Copy)]
 pub struct Mended {
     pub number: u8,
     pub met: u64,

@@ -1,4 +1,6 @@
 // One message of an object header.
+#![tactic(auto)]
+
 ghost use Rattle.std.specs.Prelude.{◌≡◌, ◌+◌, ◌≤◌, ◌<◌, length, eqb, leb};
 ghost use Rattle.format.specs.Bytes.{◌implies◌, in_range, u64};
 ghost use Rattle.format.specs.Message.{treatment, allowed, is_shared};
@@ -8,14 +10,14 @@ use format::answers;
 use walk::numbers::{u16_at, u64_at};
 
 // A message's body: where it begins in the image, its length, and the message's flags.
-#[derive(Drop)]
+#[derive(Clone, Copy)]
 pub struct Body {
     pub place: usize,
     pub size: usize,
     pub flags: u8,
 }
 
-#[derive(Drop)]
+#[derive(Clone, Copy)]
 pub enum Treatment {
     SteppedOver,
     IsRead,
@@ -77,7 +79,7 @@ fn continuation_sound(image: &[u8], kind: u64, body: usize) -> bool
     8 <= u64_at(image, body + 8)
 }
 
-#[derive(Drop)]
+#[derive(Clone, Copy)]
 pub enum MessageRead {
     Read { kind: u64, size: usize, flags: u8 },
     Refused(u8),

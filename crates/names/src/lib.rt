@@ -1,5 +1,7 @@
 // The strings of a heap's data segment: names, link values and keys. `ended` is how many bytes the segment has up to its last NUL: by it a string
 // ends in the segment or doesn't, and none is read only to know that.
+#![tactic(auto)]
+
 ghost use Rattle.std.specs.Prelude.{◌≡◌, List, ◌+◌, ◌≤◌, ◌<◌, length, drop};
 ghost use Rattle.format.specs.Blocks.{Block};
 ghost use Rattle.format.specs.Bytes.{part, contains};
@@ -17,7 +19,7 @@ use order::{contains, contains_8, contains_16};
 use string_ends::ends_outside;
 
 // What can be wrong with a string, in this order.
-#[derive(Drop)]
+#[derive(Clone, Copy)]
 pub enum NameFault {
     Outside,
     NoNul,
@@ -25,7 +27,7 @@ pub enum NameFault {
     InFreeBlock,
 }
 
-#[derive(Drop)]
+#[derive(Clone, Copy)]
 pub enum Text {
     // The length of the string, without its NUL.
     Sound(usize),
@@ -33,7 +35,7 @@ pub enum Text {
 }
 
 // A string whose length isn't asked for.
-#[derive(Drop)]
+#[derive(Clone, Copy)]
 pub enum Checked {
     Sound,
     Fault(NameFault),

@@ -1,4 +1,6 @@
 // A node of the tree.
+#![tactic(auto)]
+
 ghost use Rattle.std.specs.Prelude.{◌≤◌, ◌<◌, length};
 ghost use Rattle.format.specs.Limits.{blocks_most};
 ghost use Rattle.walk.specs.Lent.{Lent};
@@ -15,7 +17,7 @@ use walk::{blocks, kinds};
 // The signature TREE as a number, the lowest byte first.
 const TREE: u64 = 0x45455254;
 
-#[derive(Drop)]
+#[derive(Clone, Copy)]
 pub enum NodeRead {
     Read {
         level: u8,
@@ -69,7 +71,7 @@ pub fn read_node(image: &[u8], list: &mut [u64], group: Group, count: usize, at:
     }
 }
 
-#[derive(Drop)]
+#[derive(Clone, Copy)]
 pub enum BranchRead {
     Read { entries: usize, count: usize },
     Stopped(Refusal),

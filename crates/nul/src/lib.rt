@@ -1,4 +1,6 @@
 // The NULs of a segment: where a string ends, and the last one.
+#![tactic(auto)]
+
 ghost use Rattle.std.specs.Prelude.{◌≤◌, length};
 ghost use Rattle.nul.specs.Nul.{NulWithin, NoneFrom, LastNul};
 

@@ -1,2 +1,4 @@
 // The objects of an audit, each walked once.
+#![tactic(auto)]
+
 pub mod object;

@@ -19,7 +19,7 @@ use superblock::Superblock;
 use symbol::entry::Step;
 
 // The blocks entered and the objects found, or the refusal.
-#[derive(Drop)]
+#[derive(Clone, Copy)]
 pub enum ObjectRead {
     Done { count: usize, objects: usize },
     Stopped(Refusal),

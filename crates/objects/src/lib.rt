@@ -1,4 +1,6 @@
 // All objects of the audit, in order of discovery.
+#![tactic(auto)]
+
 ghost use Rattle.format.specs.Limits.{objects_most};
 ghost use Rattle.format.specs.Audit.{objects_walk};
 ghost use Rattle.superblock.specs.Superblock.{superblock_of};

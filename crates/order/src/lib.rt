@@ -1,5 +1,7 @@
 // Strings compared bytewise. Whether they are the same: sixteen bytes at a time, eight once, then byte by byte. The loops over sixteen and eight bytes
 // have no way out, so that they are compiled to vector instructions. Which is below: sixteen bytes at a time, then eight or four as one number.
+#![tactic(auto)]
+
 ghost use Rattle.std.specs.Prelude.{◌≡◌, ◌+◌, ◌≤◌, ◌<◌, min, length, get_or, drop};
 ghost use Rattle.format.specs.Bytes.{part, same_bytes, contains};
 ghost use Rattle.format.specs.Names.{below};

@@ -1,5 +1,7 @@
 // Numbered things kept in an order, in a list of words. What the numbers stand for and what their order is no function here knows: a
 // search has found the place.
+#![tactic(auto)]
+
 ghost use Rattle.std.specs.Prelude.{◌+◌, ◌≤◌, ◌<◌, length};
 ghost use Rattle.ordering.specs.Order.{Inserted};
 ghost use Rattle.ordering.specs.Merge.{Held, MergedIn, Raised};
@@ -34,7 +36,7 @@ fn raise(words: &mut [u64], first: usize, last: usize, by: usize)
 
 // Two orderings in one list: from `first` on the `count` numbers below `count`; from `second` on the `added` numbers behind these, counted
 // from `count`; and from `places` on, for each of the second, how many of the first stand before it.
-#[derive(Drop)]
+#[derive(Clone, Copy)]
 pub struct Runs {
     pub first: usize,
     pub count: usize,

@@ -1,4 +1,6 @@
 // The lines that the command prints, in ASCII: hexadecimal digits in lower case, and a line feed.
+#![tactic(auto)]
+
 ghost use Rattle.std.specs.Prelude.{◌≡◌, ◌+◌, ◌*◌, ◌≤◌, ◌<◌, length};
 ghost use Rattle.format.specs.Bytes.{overwrite};
 ghost use Rattle.format.specs.Limits.{objects_most};

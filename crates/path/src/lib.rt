@@ -1,4 +1,6 @@
 // The form of a path, read in place.
+#![tactic(auto)]
+
 ghost use Rattle.std.specs.Prelude.{◌≡◌, ◌≤◌, length, drop};
 ghost use Rattle.format.specs.Path.{path_parts, is_component, all_components};
 ghost use Rattle.path.specs.Form.{EndsAt, SoundPath};

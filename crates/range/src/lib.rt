@@ -1,4 +1,6 @@
 // The keys that bound a name: of all nodes above it the highest key before it and the lowest behind it.
+#![tactic(auto)]
+
 ghost use Rattle.std.specs.Prelude.{◌≡◌};
 ghost use Rattle.format.specs.Names.{below as is_below};
 ghost use Rattle.range.specs.Range.{NameInside, RangeInside, name_in, at_most, Floor, HigherOf, LowerOf, Narrowed};
@@ -7,7 +9,7 @@ use order::below;
 
 // A string of the segment: its offset, its length, and the numbers of its first eight bytes and of the next eight, by which most strings are
 // compared.
-#[derive(Drop)]
+#[derive(Clone, Copy)]
 pub struct Name {
     pub at: usize,
     pub size: usize,
@@ -15,7 +17,7 @@ pub struct Name {
     pub second: u64,
 }
 
-#[derive(Drop)]
+#[derive(Clone, Copy)]
 pub struct Range {
     pub bounded: bool,
     pub low: Name,

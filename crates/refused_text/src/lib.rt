@@ -1,4 +1,6 @@
 // The lines of a file that the audit refuses.
+#![tactic(auto)]
+
 use answer_text::{put_answer, put_kind};
 use damaged_block::block::ListedBlock;
 use format::answers;
@@ -61,7 +63,7 @@ fn put_entered(out: &mut [u8], at: usize, block_count: usize) -> usize {
 }
 
 // What the report says of a fault behind its answer.
-#[derive(Drop)]
+#[derive(Clone, Copy)]
 pub struct Damage {
     pub block: ListedBlock,
     pub place: u64,

@@ -1,4 +1,6 @@
 // The damage report: the audit's answer and, of a file that it refuses, the damaged block.
+#![tactic(auto)]
+
 ghost use Rattle.std.specs.Prelude.{◌≡◌, ℕ, ◌*◌, ◌≤◌, length, take};
 ghost use Rattle.format.specs.Blocks.{no_object, block_words, room_of};
 ghost use Rattle.walk.specs.Lent.{blocks_of, places_of, handed};
@@ -18,7 +20,7 @@ use walk::blocks::WORK_WORDS;
 
 // The audit's answer; how many blocks were entered; the place of the fault and the damaged block, zeros of a sound file; with 6
 // the first block met; and the number of objects, 0 where the answer isn't 0.
-#[derive(Drop)]
+#[derive(Clone, Copy)]
 pub struct Reported {
     pub answer: u8,
     pub block_count: usize,

@@ -1,4 +1,6 @@
 // The command of the damage report: the reading and writing around its text.
+#![tactic(auto)]
+
 ghost use Rattle.std.specs.Prelude.{◌<◌, length};
 ghost use Rattle.format.specs.Limits.{input_most};
 

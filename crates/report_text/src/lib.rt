@@ -1,4 +1,6 @@
 // The text of a damage report, for a person to read. It is tested and not proved: the functions here are proved to be safe and to end.
+#![tactic(auto)]
+
 mod sound;
 
 ghost use Rattle.io.specs.Counts.{IsPrefixLen};

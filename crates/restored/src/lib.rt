@@ -1,4 +1,6 @@
 // A mend that is taken back at once: the image is then the old one, whatever lists are lent.
+#![tactic(auto)]
+
 ghost use Rattle.std.specs.Prelude.{◌≡◌, length};
 ghost use Rattle.format.specs.Front.{c_mend};
 ghost use Rattle.restored.specs.Restored.{Restored};

@@ -1,4 +1,6 @@
 // The messages of one block of a header.
+#![tactic(auto)]
+
 ghost use Rattle.std.specs.Prelude.{◌+◌, ◌-◌, ◌≤◌, length};
 ghost use Rattle.sharing.specs.Sharing.{TablesIf};
 ghost use Rattle.scan.specs.Scan.{Scanned, Readable, NextIs};
@@ -10,13 +12,13 @@ use tally::Tally;
 use walk::numbers::u16_at;
 
 // What messages come to, and the number of objects found with them.
-#[derive(Drop)]
+#[derive(Clone, Copy)]
 pub struct Gathering {
     pub tally: Tally,
     pub objects: usize,
 }
 
-#[derive(Drop)]
+#[derive(Clone, Copy)]
 pub enum Scan {
     Done(Gathering),
     Stopped(Refusal),

@@ -1,4 +1,6 @@
 // A heap's data segment, looked over once: its free list with a map of its free bytes, and where its strings end.
+#![tactic(auto)]
+
 ghost use Rattle.std.specs.Prelude.{List, ◌*◌, ◌≤◌, ◌<◌, length};
 ghost use Rattle.format.specs.Blocks.{Block};
 ghost use Rattle.free_map.specs.FreeMap.{MapOf};
@@ -9,7 +11,7 @@ ghost use Rattle.segment.specs.Segment.{SegmentIs};
 use free_list::{FreeList, free_list};
 use nul::last_nul;
 
-#[derive(Drop)]
+#[derive(Clone, Copy)]
 pub enum SegmentRead {
     // The number of its free blocks, and of its bytes up to the last NUL, with it.
     Sound { free: usize, ended: usize },

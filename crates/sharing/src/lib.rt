@@ -1,5 +1,7 @@
 // Sharings: what an attribute or a dataset shares is counted as an object, and a mark of each object says what is known of
 // it. The marks stand beside the table of objects, in the same order.
+#![tactic(auto)]
+
 ghost use Rattle.std.specs.Prelude.{◌<◌, length};
 ghost use Rattle.sharing.specs.Sharing.{Tables, TablesIf, Shared, MessageVisited, TypeShared, KindKnown};
 
@@ -16,7 +18,7 @@ pub const SHARED: u8 = 1;
 pub const OTHER_KIND: u8 = 2;
 
 // The number of objects after the sharing, or the answer to it.
-#[derive(Drop)]
+#[derive(Clone, Copy)]
 pub enum Sharing {
     Counted(usize),
     Refused(u8),

@@ -1,10 +1,12 @@
 // Where a command's input comes from: the file that its one argument names, or standard input.
+#![tactic(auto)]
+
 ghost use Rattle.io.specs.Counts.{IsPrefixLen};
 
 use libc::{STDERR_FILENO, STDIN_FILENO};
 
 // What is to be read, negative if that is nothing, and how many bytes its name has. Standard input has no name.
-#[derive(Drop)]
+#[derive(Clone, Copy)]
 pub struct Source {
     pub fd: i32,
     pub named: usize,

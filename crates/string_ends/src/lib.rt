@@ -1,5 +1,7 @@
 // Which strings of a segment end outside its free blocks: found once for all cells of the map, so that a string of any length is judged
 // by the bytes of one cell.
+#![tactic(auto)]
+
 ghost use Rattle.std.specs.Prelude.{List, ◌≡◌, ◌*◌, ◌/◌, ◌≤◌, ◌<◌, length};
 ghost use Rattle.format.specs.Blocks.{Block};
 ghost use Rattle.free_map.specs.FreeMap.{MapOf};

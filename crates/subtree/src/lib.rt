@@ -1,4 +1,6 @@
 // What hangs below a node of a group's tree: a symbol table node, or a node with its children.
+#![tactic(auto)]
+
 ghost use Rattle.std.specs.Prelude.{◌+◌};
 ghost use Rattle.range.specs.Range.{RangeInside};
 ghost use Rattle.key.specs.Key.{KeyAt};

@@ -1,4 +1,6 @@
 // The superblock, versions 0 and 1.
+#![tactic(auto)]
+
 ghost use Rattle.std.specs.Prelude.{◌≡◌, List, [], ℕ, ◌≤◌, ◌<◌, length};
 ghost use Rattle.format.specs.Superblock.{open_image, versions_read, sizes_read, addresses_read};
 ghost use Rattle.format.specs.Superblock.{superblock_read, superblock_sound, superblock_fields, superblock_walk};
@@ -14,7 +16,7 @@ use walk::{blocks, kinds};
 // The signature's eight bytes as a number, the lowest first: 89 48 44 46 0d 0a 1a 0a.
 const SIGNATURE: u64 = 0x0a1a0a0d46444889;
 
-#[derive(Drop)]
+#[derive(Clone, Copy)]
 pub struct Superblock {
     pub size: u64,
     pub leaf_k: u64,
@@ -23,7 +25,7 @@ pub struct Superblock {
     pub root: u64,
 }
 
-#[derive(Drop)]
+#[derive(Clone, Copy)]
 pub enum Opening {
     Opened(Superblock),
     NotOpened(u8),

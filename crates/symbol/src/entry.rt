@@ -16,7 +16,7 @@ use walk::numbers::{u32_at, u64_at};
 
 // What stays the same over the whole descent. Of the heap: the head of the free list, the number of its blocks, and how many bytes the segment has up
 // to its last NUL.
-#[derive(Drop)]
+#[derive(Clone, Copy)]
 pub struct Group {
     pub end_of_file: u64,
     pub room: usize,
@@ -29,7 +29,7 @@ pub struct Group {
 }
 
 // What the descent has come to: the blocks entered, the objects in the table, the last name, and a lookup's answer.
-#[derive(Drop)]
+#[derive(Clone, Copy)]
 pub struct State {
     pub count: usize,
     pub objects: usize,
@@ -37,13 +37,13 @@ pub struct State {
     pub link: Link,
 }
 
-#[derive(Drop)]
+#[derive(Clone, Copy)]
 pub enum Step {
     Done(State),
     Stopped(Refusal),
 }
 
-#[derive(Drop)]
+#[derive(Clone, Copy)]
 pub enum Value {
     Sound,
     Unsound(u8),

@@ -1,2 +1,4 @@
 // The entries of symbol table nodes.
+#![tactic(auto)]
+
 pub mod entry;

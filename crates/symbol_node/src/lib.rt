@@ -1,4 +1,6 @@
 // A symbol table node.
+#![tactic(auto)]
+
 ghost use Rattle.std.specs.Prelude.{◌*◌, ◌+◌, ◌≤◌, length};
 ghost use Rattle.symbol_node.specs.Tree.{Descending, SymbolsAre};
 

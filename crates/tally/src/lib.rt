@@ -1,18 +1,20 @@
 // What a header's messages come to: how many there are, and of each type that decides the object's kind how many and where
 // the first one's body is.
+#![tactic(auto)]
+
 ghost use Rattle.std.specs.Prelude.{◌≡◌, List, [], ◌∷◌, ◌++◌, ℕ, ◌+◌, min};
 ghost use Rattle.format.specs.Message.{Message};
 ghost use Rattle.tally.specs.Tally.{Placed, message_at, IsFirst, Tallied};
 
 // The first message of a type. The count is 0, 1, or 2 for more than one.
-#[derive(Drop)]
+#[derive(Clone, Copy)]
 pub struct First {
     pub count: usize,
     pub place: usize,
 }
 
 // The total is the number of messages, or 65,536 for as many and more: no message count is as high.
-#[derive(Drop)]
+#[derive(Clone, Copy)]
 pub struct Tally {
     pub total: usize,
     pub space: First,

@@ -1,5 +1,7 @@
 // Text in a lent buffer. Each function writes from a place on and returns the place behind what it wrote. What has no room is left
 // out, so that no caller has to show that there is room.
+#![tactic(auto)]
+
 pub mod dump;
 
 pub fn put_byte(out: &mut [u8], at: usize, byte: u8) -> usize {

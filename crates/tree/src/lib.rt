@@ -1,4 +1,6 @@
 // The whole tree of a group, from its root.
+#![tactic(auto)]
+
 ghost use Rattle.std.specs.Prelude.{◌+◌};
 ghost use Rattle.symbol_node.specs.Tree.{Fixed, Sound};
 ghost use Rattle.tree.specs.Tree.{HeightAt, TreeIs};

@@ -1,4 +1,6 @@
 // Undo: writes the old counts of a mender's log back into the image. The log is bytes of any length, so that its words are read in place.
+#![tactic(auto)]
+
 ghost use Rattle.std.specs.Prelude.{◌≡◌, true, ◌-◌, ◌*◌, ◌≤◌, min, length, drop};
 ghost use Rattle.format.specs.Log.{changes, restored};
 ghost use Rattle.format.specs.Undo.{fits as fits_image, all_fit, undo_number};
@@ -15,7 +17,7 @@ const OLD_UNIT: u64 = 4294967296;
 const ENTRY_BYTES: usize = 16;
 
 // The answer, and the number of writes done, 0 where the answer isn't.
-#[derive(Drop)]
+#[derive(Clone, Copy)]
 pub struct Undone {
     pub number: u8,
     pub writes: u64,

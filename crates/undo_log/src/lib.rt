@@ -1,4 +1,6 @@
 // The undo log of a mending: the wrong counts of a ledger as entries of two words, and the writing of the first of them.
+#![tactic(auto)]
+
 ghost use Rattle.std.specs.Prelude.{◌≡◌, ◌++◌, ◌+◌, ◌*◌, ◌^◌, ◌≤◌, length, take};
 ghost use Rattle.format.specs.Limits.{objects_most};
 ghost use Rattle.format.specs.Bytes.{padded};

@@ -1,4 +1,6 @@
 // What is done at an entry: the audit counts a hard link, a lookup compares the name.
+#![tactic(auto)]
+
 ghost use Rattle.std.specs.Prelude.{◌+◌, ◌^◌, ◌<◌, ◌≡◌};
 ghost use Rattle.format.specs.Bytes.{same_bytes};
 ghost use Rattle.ledger.specs.Links.{link_sum};
@@ -18,7 +20,7 @@ pub const SYMBOLIC: u64 = 2;
 
 // What the entries met so far say of the wanted name: one of these, and the header address of a hard link. As two numbers it is copied with
 // every entry in one piece.
-#[derive(Drop)]
+#[derive(Clone, Copy)]
 pub struct Link {
     pub found: u64,
     pub header: u64,
@@ -59,7 +61,7 @@ fn compare(name: &[u8], wanted: &[u8], kind: u64, header: u64, link: Link) -> Li
     }
 }
 
-#[derive(Drop)]
+#[derive(Clone, Copy)]
 pub enum Visit {
     Done { objects: usize, link: Link },
     Full,

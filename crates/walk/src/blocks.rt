@@ -74,7 +74,7 @@ pub fn hand_over(list: &mut [u64], work: &[u64], count: usize)
     clear_from(list, used);
 }
 
-#[derive(Drop)]
+#[derive(Clone, Copy)]
 pub enum Entry {
     Entered(usize),
     Refused(Refusal),

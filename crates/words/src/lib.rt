@@ -1,4 +1,6 @@
 // Words of 64 bits as little-endian bytes.
+#![tactic(auto)]
+
 ghost use Rattle.std.specs.Prelude.{◌≡◌, ◌++◌, ◌+◌, ◌-◌, ◌*◌, ◌≤◌, length, take, replicate};
 ghost use Rattle.format.specs.Bytes.{to_bytes, overwrite};
 ghost use Rattle.format.specs.Front.{padded_bytes};

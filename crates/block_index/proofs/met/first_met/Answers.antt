@@ -1,0 +1,22 @@
+-- The first run gives the least of its blocks, and the second the least of its own and of that.
+use mathlib.Core.Path.{refl}
+use Rattle.block_index.proofs.SortedRuns.{first-sorted, second-sorted}
+use Rattle.block_index.proofs.MetLaws.{least-of-both}
+use borrow.Author.Rules.{rules}
+use Rattle.block_index.proofs.met.first_met.Goals as goal
+
+pub least_met-low-requires : goal.least_met-low-requires
+least_met-low-requires c = rw c.first_run-run.ensures (first-sorted _ _ c.requires.0)
+
+pub least_met-requires : goal.least_met-requires
+least_met-requires c = rw c.second_run-last.ensures (second-sorted _ _ c.requires.0)
+
+pub returns : goal.returns
+returns c =
+    let s = c in
+    let a = s.args in
+    let f = c.first_run-run.ensures in
+    let g = c.second_run-last.ensures in
+    least-of-both _ _ a.at a.size _ _ (s.requires.1.1.0.meets s.requires.1.1.1)
+    (rw f at (c.least_met-low.ensures a.at a.size refl (rw f s.requires.1.1.0.first)))
+    (rw g at (c.least_met.ensures a.at a.size refl (rw g s.requires.1.1.0.second)))

@@ -1,0 +1,59 @@
+-- The list stays indexed, and each search compares few blocks.
+use Prim.Native.Nat.{◌+◌, ◌-◌}
+use mathlib.Core.Path.{◌≡◌, refl, sym, ◌∙◌}
+use lib.ListN.{length}
+use Rattle.walk.specs.Lent.{Lent, places_of}
+use Rattle.walk.proofs.BlockList.{lent_none}
+use Rattle.block_orders.proofs.Counted.{Few, entered-lent, few-less}
+use borrow.Author.Rules.{rules}
+use native.Mathlib.Omega.{arith}
+use Rattle.block_orders.proofs.compared.compare.Goals as goal
+
+lent : (c : goal.In-Entered-2 →
+    Lent c.enter.new.1.0 c.in-Entered.n c.places-room.result × (c.in-Entered.n ≡ c.loop-count.count + 1)
+lent c =
+    let e = c.enter.ensures in
+    entered-lent _ _ _ _ _ _ c.loop-count.work _ _ c.loop-count.invariant.0 e.1 (sym c.in-Entered.is ∙ e.0)
+
+pub loop-count-init : goal.loop-count-init
+loop-count-init c =
+    let list = c.args.work.now in
+    (rw c.places-room.ensures (lent_none list), c.places-room.ensures, refl, λ m h. omega arith)
+
+pub returns-then-end_of_file-at : goal.returns-then-end_of_file-at
+returns-then-end_of_file-at c = let l = c.loop-count in λ m h. l.invariant.3 m (rw l.invariant.1 h)
+
+pub returns-then-end_of_file-at-2 : goal.returns-then-end_of_file-at-2
+returns-then-end_of_file-at-2 c = let l = c.loop-count in λ m h. l.invariant.3 m (rw l.invariant.1 h)
+
+pub find-found-requires : goal.find-found-requires
+find-found-requires c =
+    let l = c.loop-count in
+    record {
+      indexed = l.invariant.0.indexed;
+      size_bound = omega arith;
+    }
+
+pub returns-in-Refused : goal.returns-in-Refused
+returns-in-Refused c =
+    let l = c.loop-count in
+    λ m h. l.invariant.3 m (rw l.invariant.1 h)
+
+pub loop-count-smaller : goal.loop-count-smaller
+loop-count-smaller c =
+    let l = lent c in
+    omega (arith, l.1, l.0.counted)
+
+pub loop-count-preserved : goal.loop-count-preserved
+loop-count-preserved c =
+    let n = c in
+    let t = n.loop-count in
+    let found = n.find-found.ensures in (
+      (lent n).0,
+      t.inv.1,
+      n.enter.auto.1.0 ∙ t.inv.2,
+      λ m h. c.larger-most.ensures.2 (m + 10) (t.inv.3 m h) (few-less _ t.count _ t.inv.0.counted found.tests m h),
+    )
+
+pub returns : goal.returns
+returns c = let l = c.loop-count in λ m h. l.invariant.3 m (rw l.invariant.1 h)

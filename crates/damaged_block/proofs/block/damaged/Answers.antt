@@ -1,0 +1,9 @@
+-- A fault lies in a block of the list; a block that can't be entered is named as it is pointed to.
+use borrow.Author.Rules.{rules}
+use Rattle.damaged_block.proofs.block.damaged.Goals as goal
+
+pub returns-in-Fault : goal.returns-in-Fault
+returns-in-Fault c = rw c.in-Fault.is c.holding.ensures
+
+pub returns-in-NotEntered : goal.returns-in-NotEntered
+returns-in-NotEntered c = rw c.in-NotEntered.is c.refused_block.ensures

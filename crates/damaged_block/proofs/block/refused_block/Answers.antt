@@ -1,0 +1,7 @@
+-- The number behind that of the last block.
+use mathlib.Core.Path.{refl}
+use borrow.Author.Rules.{rules}
+use Rattle.damaged_block.proofs.block.refused_block.Goals as goal
+
+pub returns : goal.returns
+returns c = rw (c.owner_after.ensures, c.last_owner.ensures) refl

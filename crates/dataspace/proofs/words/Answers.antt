@@ -1,0 +1,31 @@
+-- The words read so far stand in front of zeros; each turn writes one more.
+use Prim.Native.Nat.{◌-◌, ◌≤◌}
+use mathlib.Core.Path.{◌≡◌, ap, ◌∙◌}
+use lib.ListN.{drop, set}
+use Rattle.format.specs.Limits.{rank_most}
+use Rattle.format.specs.Bytes.{to_words, padded}
+use Rattle.dataspace.proofs.DataspaceLaws.{rank-held, padded-start, padded-next}
+use native.Mathlib.Omega.{arith}
+use borrow.Author.Rules.{rules}
+use Rattle.dataspace.proofs.words.Goals as goal
+
+pub loop-i-init : goal.loop-i-init
+loop-i-init c = (search rules, padded-start (drop c.args.from c.args.body.now))
+
+pub bounds-words-i : goal.bounds-words-i
+bounds-words-i c = rank-held _ _ c.loop-i-test.true c.requires.1
+
+pub loop-i-preserved : goal.loop-i-preserved
+loop-i-preserved c =
+    let s = c in
+    let a = s.args in (
+      search rules,
+      ap (λ (l : _). set l s.loop-i.i c.u64_at.result) s.loop-i.invariant.1
+          ∙ padded-next a.body.now a.from s.loop-i.i (omega (arith, s.requires.1)) c.u64_at.ensures,
+    )
+
+pub returns : goal.returns
+returns c =
+    let s = c in
+    let e : s.loop-i.i ≡ s.args.rank = omega arith in
+    s.loop-i.invariant.1 ∙ rw e

@@ -1,0 +1,20 @@
+-- The part of the image is the body.
+use borrow.Author.Rules.{rules}
+use mathlib.Core.Path.{subst, sym}
+use mathlib.Core.List.{List}
+use Prim.Native.Nat.{ℕ, ◌+◌, ◌*◌, ◌≤◌}
+use lib.ListN.{length}
+use Rattle.dataset.proofs.DatasetLaws.{body-part}
+use Rattle.describe.proofs.fields.words_in.Goals as goal
+
+pub words-requires : goal.words-requires
+words-requires c =
+    let s = c in
+    let a = s.args in
+    record {
+      rank_in_bounds = subst (λ (b : List ℕ). a.from + 8 * a.rank ≤ length b) (sym (body-part a.image.now a.body.place a.body.size)) s.requires.1.0;
+      rank_le_rank_most = s.requires.1.1;
+    }
+
+pub returns : goal.returns
+returns c = rw body-part at c.words.ensures

@@ -1,0 +1,24 @@
+-- What is left of the path begins at `from`, and leads on from the object at `at`.
+use borrow.Author.Rules.{rules}
+use native.Mathlib.Omega.{arith}
+use Prim.Native.Nat.{ℕ, ◌+◌, ◌-◌, ◌≤◌}
+use mathlib.Core.List.{List}
+use mathlib.Core.Path.{◌≡◌, refl, ap, sym, subst, ◌∙◌}
+use lib.ListN.{length}
+use Rattle.walk.specs.Lent.{Lent}
+use Rattle.superblock.specs.Superblock.{superblock_of}
+use Rattle.path.specs.Form.{components_of}
+use Rattle.component.specs.Component.{EndsAs}
+use Rattle.follow.specs.Follow.{target_run, rest_of}
+use Rattle.component.specs.declared.Target.TheVariants.{Object, Symbolic, Stopped}
+use Rattle.follow.proofs.FollowLaws.{rest-first, object-next, symbolic-next, stopped-next, none_left, root-alone, lent_same}
+use Rattle.follow.proofs.follow.Given as goal
+
+abbrev pub invariant-loop-from : goal.invariant-loop-from
+invariant-loop-from l =
+    (target_run l.image (superblock_of l.superblock) l.room (components_of l.path) l.superblock.root ≡ target_run l.image (superblock_of l.superblock) l.room
+    (rest_of l.path l.from) l.at)
+    × Lent l.list 0 l.room × (length l.list ≡ length l.initial.list) × (l.from ≤ length l.path + 1)
+
+abbrev pub decreases-loop-from : goal.decreases-loop-from
+decreases-loop-from l = length l.path + 1 - l.from

@@ -1,0 +1,110 @@
+-- The fuel of the definition is what is left of the segment's length; each turn is one block, which the map then has.
+use Prim.Native.Nat.{◌+◌, ◌*◌, ◌-◌, ◌≤◌}
+use mathlib.Core.Path.{◌≡◌, refl, sym, ◌∙◌}
+use borrow.Author.Tests.{eq-eqb, ne_eqb, not-true, not-false}
+use lib.ListN.{length}
+use Rattle.format.specs.Bytes.{u64, undefined_address}
+use Rattle.free_list.specs.FreeBlocks.{chain}
+use Rattle.free_list.specs.Spanned.{Spanned}
+use Rattle.free_list.proofs.FreeLaws.{Following, none-held, free-none, free-undefined, free-start}
+use Rattle.free_list.proofs.FreeLaws.{block-unsound, block_inside, block_held, block-spanned, block_last, block_more, free-long}
+use borrow.Author.Rules.{rules}
+use native.Mathlib.Omega.{arith}
+use Rattle.free_list.proofs.free_list.Goals as goal
+
+pub returns-then-head-eq1 : goal.returns-then-head-eq1
+unfolding chain
+returns-then-head-eq1 c =
+    let start = c in
+    record { value = free-none _ _ (eq-eqb start.args.head 1 (omega arith)); held = none-held start.requires.zeros; long = refl }
+
+pub returns-then-head-eq-UNDEFINED_ADDRESS : goal.returns-then-head-eq-UNDEFINED_ADDRESS
+unfolding chain undefined_address
+returns-then-head-eq-UNDEFINED_ADDRESS c =
+    let start = c in
+    let head = start.args.head in record {
+      value = free-undefined _ _ (ne_eqb head 1 (λ e. omega arith)) (eq-eqb head undefined_address (omega arith));
+      held = none-held start.requires.zeros;
+      long = refl;
+    }
+
+pub loop-met-init : goal.loop-met-init
+unfolding undefined_address chain
+loop-met-init c =
+    let start = c in
+    let a = start.args in (
+      omega arith,
+      free-start a.segment.now a.map.now a.head (ne_eqb a.head 1 (λ e. omega arith)) (ne_eqb a.head undefined_address (λ e. omega arith))
+          start.requires.zeros,
+      refl,
+      tt,
+    )
+
+pub add_block-requires : goal.add_block-requires
+add_block-requires c =
+    let l = c.loop-met in
+    let start = c in
+    record {
+      segment_len_bound = λ h. omega (arith, l.invariant.2, start.requires.long (omega (arith, l.invariant.2)));
+      held = l.invariant.1.held;
+      spanned = l.invariant.3;
+    }
+
+pub returns-then-not-add_block : goal.returns-then-not-add_block
+returns-then-not-add_block c =
+    let at-add = c in
+    let l = at-add.before.before.before.loop in
+    let t = at-add.add_block.ensures in
+    record { value = block-unsound l.invariant.1 t (omega arith) (not-true _ c.if-not-add_block.true); held = tt; long = t.long ∙ l.invariant.2 }
+
+-- the block lies in the segment
+inside : (c : goal.Else-not-add_block →
+    let a = c in
+    let seg = a.args.segment.now in
+    (a.loop-met.at + 16 ≤ length seg) × (a.loop-met.at + u64 seg (a.loop-met.at + 8) ≤ length seg)
+inside c =
+    let at-add = c in
+    let l = at-add.before.before.before.loop in
+    block_inside l.invariant.1 at-add.add_block.ensures (omega arith) (not-false _ c.if-not-add_block.false)
+
+pub overflow_add-off : goal.overflow_add-off
+overflow_add-off c = omega (arith, (inside c).0)
+
+pub u64_at-requires : goal.u64_at-requires
+u64_at-requires c = omega (arith, (inside c).0)
+
+pub widened-span-requires : goal.widened-span-requires
+widened-span-requires c = omega (arith, (inside c).1, c.u64_at.ensures.value)
+
+pub u64_at-next-requires : goal.u64_at-next-requires
+u64_at-next-requires c = omega (arith, (inside c).0)
+
+pub returns-then-next-eq1 : goal.returns-then-next-eq1
+returns-then-next-eq1 c =
+    let at_test = c in
+    let at-add = at_test in
+    let l = at-add.before.before.before.loop in
+    let t = at-add.add_block.ensures in
+    let s = not-false _ at_test.if-not-add_block.false in record {
+      value = block_last l.invariant.1 t (omega arith) s (sym c.u64_at-next.ensures.value ∙ c.if-next-eq1.true);
+      held = block_held l.invariant.1 t (omega arith) s;
+      long = t.long ∙ l.invariant.2;
+    }
+
+pub loop-met-preserved : goal.loop-met-preserved
+loop-met-preserved c =
+    let at_next = c in
+    let at-widened = at_next in
+    let at_size = at-widened.before in
+    let at_test = at_size.before in
+    let at-add = at_test.before.before.before in
+    let l = at-add.before.before.before.loop in
+    let t = at-add.add_block.ensures in (
+      omega arith,
+      block_more l.invariant.1 t (omega arith) (not-false _ at_test.if3.false) at_next.u64_at-next.ensures.value c.if-next-eq1.false,
+      t.long ∙ l.invariant.2,
+      block-spanned l.invariant.1 t (omega arith) l.invariant.3 at_size.u64_at.ensures.value at-widened.widened.ensures,
+    )
+
+pub returns : goal.returns
+returns c = let l = c in record { value = free-long l.loop-met.invariant.1 (omega arith); held = tt; long = l.loop-met.invariant.2 }

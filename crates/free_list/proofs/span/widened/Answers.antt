@@ -1,0 +1,10 @@
+-- The lesser start and the greater end.
+use Rattle.free_list.proofs.SpanLaws.{spanned-more}
+use borrow.Author.Rules.{rules}
+use Rattle.free_list.proofs.span.widened.Goals as goal
+
+pub returns : goal.returns
+returns c =
+    let a = c.args in
+    λ bs s.
+    rw (c.lesser.ensures, c.greater.ensures) (spanned-more a.span.low a.span.high a.off a.size bs s)

@@ -1,0 +1,44 @@
+-- What the whole search finds is what it finds from this cell's byte on; each turn settles one cell.
+use Prim.Native.Nat.{◌+◌, ◌*◌, ◌-◌, ◌≤◌, ◌<◌}
+use mathlib.Core.Path.{◌≡◌, sym, ◌∙◌}
+use lib.ListN.{get_or}
+use Rattle.free_map.specs.Cells.{cell_meets}
+use Rattle.free_map.proofs.SearchLaws.{Left, left-first, turn-hit, turn-miss, turn_last}
+use borrow.Author.Rules.{rules}
+use native.Mathlib.Omega.{arith}
+use Rattle.free_map.proofs.meets.Goals as goal
+
+-- what was found in the cell
+found : (c : goal.After-cell_meets →
+    let l = c in
+    cell_meets (get_or l.args.map.now l.loop-c.c 0) l.loop-c.from 16 ≡ c.cell_meets.result
+found c = sym (rw c.cell.ensures at c.cell_meets.ensures)
+
+pub loop-c-init : goal.loop-c-init
+loop-c-init c =
+    let a = c.args in
+    (omega arith, omega arith, omega arith, left-first a.map.now a.off a.size)
+
+pub returns-then-cell_meets : goal.returns-then-cell_meets
+returns-then-cell_meets c =
+    let l = c in
+    let a = l.args in
+    turn-hit a.map.now a.off a.size l.loop-c.c l.loop-c.from l.loop-c.invariant.3 (omega arith) (omega arith) (found c ∙ c.if-cell_meets.true)
+
+pub loop-c-preserved : goal.loop-c-preserved
+loop-c-preserved c =
+    let l = c in
+    let a = l.args in (
+      omega arith,
+      omega arith,
+      omega arith,
+      turn-miss a.map.now a.off a.size l.loop-c.c l.loop-c.from l.loop-c.invariant.3 (omega arith) (omega arith)
+          (found c ∙ c.if-cell_meets.false),
+    )
+
+pub returns : goal.returns
+returns c =
+    let l = c in
+    let a = l.args in
+    rw (c.cell_meets-2.ensures, c.cell-2.ensures)
+    (turn_last a.map.now a.off a.size l.loop-c.c l.loop-c.from _ l.loop-c.invariant.3 (omega arith) (omega arith) (omega arith))

@@ -1,0 +1,17 @@
+-- The first i words are written; each turn writes one more.
+use Prim.Native.Nat.{◌≤◌, ◌-◌}
+use mathlib.Core.Path.{◌≡◌, refl, ◌∙◌}
+use lib.ListN.{length, take}
+use Rattle.format.specs.Bytes.{overwrite}
+use Rattle.format.specs.Front.{word_bytes}
+use Rattle.front.proofs.Reply.{put-more, put_all}
+use borrow.Author.Rules.{rules}
+use native.Mathlib.Omega.{arith}
+use Rattle.front_describe.proofs.put_words.Given as goal
+
+abbrev pub invariant-loop-i : goal.invariant-loop-i
+invariant-loop-i l =
+    (l.i ≤ length l.words) × (length l.reply ≡ length l.initial.reply) × (l.reply ≡ overwrite l.initial.reply l.at (word_bytes (take l.i l.words)))
+
+abbrev pub decreases-loop-i : goal.decreases-loop-i
+decreases-loop-i l = length l.words - l.i

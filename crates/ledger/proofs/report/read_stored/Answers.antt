@@ -1,0 +1,33 @@
+-- The counts before i are read; each turn reads one more.
+use Prim.Native.Nat.{◌+◌, ◌-◌, ◌≤◌}
+use lib.ListN.{length, get_or}
+use Rattle.ledger.specs.Report.{StoredRead}
+use Rattle.ledger.proofs.ReportLaws.{stored-none, stored_more, stored-all}
+use borrow.Author.Rules.{rules}
+use native.Mathlib.Omega.{arith}
+use Rattle.ledger.proofs.report.read_stored.Goals as goal
+
+-- the count of the ith object lies inside the image
+inside : (c : goal.After-shared_slice_known-in-loop-i-1 →
+    get_or c.args.addresses.now c.loop-i.i 0 + 8
+    ≤ length c.args.image.now
+inside c = c.requires.0.inside c.loop-i.i c.loop-i-test.true
+
+pub loop-i-init : goal.loop-i-init
+loop-i-init c = (omega arith, stored-none _ _ _)
+
+pub overflow_add-at : goal.overflow_add-at
+overflow_add-at c = omega (arith, inside c)
+
+pub u32_at-requires : goal.u32_at-requires
+u32_at-requires c = omega (arith, inside c)
+
+pub loop-i-preserved : goal.loop-i-preserved
+loop-i-preserved c =
+    let l = c in
+    (omega arith, stored_more _ _ _ _ _ _ l.loop-i.invariant.1 (omega arith) c.u32_at.ensures)
+
+pub returns : goal.returns
+returns c =
+    let l = c.loop-i in
+    stored-all _ _ _ _ l.i _ l.invariant.1 (omega arith)

@@ -1,0 +1,7 @@
+-- The number is the answer, and the block met is the refusal's.
+use borrow.Author.Rules.{rules}
+use mathlib.Core.Path.{refl}
+use Rattle.lookup.proofs.lookup.refused.Goals as goal
+
+pub returns : goal.returns
+returns c = rw (c.number_of.ensures, c.Met-of.ensures) refl

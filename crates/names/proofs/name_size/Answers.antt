@@ -1,0 +1,66 @@
+-- By the first sixteen bytes, if the segment has so many.
+use mathlib.Core.Bool.{true, false}
+use mathlib.Core.Path.{◌≡◌, sym, ◌∙◌}
+use borrow.Author.Tests.{not-true, not-false}
+use Rattle.format.specs.Bytes.{part, contains}
+use Rattle.names.proofs.StartLaws.{plain-none, ends-within, ends-plain, goes_on, slash-first}
+use Rattle.names.proofs.SizeLaws.{size-slashed, size-slashed-short}
+use native.Mathlib.Omega.{arith}
+use borrow.Author.Rules.{rules}
+use Rattle.names.proofs.name_size.Goals as goal
+
+-- a NUL is among sixteen bytes, or none
+with-nul : (c : goal.Else-not-contains_16) →
+    let a = c.args in contains 0 (part a.segment.now a.off 16) ≡ true
+with-nul c = sym c.contains_16.ensures ∙ not-false _ c.if-not-contains_16.false
+
+without-nul : (c : goal.Then-not-contains_16) →
+    let a = c.args in contains 0 (part a.segment.now a.off 16) ≡ false
+without-nul c = sym c.contains_16.ensures ∙ not-true _ c.if-not-contains_16.true
+
+pub size_behind-requires : goal.size_behind-requires
+size_behind-requires c = let start = c in record {
+  segment_in_bounds = start.requires;
+  passed_bound = omega arith;
+  plain = plain-none _ _;
+}
+
+pub returns-then-contains_16 : goal.returns-then-contains_16
+returns-then-contains_16 c =
+    let none = c in
+    let start = none in
+    size-slashed _ _ start.requires
+    (slash-first start.args.segment.now start.args.off (omega arith) (without-nul none) (sym c.contains_16-then-not-contains_16.ensures ∙ c.if-contains_16.true))
+
+pub size_behind-requires-then-not-contains_16 : goal.size_behind-requires-then-not-contains_16
+size_behind-requires-then-not-contains_16 c =
+    let none = c in
+    let start = none in
+    record {
+      segment_in_bounds = start.requires;
+      passed_bound = omega arith;
+      plain = goes_on _ _ (omega arith) (without-nul none) (sym c.contains_16-then-not-contains_16.ensures ∙ c.if-contains_16.false);
+    }
+
+pub has_slash-requires : goal.has_slash-requires
+has_slash-requires c =
+    let a = c.args in
+    record {
+      off_in_bounds = omega arith;
+      n_bound = omega (arith, ends-within a.segment.now a.off (with-nul c) c.string_size-n.ensures);
+    }
+
+pub returns-then-has_slash : goal.returns-then-has_slash
+returns-then-has_slash c =
+    let at_size = c in
+    let start = at_size in
+    size-slashed-short _ _ start.requires at_size.string_size-n.ensures (sym c.has_slash.ensures ∙ c.if-has_slash.true)
+
+pub size_unless_dot-requires : goal.size_unless_dot-requires
+size_unless_dot-requires c =
+    let at_size = c in
+    let start = at_size in
+    record {
+      segment_in_bounds = start.requires;
+      slashless = ends-plain _ _ (with-nul at_size) at_size.string_size-n.ensures (sym c.has_slash.ensures ∙ c.if-has_slash.false);
+    }

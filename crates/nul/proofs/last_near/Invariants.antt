@@ -1,0 +1,14 @@
+-- No byte from i on is a NUL.
+use Prim.Native.Nat.{◌≤◌}
+use lib.ListN.{length}
+use Rattle.nul.specs.Nul.{NoneFrom}
+use Rattle.nul.proofs.Search.{none-next}
+use borrow.Author.Rules.{rules}
+use native.Mathlib.Omega.{arith}
+use Rattle.nul.proofs.last_near.Given as goal
+
+abbrev pub invariant-loop-i : goal.invariant-loop-i
+invariant-loop-i l = (l.i ≤ length l.segment) × NoneFrom l.segment l.i
+
+abbrev pub decreases-loop-i : goal.decreases-loop-i
+decreases-loop-i l = l.i

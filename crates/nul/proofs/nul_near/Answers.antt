@@ -1,0 +1,26 @@
+-- No byte before i is a NUL; each byte that is none moves i.
+use Prim.Native.Nat.{◌-◌}
+use lib.ListN.{length}
+use Rattle.nul.proofs.NulLaws.{nul-here, nul-none}
+use Rattle.nul.proofs.Search.{At, at-start, at_next, within-nul}
+use borrow.Author.Rules.{rules}
+use native.Mathlib.Omega.{arith}
+use Rattle.nul.proofs.nul_near.Goals as goal
+
+pub loop-i-init : goal.loop-i-init
+loop-i-init c = at-start _ _ _ c.requires
+
+pub returns-then-segment-i-eq0 : goal.returns-then-segment-i-eq0
+returns-then-segment-i-eq0 c =
+    let l = c in
+    within-nul _ _ _ l.loop-i.i l.loop-i.invariant (nul-here l.args.segment.now l.loop-i.i (omega arith) c.if-segment-i-eq0.true)
+
+pub loop-i-preserved : goal.loop-i-preserved
+loop-i-preserved c =
+    let l = c in
+    at_next _ _ _ l.loop-i.i l.loop-i.invariant (omega arith) (omega arith) c.if-segment-i-eq0.false
+
+pub returns : goal.returns
+returns c =
+    let l = c in
+    within-nul _ _ _ l.loop-i.i l.loop-i.invariant (nul-none l.args.segment.now l.loop-i.i (omega arith))

@@ -1,0 +1,16 @@
+-- The lists stay sound, and what is left of the walk begins at the i-th object.
+use Prim.Native.Nat.{◌-◌}
+use mathlib.Core.Path.{◌≡◌, refl}
+use Rattle.format.specs.Limits.{objects_most}
+use Rattle.laws.proofs.Simulation.{start}
+use Rattle.objects.proofs.ObjectsLaws.{Loop, objects-done, object-stopped, object-done}
+use borrow.Author.Rules.{rules}
+use native.Mathlib.Omega.{arith}
+use Rattle.objects.proofs.read.Given as goal
+
+abbrev pub invariant-loop-i : goal.invariant-loop-i
+invariant-loop-i l = Loop l.image l.initial.list
+    l.initial.addresses l.initial.counts l.initial.marks l.superblock l.room l.count l.objects l.list l.addresses l.counts l.marks l.entered l.found l.i
+
+abbrev pub decreases-loop-i : goal.decreases-loop-i
+decreases-loop-i l = objects_most - l.i

@@ -1,0 +1,33 @@
+-- What the whole search finds is what is found from the ith byte on; sixteen bytes without it move i. The last sixteen have the rest.
+use Prim.Native.Nat.{◌≤◌, ◌-◌}
+use mathlib.Core.Path.{◌≡◌, refl, sym, ◌∙◌}
+use lib.ListN.{length, drop}
+use Rattle.format.specs.Bytes.{contains}
+use Rattle.order.proofs.Sixteen.{contains-found, contains-behind, contains-last}
+use borrow.Author.Rules.{rules}
+use native.Mathlib.Omega.{arith}
+use Rattle.order.proofs.contains.Goals as goal
+
+pub returns-then-s-lt16 : goal.returns-then-s-lt16
+returns-then-s-lt16 c = c.contains_from.ensures
+
+pub loop-i-init : goal.loop-i-init
+loop-i-init c = (omega arith, refl)
+
+pub returns-then-contains_16 : goal.returns-then-contains_16
+returns-then-contains_16 c =
+    let l = c in
+    let a = l.args in
+    contains-found a.x a.s.now l.loop-i.i _ l.loop-i.invariant.1 (sym c.if-contains_16.true ∙ c.contains_16.ensures)
+
+pub loop-i-preserved : goal.loop-i-preserved
+loop-i-preserved c =
+    let l = c in
+    let a = l.args in
+    (omega arith, contains-behind a.x a.s.now l.loop-i.i _ l.loop-i.invariant.1 (sym c.if-contains_16.false ∙ c.contains_16.ensures))
+
+pub returns : goal.returns
+returns c =
+    let l = c in
+    let a = l.args in
+    c.contains_16-2.ensures ∙ contains-last a.x a.s.now l.loop-i.i (omega arith) (omega arith) l.loop-i.invariant.1

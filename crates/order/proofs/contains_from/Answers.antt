@@ -1,0 +1,30 @@
+-- What the search finds is what is found from the ith byte on.
+use Prim.Native.Nat.{◌≤◌, ◌-◌}
+use mathlib.Core.Path.{◌≡◌, refl}
+use lib.ListN.{length, drop}
+use Rattle.format.specs.Bytes.{contains}
+use Rattle.order.proofs.Comparing.{contains-here, contains-next, contains-end}
+use borrow.Author.Rules.{rules}
+use native.Mathlib.Omega.{arith}
+use Rattle.order.proofs.contains_from.Goals as goal
+
+pub loop-i-init : goal.loop-i-init
+loop-i-init c = (omega arith, refl)
+
+pub returns-then-x-s : goal.returns-then-x-s
+returns-then-x-s c =
+    let l = c in
+    let a = l.args in
+    contains-here a.x a.s.now l.loop-i.i _ l.loop-i.invariant.1 (omega arith) (omega arith)
+
+pub loop-i-preserved : goal.loop-i-preserved
+loop-i-preserved c =
+    let l = c in
+    let a = l.args in
+    (omega arith, contains-next a.x a.s.now l.loop-i.i _ l.loop-i.invariant.1 (omega arith) (λ e. omega arith))
+
+pub returns : goal.returns
+returns c =
+    let l = c in
+    let a = l.args in
+    contains-end a.x a.s.now l.loop-i.i _ l.loop-i.invariant.1 (omega arith)

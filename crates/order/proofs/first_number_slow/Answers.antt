@@ -1,0 +1,41 @@
+-- The number of the first k bytes.
+use Prim.Native.Nat.{◌-◌, ◌≤◌}
+use mathlib.Core.Path.{◌≡◌, ap, sym, ◌∙◌}
+use native.Mathlib.Numerals.{add-one}
+use Rattle.format.specs.Bytes.{part}
+use Rattle.order.specs.BigEndian.{first_number}
+use Rattle.order.proofs.BigEndianLaws.{bytes-part}
+use Rattle.order.proofs.FirstLaws.{first-none, first_more, first_fits}
+use borrow.Author.Rules.{rules}
+use native.Mathlib.Omega.{arith}
+use Rattle.order.proofs.first_number_slow.Goals as goal
+
+pub loop-k-init : goal.loop-k-init
+loop-k-init c = (omega arith, sym (first-none _))
+
+pub overflow_mul-x : goal.overflow_mul-x
+overflow_mul-x c =
+    let l = c in
+    let a = l.args in
+    let bytes = bytes-part a.s.now a.at a.size (λ k. (l.shared_slice_known-1.given k).fits) in
+    omega (arith, l.loop-k.invariant.1, first_fits l.loop-k.k (part a.s.now a.at a.size) bytes (omega arith))
+
+pub overflow_add-x : goal.overflow_add-x
+overflow_add-x c =
+    let l = c in
+    let a = l.args in
+    let bytes = bytes-part a.s.now a.at a.size (λ k. (l.shared_slice_known-1.given k).fits) in
+    let fits = first_fits l.loop-k.k (part a.s.now a.at a.size) bytes (omega arith) in
+    omega (arith, l.loop-k.invariant.1, fits, c.byte_or_zero.ensures.1)
+
+pub loop-k-preserved : goal.loop-k-preserved
+loop-k-preserved c =
+    let l = c in
+    let a = l.args in
+    (omega arith, rw add-one (omega (arith, l.loop-k.invariant.1, c.byte_or_zero.ensures.0, first_more l.loop-k.k (part a.s.now a.at a.size))))
+
+pub returns : goal.returns
+returns c =
+    let l = c in
+    let k : l.loop-k.k ≡ 8 = omega arith in
+    rw k at l.loop-k.invariant.1

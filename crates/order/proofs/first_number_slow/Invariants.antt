@@ -1,0 +1,17 @@
+-- The number of the first k bytes.
+use Prim.Native.Nat.{◌-◌, ◌≤◌}
+use mathlib.Core.Path.{◌≡◌, ap, sym, ◌∙◌}
+use native.Mathlib.Numerals.{add-one}
+use Rattle.format.specs.Bytes.{part}
+use Rattle.order.specs.BigEndian.{first_number}
+use Rattle.order.proofs.BigEndianLaws.{bytes-part}
+use Rattle.order.proofs.FirstLaws.{first-none, first_more, first_fits}
+use borrow.Author.Rules.{rules}
+use native.Mathlib.Omega.{arith}
+use Rattle.order.proofs.first_number_slow.Given as goal
+
+abbrev pub invariant-loop-k : goal.invariant-loop-k
+invariant-loop-k l = (l.k ≤ 8) × (l.x ≡ first_number l.k (part l.s l.at l.size))
+
+abbrev pub decreases-loop-k : goal.decreases-loop-k
+decreases-loop-k l = 8 - l.k

@@ -1,0 +1,31 @@
+-- Lists of one length; what the whole comparison finds is what is found from the ith byte on.
+use Prim.Native.Nat.{◌≤◌, ◌-◌}
+use mathlib.Core.Path.{◌≡◌}
+use lib.ListN.{length, drop}
+use Rattle.format.specs.Bytes.{same_bytes}
+use Rattle.order.proofs.Comparing.{same-differ, same_next, same_end}
+use Rattle.order.proofs.Sixteen.{same-behind}
+use borrow.Author.Rules.{rules}
+use native.Mathlib.Omega.{arith}
+use Rattle.order.proofs.same_from.Goals as goal
+
+pub loop-i-init : goal.loop-i-init
+loop-i-init c = (omega (arith, c.requires.1.first), same-behind _ _ _ c.requires.1)
+
+pub returns-then-a-i : goal.returns-then-a-i
+returns-then-a-i c =
+    let l = c in
+    let a = l.args in
+    same-differ a.a.now a.b.now l.loop-i.i _ l.loop-i.invariant.1 (omega arith) (omega arith) (λ e. omega arith)
+
+pub loop-i-preserved : goal.loop-i-preserved
+loop-i-preserved c =
+    let l = c in
+    let a = l.args in
+    (omega arith, same_next a.a.now a.b.now l.loop-i.i _ l.loop-i.invariant.1 (omega arith) (omega arith) (omega arith))
+
+pub returns : goal.returns
+returns c =
+    let l = c in
+    let a = l.args in
+    same_end a.a.now a.b.now l.loop-i.i _ l.loop-i.invariant.1 (omega arith) (omega arith)

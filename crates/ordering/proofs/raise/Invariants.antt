@@ -1,0 +1,14 @@
+-- The words from i on have moved up.
+use Prim.Native.Nat.{◌≤◌}
+use mathlib.Core.Path.{◌≡◌}
+use Rattle.ordering.specs.Merge.{Raised}
+use Rattle.ordering.proofs.RaiseLaws.{raised-none, raised-more}
+use borrow.Author.Rules.{rules}
+use native.Mathlib.Omega.{arith}
+use Rattle.ordering.proofs.raise.Given as goal
+
+abbrev pub invariant-loop-i : goal.invariant-loop-i
+invariant-loop-i l = (l.first ≤ l.i) × (l.i ≤ l.last) × Raised l.initial.words l.i l.last l.by l.words
+
+abbrev pub decreases-loop-i : goal.decreases-loop-i
+decreases-loop-i l = l.i

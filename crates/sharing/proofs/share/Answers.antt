@@ -1,0 +1,45 @@
+-- The discovery where the search ended, then the mark of that place.
+use Prim.Native.Nat.{◌<◌}
+use lib.ListN.{length}
+use Rattle.sharing.proofs.SharingLaws.{marked-place, share-full, share_other, share-counted}
+use borrow.Author.Rules.{rules}
+use Rattle.sharing.proofs.share.Goals as goal
+
+-- a discovery that was counted leaves a place that has a mark
+marked : (c : goal.In-Counted-2) →
+    let search = c in
+    search.find-found.result.place < length search.args.marks.now
+marked c =
+    let count = c in
+    let search = count in
+    let s = search in
+    marked-place _ _ _ _ _ _ s.requires search.find-found.ensures.found _ _ _ c.in-Counted.is count.count_at.ensures
+
+pub bounds-marks-place : goal.bounds-marks-place
+bounds-marks-place c = marked c
+
+pub returns-then-marks-place-eq-OTHER_KIND : goal.returns-then-marks-place-eq-OTHER_KIND
+returns-then-marks-place-eq-OTHER_KIND c =
+    let arm = c in
+    let count = arm in
+    let search = count in
+    let s = search in
+    share_other _ _ _ _ _ _ s.requires search.find-found.ensures.found _ _ _ arm.in-Counted.is count.count_at.ensures c.if-marks-place-eq-OTHER_KIND.true
+
+pub bounds-marks-place-in-Counted : goal.bounds-marks-place-in-Counted
+bounds-marks-place-in-Counted c = marked c
+
+pub returns-in-Full : goal.returns-in-Full
+returns-in-Full c =
+    let count = c in
+    let search = count in
+    let s = search in
+    share-full _ _ _ _ _ _ s.requires search.find-found.ensures.found _ _ c.in-Full.is count.count_at.ensures
+
+pub returns-else-marks-place-eq-OTHER_KIND : goal.returns-else-marks-place-eq-OTHER_KIND
+returns-else-marks-place-eq-OTHER_KIND c =
+    let arm = c in
+    let count = arm in
+    let search = count in
+    let s = search in
+    share-counted _ _ _ _ _ _ s.requires search.find-found.ensures.found _ _ _ arm.in-Counted.is count.count_at.ensures c.if-marks-place-eq-OTHER_KIND.false

@@ -1,0 +1,16 @@
+-- One block is entered, and nothing else is done.
+use Rattle.format.specs.Superblock.{superblock_walk}
+use Rattle.format.specs.Walk.{superblock_block}
+use Rattle.walk.specs.Lent.{blocks_of}
+use Rattle.laws.proofs.Simulation.{one_block}
+use native.Mathlib.Omega.{arith}
+use borrow.Author.Rules.{rules}
+use Rattle.superblock.proofs.enter_superblock.Goals as goal
+
+pub returns : goal.returns
+unfolding superblock_walk blocks_of
+returns c = λ im.
+    let a = c.args in
+    let e = c.enter.ensures in
+    one_block im a.superblock.end_of_file a.room superblock_block 0 a.superblock.size 0 a.blocks.now _ _
+    c.requires e.0 e.1

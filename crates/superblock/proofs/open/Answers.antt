@@ -1,0 +1,101 @@
+-- The first test that fails decides; a limit is known by its name.
+use mathlib.Core.Path.{◌≡◌, ap, sym, ◌∙◌}
+use mathlib.Core.Bool.{true}
+use Prim.Native.Nat.{◌≤◌}
+use borrow.Author.Tests.{not-true, not-false}
+use lib.Dec.{eqb}
+use lib.ListN.{length}
+use Rattle.format.specs.Limits.{image_least, image_most}
+use Rattle.format.specs.Bytes.{in_range, little_endian, u64}
+use Rattle.format.specs.Superblock.{opened, signature, superblock_sound}
+use Rattle.walk.proofs.Tests.{range-below, range-above, range_inside, field-equal, field-unequal}
+use Rattle.superblock.proofs.SuperblockLaws.{superblock-fits, opening-1, opening-2, opening-3}
+use Rattle.superblock.proofs.SuperblockLaws.{opening-4, opening-done, end-inside, end-small, end-most, size-least}
+use native.Mathlib.Omega.{arith}
+use borrow.Author.Rules.{rules}
+use Rattle.superblock.proofs.open.Goals as goal
+
+-- the image's length is in range
+in-range : (c : goal.Else-limits-image) → in_range image_least image_most (length c.args.image.now) ≡ true
+in-range c =
+    let limits = c.the_limits-limits.ensures in
+    range_inside image_least image_most _ (omega (arith, c.if-image-limits.false, limits.image_least_equal))
+    (omega (arith, c.if-limits-image.false, limits.image_most_equal))
+
+-- and so it holds a superblock
+holds : (c : goal.Else-limits-image) → 96 ≤ length c.args.image.now
+holds c =
+    let limits = c.the_limits-limits.ensures in
+    omega (arith, c.if-image-limits.false, limits.image_least_equal, superblock-fits)
+
+-- the signature stands at 0
+signed : (c : goal.Else-u64_at-ne-SIGNATURE) → eqb (u64 c.args.image.now 0) signature ≡ true
+unfolding signature little_endian
+signed c = field-equal (sym c.u64_at.ensures.value) c.if-u64_at-ne-SIGNATURE.false
+
+pub returns-then-image-limits : goal.returns-then-image-limits
+returns-then-image-limits c =
+    let limits = c.the_limits-limits.ensures in
+    record {
+      result_value = opening-1 _ (range-below image_least image_most _ (omega (arith, c.if-image-limits.true, limits.image_least_equal)));
+      fields_bounded = tt;
+    }
+
+pub returns-then-limits-image : goal.returns-then-limits-image
+returns-then-limits-image c =
+    let limits = c.the_limits-limits.ensures in
+    record {
+      result_value = opening-1 _ (range-above image_least image_most _ (omega (arith, c.if-limits-image.true, limits.image_most_equal)));
+      fields_bounded = tt;
+    }
+
+pub u64_at-requires : goal.u64_at-requires
+u64_at-requires c = let h = holds c in omega arith
+
+pub returns-then-u64_at-ne-SIGNATURE : goal.returns-then-u64_at-ne-SIGNATURE
+unfolding signature little_endian
+returns-then-u64_at-ne-SIGNATURE c = record {
+  result_value = opening-2 _ (in-range c) (field-unequal (sym c.u64_at.ensures.value) c.if-u64_at-ne-SIGNATURE.true);
+  fields_bounded = tt;
+}
+
+pub version_shift-shift-requires : goal.version_shift-shift-requires
+version_shift-shift-requires c = holds c
+
+pub returns-then-not-superblock_read : goal.returns-then-not-superblock_read
+returns-then-not-superblock_read c =
+    let third = c in
+    record {
+      result_value = opening-3 _ (in-range third) (signed third) (sym c.superblock_read.ensures ∙ not-true _ c.if-not-superblock_read.true);
+      fields_bounded = tt;
+    }
+
+pub returns-then-not-superblock_sound : goal.returns-then-not-superblock_sound
+returns-then-not-superblock_sound c =
+    let fourth = c in
+    let third = fourth in record {
+      result_value = opening-4 _ (in-range third) (signed third) (sym fourth.superblock_read.ensures ∙ not-false _ fourth.if-not-superblock_read.false)
+          (sym c.superblock_sound.ensures ∙ not-true _ c.if-not-superblock_sound.true);
+      fields_bounded = tt;
+    }
+
+pub returns : goal.returns
+returns c =
+    let fifth = c in
+    let fourth = fifth in
+    let third = fourth in
+    let image = third.args.image.now in
+    let sound : superblock_sound image ≡ true = sym fifth.superblock_sound.ensures ∙ not-false _ fifth.if-not-superblock_sound.false in
+    let f = c.superblock_fields.ensures in
+    let inside = end-inside image _ f.0 sound in record {
+      result_value = ap opened f.0 ∙ opening-done _ (in-range third) (signed third)
+          (sym fourth.superblock_read.ensures ∙ not-false _ fourth.if-not-superblock_read.false) sound;
+      fields_bounded = (
+        f.1.0,
+        f.1.1,
+        inside,
+        end-small image _ inside (in-range third),
+        size-least image _ f.0,
+        end-most image _ inside (in-range third),
+      );
+    }

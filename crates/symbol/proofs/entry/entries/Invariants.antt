@@ -1,0 +1,15 @@
+-- Turn by turn, the entries that are left to read.
+use Prim.Native.Nat.{◌-◌}
+use Rattle.range.specs.Range.{name_in, Floor}
+use mathlib.Core.Path.{◌∙◌}
+use Rattle.symbol.proofs.EntryLaws.{same-entry, Reading, reading-start, reading-end, reading-refused, reading-again, links-fit}
+use borrow.Author.Rules.{rules}
+use native.Mathlib.Omega.{arith}
+use Rattle.symbol.proofs.entry.entries.Given as goal
+
+abbrev pub invariant-loop-i : goal.invariant-loop-i
+invariant-loop-i l =
+    Reading l.image l.segment l.wanted l.initial.addresses l.initial.counts l.group l.range l.from l.n l.initial.s l.addresses l.counts l.i l.s × Floor l.segment l.range (name_in l.segment l.s.last) l.floor
+
+abbrev pub decreases-loop-i : goal.decreases-loop-i
+decreases-loop-i l = l.n - l.i

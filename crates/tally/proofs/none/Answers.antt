@@ -1,0 +1,11 @@
+-- No message is there.
+use mathlib.Core.Path.{refl}
+use mathlib.Core.List.{[]}
+use Rattle.format.specs.Message.{of_type}
+use borrow.Author.Rules.{rules}
+use native.Mathlib.Omega.{arith}
+use Rattle.tally.proofs.none.Goals as goal
+
+pub returns : goal.returns
+unfolding of_type
+returns c = λ im type. record { counted = refl; first = λ h. absurd (omega arith); placed = λ h. absurd (omega arith) }

@@ -1,0 +1,40 @@
+-- A right count leaves the log as it is; a wrong one is written behind the first n entries.
+use native.Mathlib.Omega.{arith}
+use Prim.Native.Nat.{◌+◌, ◌≤◌}
+use lib.ListN.{length}
+use lib.ListN.{length-set}
+use Rattle.undo_log.proofs.LogLaws.{entry-none, entry-room, entry-one}
+use borrow.Author.Rules.{rules}
+use Rattle.undo_log.proofs.put_entry.Goals as goal
+
+pub returns-then-stored-true_count : goal.returns-then-stored-true_count
+returns-then-stored-true_count c =
+    let a = c.args in
+    let p = entry-none a.log.now a.n a.address a.stored a.true_count c.if-stored-true_count.taken in
+    record {
+      value = p.0;
+      log_after = p.1;
+      news_fit = p.2;
+    }
+
+-- a wrong count has room for its entry
+room : (c : goal.Else-stored-true_count) → c.args.n + c.args.n + 2 ≤ length c.args.log.now
+room c =
+    let a = c.args in
+    entry-room a.log.now a.n a.address a.stored a.true_count c.if-stored-true_count.left c.pre.1
+
+pub bounds-log-n : goal.bounds-log-n
+bounds-log-n c = omega (arith, room c)
+
+pub bounds-log-n-2 : goal.bounds-log-n-2
+bounds-log-n-2 c = simp length-set (omega (arith, room c))
+
+pub returns : goal.returns
+returns c =
+    let a = c.args in
+    let p = entry-one a.log.now a.n a.address a.stored a.true_count c.if-stored-true_count.left (omega (arith, c.fits.true_count)) (room c) in
+    record {
+      value = p.0;
+      log_after = p.1;
+      news_fit = p.2;
+    }

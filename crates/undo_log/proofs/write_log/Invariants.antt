@@ -1,0 +1,20 @@
+-- The entries of the first i places are written; each turn writes that of one place more. Then the rest is cleared.
+use borrow.Author.Rules.{rules}
+use native.Mathlib.Omega.{arith}
+use Prim.Native.Nat.{◌+◌, ◌-◌, ◌≤◌, ◌<◌}
+use mathlib.Core.Path.{◌≡◌, refl}
+use lib.ListN.{length, take}
+use Rattle.format.specs.Limits.{objects_most}
+use Rattle.format.specs.Log.{log_words}
+use Rattle.undo_log.proofs.LogLaws.{first_wrong, wrong-none, room-more, words_more, words-all, news-more, wrong-within}
+use Rattle.undo_log.specs.Entries.{NewsFit}
+use Rattle.undo_log.proofs.write_log.Given as goal
+
+abbrev pub invariant-loop-i : goal.invariant-loop-i
+invariant-loop-i l =
+    (l.i ≤ l.objects) × (length l.log ≡ length l.initial.log) × (l.n ≡ length (first_wrong l.ledger.addresses l.ledger.stored l.ledger.true_counts l.i))
+    × (take (l.n + l.n) l.log ≡ log_words (first_wrong l.ledger.addresses l.ledger.stored l.ledger.true_counts l.i))
+    × NewsFit (first_wrong l.ledger.addresses l.ledger.stored l.ledger.true_counts l.i)
+
+abbrev pub decreases-loop-i : goal.decreases-loop-i
+decreases-loop-i l = l.objects - l.i
