@@ -13,7 +13,7 @@ use native.Mathlib.Omega.{arith}
 use Rattle.continuations.proofs.follow.Goals as goal
 
 -- the continuation message at the cursor lies inside the image, and has both fields
-inside : (c : goal.In-loop-c →
+inside : (c : goal.In-loop-c) →
     let start = c in
     let at = c.loop-c.c.at in
     let im = start.args.image.now in

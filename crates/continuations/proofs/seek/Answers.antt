@@ -11,7 +11,7 @@ use native.Mathlib.Omega.{arith}
 use Rattle.continuations.proofs.seek.Goals as goal
 
 -- the next block, with what waits from there on
-turn : (c : goal.Else-at-end (waiting : List Message) →
+turn : (c : goal.Else-at-end) (waiting : List Message) →
     let at-loop = c in
     let start = at-loop.before.before.before.before in
     Waiting start.args.image.now start.args.list.now

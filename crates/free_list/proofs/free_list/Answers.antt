@@ -58,7 +58,7 @@ returns-then-not-add_block c =
     record { value = block-unsound l.invariant.1 t (omega arith) (not-true _ c.if-not-add_block.true); held = tt; long = t.long ∙ l.invariant.2 }
 
 -- the block lies in the segment
-inside : (c : goal.Else-not-add_block →
+inside : (c : goal.Else-not-add_block) →
     let a = c in
     let seg = a.args.segment.now in
     (a.loop-met.at + 16 ≤ length seg) × (a.loop-met.at + u64 seg (a.loop-met.at + 8) ≤ length seg)

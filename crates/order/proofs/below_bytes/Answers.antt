@@ -9,7 +9,7 @@ use native.Mathlib.Omega.{arith}
 use Rattle.order.proofs.below_bytes.Goals as goal
 
 -- the next byte
-next : (c : goal.In-loop-i →
+next : (c : goal.In-loop-i) →
     let a = c.args in
     let i = c.loop-i.i in
     Window a.a.now a.b.now i 1 (get_or a.a.now i 0) (get_or a.b.now i 0)

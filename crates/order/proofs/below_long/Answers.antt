@@ -7,7 +7,7 @@ use native.Mathlib.Omega.{arith}
 use Rattle.order.proofs.below_long.Goals as goal
 
 -- the next eight bytes
-next : (c : goal.After-eight_at-next_b →
+next : (c : goal.After-eight_at-next_b) →
     let a = c.args in
     Window a.a.now a.b.now c.loop-i.i 8 c.eight_at-next_a.result c.eight_at-next_b.result
 next c =
@@ -22,7 +22,7 @@ next c =
     }
 
 -- the last eight bytes
-last : (c : goal.After-eight_at-last_b →
+last : (c : goal.After-eight_at-last_b) →
     let a = c.args in
     Window a.a.now a.b.now (a.end - 8) 8 c.eight_at-last_a.result c.eight_at-last_b.result
 last c =

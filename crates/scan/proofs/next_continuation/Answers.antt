@@ -10,11 +10,11 @@ use native.Mathlib.Omega.{arith}
 use Rattle.scan.proofs.next_continuation.Goals as goal
 
 -- the message that stands there
-step : (c : goal.In-loop-at →
+step : (c : goal.In-loop-at) →
     Step c.args.image.now c.loop-at.at c.args.end c.loop-at.invariant.0.0
 step c = holds-step _ _ _ _ c.loop-at.invariant.0.1 c.loop-at-test.true
 
-inside : (c : goal.At-loop-at → c.args.end ≤ length c.args.image.now
+inside : (c : goal.At-loop-at) → c.args.end ≤ length c.args.image.now
 inside c = c.loop-at.invariant.0.1.inside
 
 pub loop-at-init : goal.loop-at-init

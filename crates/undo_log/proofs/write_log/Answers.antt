@@ -63,7 +63,7 @@ loop-i-preserved c =
     (omega arith, omega arith, w.0, w.1, news-more a.addresses a.stored a.true_counts l.i l.invariant.4 p.ensures.1.1)
 
 -- the entries have room
-behind : (c : goal.After-loop-i → c.loop-i.n + c.loop-i.n ≤ length c.args.log.now
+behind : (c : goal.After-loop-i) → c.loop-i.n + c.loop-i.n ≤ length c.args.log.now
 behind c =
     let l = c.loop-i in
     let a = c.args.t2 in

@@ -8,7 +8,7 @@ use native.Mathlib.Omega.{arith}
 use Rattle.ledger.proofs.report.read_stored.Goals as goal
 
 -- the count of the ith object lies inside the image
-inside : (c : goal.After-shared_slice_known-in-loop-i-1 →
+inside : (c : goal.After-shared_slice_known-in-loop-i-1) →
     get_or c.args.addresses.now c.loop-i.i 0 + 8
     ≤ length c.args.image.now
 inside c = c.requires.0.inside c.loop-i.i c.loop-i-test.true
