@@ -12,20 +12,21 @@ use Rattle.attribute.proofs.AttributeLaws.{parts-leave, parts-inside, shared-ins
 use native.Mathlib.Omega.{arith}
 use borrow.Author.Rules.{rules}
 use Rattle.attribute.proofs.read.Goals as goal
+use Rattle.attribute.proofs.read.Goals.{After-taken_at, After-taken_at-2, Else-body-end, Else-body-lt8, Else-not-flags_read, Else-version-gt3}
 
 -- at each place behind a check, what is left of the reader
-long : (c : goal.Else-body-lt8) {x : Result (List ℕ)} → let b = c.args.body.now in x ≡ after_length b → x ≡ read_attribute b
+long : (c : Else-body-lt8) {x : Result (List ℕ)} → let b = c.args.body.now in x ≡ after_length b → x ≡ read_attribute b
 long c e = first-check _ (passes _ _ (le-leb _ _ c.if-body-lt8.false) e)
 
-versioned : (c : goal.Else-version-gt3) {x : Result (List ℕ)} →
+versioned : (c : Else-version-gt3) {x : Result (List ℕ)} →
     let b = c.args.body.now in x ≡ after_version b → x ≡ read_attribute b
 versioned c e = long c (passes _ _ (range_inside 1 3 _ c.if-version-lt1.false c.if-version-gt3.false) e)
 
-flagged : (c : goal.Else-not-flags_read) {x : Result (List ℕ)} →
+flagged : (c : Else-not-flags_read) {x : Result (List ℕ)} →
     let b = c.args.body.now in x ≡ after_flags b → x ≡ read_attribute b
 flagged c e = versioned c (passes _ _ (sym c.flags_read.ensures ∙ not-false _ c.if-not-flags_read.false) e)
 
-placed : (c : goal.Else-body-end) {x : Result (List ℕ)} →
+placed : (c : Else-body-end) {x : Result (List ℕ)} →
     let b = c.args.body.now in
     x ≡ after_parts b → x ≡ read_attribute b
 placed c e =
@@ -48,10 +49,10 @@ pub returns-then-not-flags_read : goal.returns-then-not-flags_read
 returns-then-not-flags_read c = versioned c (fails _ _ (sym c.flags_read.ensures ∙ not-true _ c.if-not-flags_read.true))
 
 -- where the name ends, and the datatype: far below the largest number
-name-end : (c : goal.After-taken_at) → c.name_start.result + c.taken_at.result ≤ 65551
+name-end : (c : After-taken_at) → c.name_start.result + c.taken_at.result ≤ 65551
 name-end c = name-most c.name_start.ensures c.taken_at.ensures
 
-type-end : (c : goal.After-taken_at-2) → c.name_start.result + c.taken_at.result + c.taken_at-2.result ≤ 131093
+type-end : (c : After-taken_at-2) → c.name_start.result + c.taken_at.result + c.taken_at-2.result ≤ 131093
 type-end c = omega (arith, name-end c, c.taken_at-2.ensures.bound)
 
 pub overflow_add-start : goal.overflow_add-start

@@ -8,14 +8,15 @@ use Rattle.walk.proofs.Handed.{work, Working, working, HandedOver, handed-over}
 use native.Mathlib.Omega.{arith}
 use borrow.Author.Rules.{rules}
 use Rattle.audit.proofs.audit.Goals as goal
+use Rattle.audit.proofs.audit.Goals.{After-audit_in-r, After-work_words-n}
 
-abbrev lent : goal.After-work_words-n → ℕ
+abbrev lent : After-work_words-n → ℕ
 lent c = length c.args.list.now
 
-lends : (c : goal.After-work_words-n) → Working (lent c) c.work_words-n.result work
+lends : (c : After-work_words-n) → Working (lent c) c.work_words-n.result work
 lends c = working (lent c) _ _ c.room.ensures c.work_words-n.ensures
 
-over : (c : goal.After-audit_in-r) →
+over : (c : After-audit_in-r) →
     HandedOver (lent c) c.work_words-n.result work c.audit_in-r.new.1.0 c.audit_in-r.result.block_count
 unfolding blocks_most
 over c = handed-over _ _ work _ _ (lends c) c.audit_in-r.auto.1.0 c.audit_in-r.ensures.0

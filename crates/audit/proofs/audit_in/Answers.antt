@@ -10,9 +10,10 @@ use Rattle.audit.proofs.ReplyLaws.{empty-table, empty-reply, full-reply}
 use native.Mathlib.Omega.{arith}
 use borrow.Author.Rules.{rules}
 use Rattle.audit.proofs.audit_in.Goals as goal
+use Rattle.audit.proofs.audit_in.Goals.{After-audit_into-r}
 
 -- the objects have places
-fits : (c : goal.After-audit_into-r) → c.audit_into-r.result.objects ≤ objects_most
+fits : (c : After-audit_into-r) → c.audit_into-r.result.objects ≤ objects_most
 fits c =
     let start = c in
     let places = places_of (length start.args.list.now) in

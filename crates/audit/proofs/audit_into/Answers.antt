@@ -13,39 +13,40 @@ use Rattle.object.specs.Object.{Bounded}
 use Rattle.audit.specs.Audit.{ImageWalked}
 use Rattle.audit.proofs.ReplyLaws.{not-opened-is, stopped-is, readable, count_fits, done-is, lists-table, stored-room}
 use Rattle.audit.proofs.audit_into.Goals as goal
+use Rattle.audit.proofs.audit_into.Goals.{In-Done-2, In-Opened-2}
 
-abbrev image : goal.In-Opened-2 → List ℕ
+abbrev image : In-Opened-2 → List ℕ
 image c = c.args.image.now
 
-abbrev list : goal.In-Opened-2 → List ℕ
+abbrev list : In-Opened-2 → List ℕ
 list c = c.args.list.now
 
-abbrev superblock : goal.In-Opened-2 → Superblock
+abbrev superblock : In-Opened-2 → Superblock
 superblock c = c.in-Opened.s
 
-opened-is : (c : goal.In-Opened-2) → (opened (superblock_of (superblock c)) ≡ open_image (image c)) × Bounded (image c) (superblock c)
+opened-is : (c : In-Opened-2) → (opened (superblock_of (superblock c)) ≡ open_image (image c)) × Bounded (image c) (superblock c)
 opened-is c = rw c.in-Opened.is at c.open.ensures
 
-abbrev words : goal.In-Done-2 → List ℕ
+abbrev words : In-Done-2 → List ℕ
 words c = c.walk_image.new.1.0
 
-abbrev addresses : goal.In-Done-2 → List ℕ
+abbrev addresses : In-Done-2 → List ℕ
 addresses c = c.walk_image.new.1.1.0
 
-abbrev counts : goal.In-Done-2 → List ℕ
+abbrev counts : In-Done-2 → List ℕ
 counts c = c.walk_image.new.1.1.1.0
 
-abbrev count : goal.In-Done-2 → ℕ
+abbrev count : In-Done-2 → ℕ
 count c = c.in-Done.count
 
-abbrev objects : goal.In-Done-2 → ℕ
+abbrev objects : In-Done-2 → ℕ
 objects c = c.in-Done.objects
 
-walk-done : (c : goal.In-Done-2) →
+walk-done : (c : In-Done-2) →
     ImageWalked (image c) (list c) (superblock c) (words c) (addresses c) (counts c) (Done (count c) (objects c))
 walk-done c = rw c.in-Done.is at c.walk_image.ensures
 
-read : (c : goal.In-Done-2) → Readable (image c) (addresses c) (objects c)
+read : (c : In-Done-2) → Readable (image c) (addresses c) (objects c)
 read c =
     readable (image c) (list c) (superblock c) (count c) (objects c) (words c) (addresses c) (counts c) (walk-done c)
     (opened-is c).1

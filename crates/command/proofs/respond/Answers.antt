@@ -12,9 +12,10 @@ use Rattle.command.proofs.respond.Lts as lts
 use Rattle.command.proofs.report.Reads as report-reads
 use Rattle.input.proofs.read_to_end.Reads as read-to-end-reads
 use Rattle.command.proofs.respond.Goals as goal
+use Rattle.command.proofs.respond.Goals.{In-Read-2}
 
 -- what was read, where it was: the reads that leave so many bytes in the buffer
-read : (c : goal.In-Read-2) →
+read : (c : In-Read-2) →
     Reads c.args.buffer.now 0
     c.read_to_end.new.1.0
     (Read c.in-Read.length c.in-Read.last)

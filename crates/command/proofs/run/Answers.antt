@@ -15,13 +15,14 @@ use Rattle.command.proofs.respond.Reads as respond-reads
 use Rattle.io.proofs.write_all.Reads as write-all-reads
 use Rattle.os.proofs.fail.Reads as fail-reads
 use Rattle.command.proofs.run.Goals as goal
+use Rattle.command.proofs.run.Goals.{In-Text-2}
 
 pub respond-requires : goal.respond-requires
 unfolding input_most output_most objects_most
 respond-requires c = search rules
 
 -- what is printed lies in the array
-within : (c : goal.In-Text-2) → c.in-Text.n ≤ length c.respond.new.1.1.0
+within : (c : In-Text-2) → c.in-Text.n ≤ length c.respond.new.1.1.0
 within c =
     let r = c.respond in
     subst (λ (x : Response). TextWithin (length r.new.1.1.0) x) c.in-Text.is r.ensures.1

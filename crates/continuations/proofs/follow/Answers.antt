@@ -11,9 +11,10 @@ use Rattle.continuations.proofs.ContinuationLaws.{Loop, all_read, message-inside
 use borrow.Author.Rules.{rules}
 use native.Mathlib.Omega.{arith}
 use Rattle.continuations.proofs.follow.Goals as goal
+use Rattle.continuations.proofs.follow.Goals.{In-loop-c}
 
 -- the continuation message at the cursor lies inside the image, and has both fields
-inside : (c : goal.In-loop-c) →
+inside : (c : In-loop-c) →
     let start = c in
     let at = c.loop-c.c.at in
     let im = start.args.image.now in

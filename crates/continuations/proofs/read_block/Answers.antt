@@ -9,9 +9,10 @@ use Rattle.continuations.proofs.BlockLaws.{scanned, new-block}
 use native.Mathlib.Omega.{arith}
 use borrow.Author.Rules.{rules}
 use Rattle.continuations.proofs.read_block.Goals as goal
+use Rattle.continuations.proofs.read_block.Goals.{In-Entered-2}
 
 -- the block lies inside the end of file
-entered-inside : (c : goal.In-Entered-2) →
+entered-inside : (c : In-Entered-2) →
     let start = c in
     start.args.address +
     start.args.size ≤
@@ -21,7 +22,7 @@ entered-inside c =
     block_inside _ _ continuation_block _ _ _ _ _ (sym c.in-Entered.is ∙ at-enter.enter.ensures.0)
 
 -- its bytes are to spare for what is found in it
-now-spare : (c : goal.In-Entered-2) →
+now-spare : (c : In-Entered-2) →
     let at-enter = c in
     let start = at-enter.before.before.before.before.before.before.before in
     let s = start.args in
@@ -36,7 +37,7 @@ now-spare c =
     (counting-entered _ _ continuation_block _ _ _ _ _ start.requires.lent at-enter.enter.ensures.1 _
     (sym c.in-Entered.is ∙ at-enter.enter.ensures.0) _ _ _ _ _ 16 start.requires.counting)
 
-spare : (c : goal.In-Entered-2) →
+spare : (c : In-Entered-2) →
     let start = c in
     let s = start.args in
     TablesIf s.reading.auditing s.addresses.now s.counts.now s.marks.now s.before.objects (s.address + s.size - s.address)

@@ -9,9 +9,10 @@ use Rattle.continuations.proofs.ContinuationLaws.{cursor, Searched, searched, ne
 use borrow.Author.Rules.{rules}
 use native.Mathlib.Omega.{arith}
 use Rattle.continuations.proofs.seek.Goals as goal
+use Rattle.continuations.proofs.seek.Goals.{Else-at-end}
 
 -- the next block, with what waits from there on
-turn : (c : goal.Else-at-end) (waiting : List Message) →
+turn : (c : Else-at-end) (waiting : List Message) →
     let at-loop = c in
     let start = at-loop.before.before.before.before in
     Waiting start.args.image.now start.args.list.now

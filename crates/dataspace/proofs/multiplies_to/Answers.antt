@@ -10,8 +10,9 @@ use Rattle.dataspace.proofs.DataspaceLaws.{words_from, words-start, fills-larger
 use native.Mathlib.Omega.{arith}
 use borrow.Author.Rules.{rules}
 use Rattle.dataspace.proofs.multiplies_to.Goals as goal
+use Rattle.dataspace.proofs.multiplies_to.Goals.{After-u64_at-size}
 
-turn : (c : goal.After-u64_at-size) →
+turn : (c : After-u64_at-size) →
     let s = c in
     let a = s.args in
     Turn a.body.now a.rank s.loop-i.i (product (to_words a.rank (drop 8 a.body.now)) * a.element_size) s.loop-i.so_far a.stored

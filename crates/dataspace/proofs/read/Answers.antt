@@ -12,33 +12,34 @@ use Rattle.dataspace.proofs.SpaceChecks.{none-stored, maxima-short, maxima-low, 
 use native.Mathlib.Omega.{arith}
 use borrow.Author.Rules.{rules}
 use Rattle.dataspace.proofs.read.Goals as goal
+use Rattle.dataspace.proofs.read.Goals.{Else-body-lt8, Else-body-maxima, Else-body-ne1, Else-flags-gt1, Else-limits-rank, Then-body-maxima}
 
 -- at each place behind a check, what is left of the walk
-long : (c : goal.Else-body-lt8) {x : Result Dataspace} → let b = c.args.body.now in x ≡ after_length b → x ≡ read_dataspace b
+long : (c : Else-body-lt8) {x : Result Dataspace} → let b = c.args.body.now in x ≡ after_length b → x ≡ read_dataspace b
 long c e = first-check _ (passes _ _ (le-leb _ _ c.if-body-lt8.false) e)
 
-versioned : (c : goal.Else-body-ne1) {x : Result Dataspace} → let b = c.args.body.now in x ≡ after_version b →
+versioned : (c : Else-body-ne1) {x : Result Dataspace} → let b = c.args.body.now in x ≡ after_version b →
     x ≡ read_dataspace b
 versioned c e = long c (passes _ _ (eq-eqb _ _ c.if-body-ne1.false) e)
 
-small : (c : goal.Else-limits-rank) → c.wide-rank.result ≤ rank_most
+small : (c : Else-limits-rank) → c.wide-rank.result ≤ rank_most
 small c = omega (arith, c.if-limits-rank.false, c.the_limits-limits.ensures.rank_most_equal)
 
-ranked : (c : goal.Else-limits-rank) {x : Result Dataspace} → let b = c.args.body.now in
+ranked : (c : Else-limits-rank) {x : Result Dataspace} → let b = c.args.body.now in
     x ≡ after_rank b → x ≡ read_dataspace b
 ranked c e = versioned c (passes _ _ (field-most (sym c.wide-rank.ensures) (small c)) e)
 
-flagged : (c : goal.Else-flags-gt1) {x : Result Dataspace} →
+flagged : (c : Else-flags-gt1) {x : Result Dataspace} →
     let b = c.args.body.now in
     x ≡ after_flags b → x ≡ read_dataspace b
 flagged c e = ranked c (passes _ _ (le-leb _ _ c.if-flags-gt1.false) e)
 
-sizes-outside : (c : goal.Then-body-maxima) → let b = c.args.body.now
+sizes-outside : (c : Then-body-maxima) → let b = c.args.body.now
     in
     answer 11 ≡ after_flags b
 sizes-outside c = fails _ _ (field-above (ap (λ (k : ℕ). 8 + 8 * k) (sym c.wide-rank.ensures)) c.if-body-maxima.true)
 
-inside : (c : goal.Else-body-maxima) {x : Result Dataspace} →
+inside : (c : Else-body-maxima) {x : Result Dataspace} →
     let b = c.args.body.now in
     x ≡ after_sizes b → x ≡ read_dataspace b
 inside c e =

@@ -8,24 +8,25 @@ use Rattle.laws.proofs.Results.{passes, fails}
 use Rattle.datatype.proofs.TypeChecks.{after_extent, after_size, after_class, after_version, after_length, first-check, unsound-bits, own_read}
 use borrow.Author.Rules.{rules}
 use Rattle.datatype.proofs.read.Goals as goal
+use Rattle.datatype.proofs.read.Goals.{Else-body-lt8, Else-body-needed, Else-not-class_read, Else-size-lt1, Else-version-gt3}
 
 -- at each place behind a check, what is left of the walk
-long : (c : goal.Else-body-lt8) {x : Result Datatype} → let b = c.args.body.now in x ≡ after_length b → x ≡ read_datatype b
+long : (c : Else-body-lt8) {x : Result Datatype} → let b = c.args.body.now in x ≡ after_length b → x ≡ read_datatype b
 long c e = first-check _ (passes _ _ (le-leb _ _ c.if-body-lt8.false) e)
 
-versioned : (c : goal.Else-version-gt3) {x : Result Datatype} → let b = c.args.body.now in x ≡ after_version b →
+versioned : (c : Else-version-gt3) {x : Result Datatype} → let b = c.args.body.now in x ≡ after_version b →
     x ≡ read_datatype b
 versioned c e = long c (passes _ _ (range_inside 1 3 _ c.if-version-lt1.false c.if-version-gt3.false) e)
 
-classed : (c : goal.Else-not-class_read) {x : Result Datatype} → let b = c.args.body.now in
+classed : (c : Else-not-class_read) {x : Result Datatype} → let b = c.args.body.now in
     x ≡ after_class b → x ≡ read_datatype b
 classed c e = versioned c (passes _ _ (sym c.class_read.ensures ∙ not-false _ c.if-not-class_read.false) e)
 
-sized : (c : goal.Else-size-lt1) {x : Result Datatype} → let b = c.args.body.now in
+sized : (c : Else-size-lt1) {x : Result Datatype} → let b = c.args.body.now in
     x ≡ after_size b → x ≡ read_datatype b
 sized c e = classed c (passes _ _ (field-least (sym c.u32_at-size.ensures.value) c.if-size-lt1.false) e)
 
-held : (c : goal.Else-body-needed) {x : Result Datatype} →
+held : (c : Else-body-needed) {x : Result Datatype} →
     let b = c.args.body.now in x ≡ after_extent b →
     x ≡ read_datatype b
 held c e = sized c (passes _ _ (field-most (sym c.needed.ensures) c.if-body-needed.false) e)

@@ -8,14 +8,15 @@ use Rattle.walk.proofs.Handed.{work, Working, working, HandedOver, handed-over}
 use native.Mathlib.Omega.{arith}
 use borrow.Author.Rules.{rules}
 use Rattle.describe.proofs.describe.Goals as goal
+use Rattle.describe.proofs.describe.Goals.{After-describe_in-r, After-work_words-n}
 
-abbrev lent : goal.After-work_words-n → ℕ
+abbrev lent : After-work_words-n → ℕ
 lent c = length c.args.list.now
 
-lends : (c : goal.After-work_words-n) → Working (lent c) c.work_words-n.result work
+lends : (c : After-work_words-n) → Working (lent c) c.work_words-n.result work
 lends c = working (lent c) _ _ c.room.ensures c.work_words-n.ensures
 
-over : (c : goal.After-describe_in-r) →
+over : (c : After-describe_in-r) →
     HandedOver (lent c) c.work_words-n.result work c.describe_in-r.new.1.1.0 c.describe_in-r.result.block_count
 unfolding blocks_most
 over c = handed-over _ _ work _ _ (lends c) c.describe_in-r.auto.1.1.0 c.describe_in-r.ensures.0

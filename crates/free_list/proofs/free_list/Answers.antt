@@ -11,6 +11,7 @@ use Rattle.free_list.proofs.FreeLaws.{block-unsound, block_inside, block_held, b
 use borrow.Author.Rules.{rules}
 use native.Mathlib.Omega.{arith}
 use Rattle.free_list.proofs.free_list.Goals as goal
+use Rattle.free_list.proofs.free_list.Goals.{Else-not-add_block}
 
 pub returns-then-head-eq1 : goal.returns-then-head-eq1
 unfolding chain
@@ -58,7 +59,7 @@ returns-then-not-add_block c =
     record { value = block-unsound l.invariant.1 t (omega arith) (not-true _ c.if-not-add_block.true); held = tt; long = t.long ∙ l.invariant.2 }
 
 -- the block lies in the segment
-inside : (c : goal.Else-not-add_block) →
+inside : (c : Else-not-add_block) →
     let a = c in
     let seg = a.args.segment.now in
     (a.loop-met.at + 16 ≤ length seg) × (a.loop-met.at + u64 seg (a.loop-met.at + 8) ≤ length seg)

@@ -7,9 +7,10 @@ use Rattle.free_map.proofs.SearchLaws.{Left, left-first, turn-hit, turn-miss, tu
 use borrow.Author.Rules.{rules}
 use native.Mathlib.Omega.{arith}
 use Rattle.free_map.proofs.meets.Goals as goal
+use Rattle.free_map.proofs.meets.Goals.{After-cell_meets}
 
 -- what was found in the cell
-found : (c : goal.After-cell_meets) →
+found : (c : After-cell_meets) →
     let l = c in
     cell_meets (get_or l.args.map.now l.loop-c.c 0) l.loop-c.from 16 ≡ c.cell_meets.result
 found c = sym (rw c.cell.ensures at c.cell_meets.ensures)

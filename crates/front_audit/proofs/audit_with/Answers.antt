@@ -12,24 +12,25 @@ use Rattle.front_audit.proofs.Audited.{done-reply, refused-reply}
 use native.Mathlib.Omega.{arith}
 use borrow.Author.Rules.{rules}
 use Rattle.front_audit.proofs.audit_with.Goals as goal
+use Rattle.front_audit.proofs.audit_with.Goals.{After-audit_into-r, After-work_words-n}
 
 -- Where the words of the working list are known.
-lends : (c : goal.After-work_words-n) →
+lends : (c : After-work_words-n) →
     let a = c.args in
     Working a.room c.work_words-n.result a.list.now
 lends c = let s = c in working s.args.room _ s.args.list.now c.work_words-n.ensures s.requires.0
 
-abbrev back : goal.After-audit_into-r → List ℕ
+abbrev back : After-audit_into-r → List ℕ
 back c = c.audit_into-r.new.1.0
 
-abbrev count : goal.After-audit_into-r → ℕ
+abbrev count : After-audit_into-r → ℕ
 count c = c.audit_into-r.result.block_count
 
-came : (c : goal.After-audit_into-r) → Worked c.args.room c.work_words-n.result c.args.list.now (back c) (count c)
+came : (c : After-audit_into-r) → Worked c.args.room c.work_words-n.result c.args.list.now (back c) (count c)
 came c = worked c.args.room _ _ (back c) (count c) (lends c) c.audit_into-r.auto.1.0 c.audit_into-r.ensures.0
 
 -- the audit is the definition's, with the words of so many blocks lent
-audited : (c : goal.After-audit_into-r) →
+audited : (c : After-audit_into-r) →
     let a = c.args in
     let last = c.audit_into-r.new.1.1 in
     AuditedIs a.image.now (4 * a.room) (handed (4 * a.room) (count c) (back c)) last.0 last.1.0 last.1.1.0 c.audit_into-r.result

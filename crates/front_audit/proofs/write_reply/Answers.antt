@@ -7,9 +7,10 @@ use Rattle.front.proofs.Reply.{reply_words, reply-start, reply-more, reply-end}
 use borrow.Author.Rules.{rules}
 use native.Mathlib.Omega.{arith}
 use Rattle.front_audit.proofs.write_reply.Goals as goal
+use Rattle.front_audit.proofs.write_reply.Goals.{At-loop-i}
 
 -- no turn changes the length
-same : (c : goal.At-loop-i) → length c.loop-i.reply ≡ length
+same : (c : At-loop-i) → length c.loop-i.reply ≡ length
     c.args.reply.now
 same c = c.loop-i.invariant.1 ∙ c.put_word-2.auto.0 ∙ c.put_word.auto.0
 

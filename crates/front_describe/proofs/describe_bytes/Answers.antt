@@ -7,8 +7,9 @@ use Rattle.front_describe.proofs.Described.{short-reply, whole-reply}
 use native.Mathlib.Omega.{arith}
 use borrow.Author.Rules.{rules}
 use Rattle.front_describe.proofs.describe_bytes.Goals as goal
+use Rattle.front_describe.proofs.describe_bytes.Goals.{After-room-room}
 
-reply-long : (c : goal.After-room-room) → 10 + 2 * rank_most ≤ length c.args.reply.now / 8
+reply-long : (c : After-room-room) → 10 + 2 * rank_most ≤ length c.args.reply.now / 8
 reply-long c = omega (arith, c.if-reply-limits.false, c.the_limits-limits.ensures.rank_most_equal)
 
 pub overflow_mul-limits : goal.overflow_mul-limits

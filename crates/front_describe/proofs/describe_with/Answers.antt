@@ -13,24 +13,25 @@ use Rattle.front_describe.proofs.Described.{done-reply, refused-reply}
 use native.Mathlib.Omega.{arith}
 use borrow.Author.Rules.{rules}
 use Rattle.front_describe.proofs.describe_with.Goals as goal
+use Rattle.front_describe.proofs.describe_with.Goals.{After-describe_in-r, After-work_words-n}
 
 -- Where the words of the working list are known.
-lends : (c : goal.After-work_words-n) →
+lends : (c : After-work_words-n) →
     let a = c.args in
     Working a.room c.work_words-n.result a.list.now
 lends c = let s = c in working s.args.room _ s.args.list.now c.work_words-n.ensures s.requires.0
 
-abbrev back : goal.After-describe_in-r → List ℕ
+abbrev back : After-describe_in-r → List ℕ
 back c = c.describe_in-r.new.1.1.0
 
-abbrev count : goal.After-describe_in-r → ℕ
+abbrev count : After-describe_in-r → ℕ
 count c = c.describe_in-r.result.block_count
 
-came : (c : goal.After-describe_in-r) → Worked c.args.room c.work_words-n.result c.args.list.now (back c) (count c)
+came : (c : After-describe_in-r) → Worked c.args.room c.work_words-n.result c.args.list.now (back c) (count c)
 came c = worked c.args.room _ _ (back c) (count c) (lends c) c.describe_in-r.auto.1.1.0 c.describe_in-r.ensures.0
 
 -- the reply is the definition's, with the words of so many blocks lent
-described : (c : goal.After-describe_in-r) →
+described : (c : After-describe_in-r) →
     let a = c.args in
     reply_of (handed (4 * a.room) (count c) (back c)) c.describe_in-r.result ≡ describe a.image.now a.path.now (4 * a.room)
 described c = c.describe_in-r.ensures.1 (4 * c.args.room) (lends c).fit

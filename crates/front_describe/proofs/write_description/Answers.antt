@@ -5,9 +5,10 @@ use Rattle.front.proofs.Reply.{description-bytes}
 use native.Mathlib.Omega.{arith}
 use borrow.Author.Rules.{rules}
 use Rattle.front_describe.proofs.write_description.Goals as goal
+use Rattle.front_describe.proofs.write_description.Goals.{Start}
 
 -- an array has its type's length
-arrays-long : (c : goal.Start) → (length c.args.d.sizes ≡ 32) × (length c.args.d.maxima ≡ 32)
+arrays-long : (c : Start) → (length c.args.d.sizes ≡ 32) × (length c.args.d.maxima ≡ 32)
 arrays-long c = (search rules, search rules)
 
 pub slice_bounds-put_words-end-2 : goal.slice_bounds-put_words-end-2

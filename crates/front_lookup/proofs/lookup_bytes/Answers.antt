@@ -6,8 +6,9 @@ use Rattle.front_lookup.proofs.Located.{short-reply, whole-reply}
 use native.Mathlib.Omega.{arith}
 use borrow.Author.Rules.{rules}
 use Rattle.front_lookup.proofs.lookup_bytes.Goals as goal
+use Rattle.front_lookup.proofs.lookup_bytes.Goals.{After-room-room}
 
-reply-long : (c : goal.After-room-room) → 3 ≤ length c.args.reply.now / 8
+reply-long : (c : After-room-room) → 3 ≤ length c.args.reply.now / 8
 reply-long c = omega (arith, c.if-reply-lt-REPLY_WORDS.false)
 
 pub returns-then-reply-lt-REPLY_WORDS : goal.returns-then-reply-lt-REPLY_WORDS

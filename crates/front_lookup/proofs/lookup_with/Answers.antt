@@ -12,21 +12,22 @@ use Rattle.front_lookup.proofs.Located.{done-reply, refused-reply}
 use native.Mathlib.Omega.{arith}
 use borrow.Author.Rules.{rules}
 use Rattle.front_lookup.proofs.lookup_with.Goals as goal
+use Rattle.front_lookup.proofs.lookup_with.Goals.{After-lookup_in-r, After-work_words-n}
 
 -- Where the words of the working list are known.
-lends : (c : goal.After-work_words-n) →
+lends : (c : After-work_words-n) →
     let a = c.args in
     Working a.room c.work_words-n.result a.list.now
 lends c = let s = c in working s.args.room _ s.args.list.now c.work_words-n.ensures s.requires.0
 
 -- the list has its length
-list-kept : (c : goal.After-lookup_in-r) →
+list-kept : (c : After-lookup_in-r) →
     let list = c.args.list.now in
     length (c.lookup_in-r.new.1.1.0 ++ drop c.work_words-n.result list) ≡ length list
 list-kept c = part-back c.lookup_in-r.new.1.1.0 c.args.list.now c.work_words-n.result c.lookup_in-r.auto.1.1.0
 
 -- the reply is the definition's, with the words of so many blocks lent
-looked-up : (c : goal.After-lookup_in-r) →
+looked-up : (c : After-lookup_in-r) →
     let a = c.args in
     reply_of (replicate (4 * a.room) 0) c.lookup_in-r.result ≡ lookup a.image.now a.path.now (4 * a.room)
 looked-up c = c.lookup_in-r.ensures (4 * c.args.room) (lends c).fit

@@ -15,37 +15,38 @@ use Rattle.front_mend.proofs.Mended.{log-most, log-words, within, Taken, taken, 
 use native.Mathlib.Omega.{arith}
 use borrow.Author.Rules.{rules}
 use Rattle.front_mend.proofs.mend_with.Goals as goal
+use Rattle.front_mend.proofs.mend_with.Goals.{After-log_room-m, After-mend_in-r, After-work_words-n}
 
 -- the log has the words that are lent
-log-fits : (c : goal.After-log_room-m) → c.log_room-m.result ≤ 2 * objects_most
+log-fits : (c : After-log_room-m) → c.log_room-m.result ≤ 2 * objects_most
 log-fits c = omega (arith, c.log_room-m.ensures)
 
 -- Where the words of the working list are known.
-lends : (c : goal.After-work_words-n) →
+lends : (c : After-work_words-n) →
     let a = c.args in
     Working a.room c.work_words-n.result a.list.now
 lends c =
     let s = c in
     working s.args.room _ s.args.list.now c.work_words-n.ensures s.requires.0
 
-abbrev list : goal.After-mend_in-r → List ℕ
+abbrev list : After-mend_in-r → List ℕ
 list c = c.mend_in-r.new.1.0
 
-abbrev entries : goal.After-mend_in-r → List ℕ
+abbrev entries : After-mend_in-r → List ℕ
 entries c = c.mend_in-r.new.1.1.0
 
-abbrev count : goal.After-mend_in-r → ℕ
+abbrev count : After-mend_in-r → ℕ
 count c = c.mend_in-r.result.block_count
 
-abbrev log-room : goal.After-mend_in-r → ℕ
+abbrev log-room : After-mend_in-r → ℕ
 log-room c = c.log_room-m.result
 
 -- the blocks came back with the words lent
-list_back : (c : goal.After-mend_in-r) → Worked c.args.room c.work_words-n.result c.args.list.now (list c) (count c)
+list_back : (c : After-mend_in-r) → Worked c.args.room c.work_words-n.result c.args.list.now (list c) (count c)
 list_back c = worked c.args.room _ _ (list c) (count c) (lends c) c.mend_in-r.auto.1.0 c.mend_in-r.ensures.0
 
 -- what it returned and left, with the words of so many blocks lent
-mended : (c : goal.After-mend_in-r) →
+mended : (c : After-mend_in-r) →
     let a = c.args in
     let lent = 4 * a.room in
     Taken (length a.blocks.now) (length a.log.now) (length a.reply.now)
@@ -58,12 +59,12 @@ mended c =
     taken s.args.image.now (length s.args.blocks.now) (length s.args.log.now) (length s.args.reply.now) s.args.limit _ _ _
     s.pre.1.0 (log-words _ _ _ c.log_room-m.ensures log-most) is.reply is.most
 
-entries_fit : (c : goal.After-mend_in-r) → 2 * c.mend_in-r.result.entries ≤ length (entries c)
+entries_fit : (c : After-mend_in-r) → 2 * c.mend_in-r.result.entries ≤ length (entries c)
 unfolding objects_most
 entries_fit c =
     within _ _ _ _ c.mend_in-r.auto.1.1.0 (log-words _ _ _ c.log_room-m.ensures log-most) (mended c).entries_fit
 
-log_back : (c : goal.After-mend_in-r) (log : List ℕ) → length (entries c) ≡ length (take (log-room c) log) →
+log_back : (c : After-mend_in-r) (log : List ℕ) → length (entries c) ≡ length (take (log-room c) log) →
     Back (entries c) log (log-room c) (2 * c.mend_in-r.result.entries)
 log_back c log k = came-back (entries c) log (log-room c) _ k (entries_fit c)
 

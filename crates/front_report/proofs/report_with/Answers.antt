@@ -9,11 +9,12 @@ use Rattle.front_report.proofs.Reported.{reply-written}
 use native.Mathlib.Omega.{arith}
 use borrow.Author.Rules.{rules}
 use Rattle.front_report.proofs.report_with.Goals as goal
+use Rattle.front_report.proofs.report_with.Goals.{After-report_into-r, After-work_words-n}
 
-lends : (c : goal.After-work_words-n) → Working c.args.room c.work_words-n.result c.args.list.now
+lends : (c : After-work_words-n) → Working c.args.room c.work_words-n.result c.args.list.now
 lends c = working _ _ c.args.list.now c.work_words-n.ensures c.requires.0
 
-came : (c : goal.After-report_into-r) → let w = c in
+came : (c : After-report_into-r) → let w = c in
     Worked w.args.room w.work_words-n.result w.args.list.now c.report_into-r.new.1.0 c.report_into-r.result.block_count
 came c = let w = c in worked _ _ w.args.list.now _ _ (lends w) c.report_into-r.auto.1.0 c.report_into-r.ensures.0
 

@@ -22,33 +22,34 @@ use Rattle.header_messages.proofs.HeaderSteps.{version-wrong, block-stopped, fir
 use native.Mathlib.Omega.{arith}
 use borrow.Author.Rules.{rules}
 use Rattle.header_messages.proofs.contents.Goals as goal
+use Rattle.header_messages.proofs.contents.Goals.{After-follow, After-scan_block, In-Done-2, In-Done-follow-2}
 
 -- the messages of the header block, with their tally and what was found with them
-abbrev FirstBlock : goal.After-scan_block → Scan → Type 0
+abbrev FirstBlock : After-scan_block → Scan → Type 0
 FirstBlock c r =
     let a = (start c).args in
     let last = c.scan_block.new in
     Scanned a.image.now (a.at + 16) (a.at + 16 + a.size) a.reading.auditing a.addresses.now a.counts.now a.marks.now
     (record { tally = c.empty.result; objects = a.objects }) last.1.0 last.1.1.0 last.1.1.1.0 r
 
-first_block : (c : goal.In-Done-2) → FirstBlock c (scans.Done c.in-Done.g)
+first_block : (c : In-Done-2) → FirstBlock c (scans.Done c.in-Done.g)
 first_block c = subst (FirstBlock c) c.in-Done.is c.scan_block.ensures
 
-abbrev first_messages : goal.In-Done-2 → Gathered Found
+abbrev first_messages : In-Done-2 → Gathered Found
 first_messages c =
     let scan = c.scan_block in
     record { all = (first_block c).0; found = found_of scan.last.1.0 scan.last.1.1.0 scan.last.1.1.1.0 c.in-Done.g.objects }
 
-first-tally : (c : goal.In-Done-2) → Tallied c.args.image.now (first_block c).0 c.in-Done.g.tally
+first-tally : (c : In-Done-2) → Tallied c.args.image.now (first_block c).0 c.in-Done.g.tally
 first-tally c = (first_block c).2 [] (c.empty.ensures _)
 
-first-waits : (c : goal.In-Done-2) →
+first-waits : (c : In-Done-2) →
     let a = c.args in
     Waiting a.image.now a.list.now a.count (cursor (a.count - 1) (a.at + 16) (a.at + 16 + a.size)) (of_type 0x0010 (first_block c).0)
 first-waits c = first-waiting _ _ _ _ _ _ c.requires.1.0 (first_holds _ _ _ _ _ _ c.requires.1.1 (first_block c).1)
 
 -- the walk of the continuations that these messages name
-abbrev Continued : goal.After-follow → Continuing → Type 0
+abbrev Continued : After-follow → Continuing → Type 0
 Continued c r =
     let a = (begun c).args in
     let m = first_messages c in
@@ -57,20 +58,20 @@ Continued c r =
     (continuations (visit_message a.reading.auditing) blocks_most (of_type 0x0010 m.all) m)
     last.1.0 last.1.1.0 last.1.1.1.0 last.1.1.1.1.0 r
 
-continued : (c : goal.After-follow) → Continued c c.follow.result
+continued : (c : After-follow) → Continued c c.follow.result
 continued c = c.follow.ensures.0 blocks_most _ _ (omega (arith, (begun c).requires.1.0)) (first-waits c) (first-tally c)
 
-all-gathered : (c : goal.In-Done-follow-2) → Continued c (continuings.Done c.in-Done-follow.gathering c.in-Done-follow.count)
+all-gathered : (c : In-Done-follow-2) → Continued c (continuings.Done c.in-Done-follow.gathering c.in-Done-follow.count)
 all-gathered c = subst (Continued c) c.in-Done-follow.is (continued c)
 
 -- what is counted is still bounded
-abbrev Counted : goal.After-follow → Continuing → Type 0
+abbrev Counted : After-follow → Continuing → Type 0
 Counted c r =
     let last = c.follow.new in
     CountingOn (begun c).args.reading last.1.0 last.1.1.0 last.1.1.1.0 last.1.1.1.1.0 r
 
 -- the tables keep their lengths
-lengths-kept : (c : goal.After-follow) →
+lengths-kept : (c : After-follow) →
     let a = (begun c).args in
     let last = c.follow.new in
     (length last.1.1.0 ≡ length a.addresses.now) × (length last.1.1.1.0 ≡ length a.counts.now)

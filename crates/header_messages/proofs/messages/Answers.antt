@@ -9,15 +9,16 @@ use Rattle.header_messages.proofs.HeaderSteps.{header-outside, header_refused, h
 use native.Mathlib.Omega.{arith}
 use borrow.Author.Rules.{rules}
 use Rattle.header_messages.proofs.messages.Goals as goal
+use Rattle.header_messages.proofs.messages.Goals.{Else-end_of_file-at}
 
 -- the first 16 bytes lie inside the end of file and the image
-prefix-in-file : (c : goal.Else-end_of_file-at) →
+prefix-in-file : (c : Else-end_of_file-at) →
     let start = c in
     start.args.at + 16 ≤
     start.args.reading.end_of_file
 prefix-in-file c = omega (arith, c.if-end_of_file-lt16.false, c.if-end_of_file-at.false)
 
-prefix-inside : (c : goal.Else-end_of_file-at) →
+prefix-inside : (c : Else-end_of_file-at) →
     let start = c in
     start.args.at + 16 ≤ length
     start.args.image.now

@@ -11,14 +11,15 @@ use Rattle.input.proofs.read_to_end.Reads as reads
 use Rattle.input.proofs.read_to_end.Lts as lts
 use Rattle.input.proofs.read_behind.Reads as read-behind-reads
 use Rattle.input.proofs.read_to_end.Goals as goal
+use Rattle.input.proofs.read_to_end.Goals.{After-read_behind, In-Bytes-2}
 
 -- one read more, behind what is read
-behind : (c : goal.After-read_behind) →
+behind : (c : After-read_behind) →
     Behind c.loop-at.at c.loop-at.buffer c.read_behind.new.1.0
 behind c = record { kept = c.read_behind.ensures.1; same_length = c.read_behind.auto.1.0 }
 
 -- what it brings fits the buffer
-fits : (c : goal.In-Bytes-2) →
+fits : (c : In-Bytes-2) →
     c.loop-at.at + c.in-Bytes.k ≤ length
     c.loop-at.buffer
 fits c =

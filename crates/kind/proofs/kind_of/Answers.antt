@@ -12,33 +12,34 @@ use native.Mathlib.Omega.{arith}
 use borrow.Author.Tests.{eq-eqb, ne_eqb}
 use borrow.Author.Rules.{rules}
 use Rattle.kind.proofs.kind_of.Goals as goal
+use Rattle.kind.proofs.kind_of.Goals.{Else-counts_are, Else-counts_are-2, Then-counts_are, Then-counts_are-2, Then-counts_are-3}
 
 -- what the counts say, for all messages with this tally
-is-group : (c : goal.Then-counts_are) (ms : List Message) →
+is-group : (c : Then-counts_are) (ms : List Message) →
     let start = c in
     Tallied start.args.image.now ms start.args.tally →
     has_counts ms 0 0 0 1 ≡ true
 is-group c ms t = sym (c.counts_are.ensures _ ms t) ∙ c.if-counts_are.true
 
-no-group : (c : goal.Else-counts_are) (ms : List Message) →
+no-group : (c : Else-counts_are) (ms : List Message) →
     let start = c in
     Tallied start.args.image.now ms start.args.tally →
     has_counts ms 0 0 0 1 ≡ false
 no-group c ms t = sym (c.counts_are.ensures _ ms t) ∙ c.if-counts_are.false
 
-is-dataset : (c : goal.Then-counts_are-2) (ms : List Message) →
+is-dataset : (c : Then-counts_are-2) (ms : List Message) →
     let start = c in
     Tallied start.args.image.now ms start.args.tally →
     has_counts ms 1 1 1 0 ≡ true
 is-dataset c ms t = sym (c.counts_are-2.ensures _ ms t) ∙ c.if-counts_are-2.true
 
-no-dataset : (c : goal.Else-counts_are-2) (ms : List Message) →
+no-dataset : (c : Else-counts_are-2) (ms : List Message) →
     let start = c in
     Tallied start.args.image.now ms start.args.tally →
     has_counts ms 1 1 1 0 ≡ false
 no-dataset c ms t = sym (c.counts_are-2.ensures _ ms t) ∙ c.if-counts_are-2.false
 
-is-committed : (c : goal.Then-counts_are-3) (ms : List Message) →
+is-committed : (c : Then-counts_are-3) (ms : List Message) →
     let start = c in
     Tallied start.args.image.now ms
     start.args.tally → has_counts ms 0 1 0 0 ≡ true

@@ -12,22 +12,23 @@ use Rattle.undo_log.specs.Entries.{CountsBelow}
 use Rattle.undo_log.proofs.WrittenLaws.{fields-inside, places-below}
 use Rattle.mend.proofs.ReplyLaws.{audit-refused, log-short, mended-is}
 use Rattle.mend.proofs.mend_in.Goals as goal
+use Rattle.mend.proofs.mend_in.Goals.{After-audit_in-reply}
 
 -- the blocks fit, and the reply is that of an audit with any list lent that has the working list's room
-blocks-fit : (c : goal.After-audit_in-reply) → c.audit_in-reply.result.block_count ≤ places_of (length c.args.list.now)
+blocks-fit : (c : After-audit_in-reply) → c.audit_in-reply.result.block_count ≤ places_of (length c.args.list.now)
 blocks-fit c = c.audit_in-reply.ensures.0
 
-audited : (c : goal.After-audit_in-reply) (lent : ℕ) → room_of lent ≡ places_of (length c.args.list.now) →
+audited : (c : After-audit_in-reply) (lent : ℕ) → room_of lent ≡ places_of (length c.args.list.now) →
     AuditIs c.args.image.now lent (handed lent c.audit_in-reply.result.block_count c.audit_in-reply.new.1.0) c.audit_in-reply.result
 audited c = c.audit_in-reply.ensures.1
 
 -- what is known of the ledger, by one such list
-ledger : (c : goal.After-audit_in-reply) → let lent = 4 * places_of (length c.args.list.now) in
+ledger : (c : After-audit_in-reply) → let lent = 4 * places_of (length c.args.list.now) in
     AuditIs c.args.image.now lent (handed lent c.audit_in-reply.result.block_count c.audit_in-reply.new.1.0) c.audit_in-reply.result
 ledger c = let room = places_of (length c.args.list.now) in audited c (4 * room) (room-fours room (places-most _))
 
 -- every count lies inside the image
-inside : (c : goal.After-audit_in-reply) → CountsBelow (length c.args.image.now) c.audit_in-reply.result.ledger
+inside : (c : After-audit_in-reply) → CountsBelow (length c.args.image.now) c.audit_in-reply.result.ledger
 inside c = (ledger c).readable.inside
 
 pub returns-then-number-ne-DONE : goal.returns-then-number-ne-DONE

@@ -10,16 +10,17 @@ use Rattle.names.proofs.ValueLaws.{none-followed}
 use native.Mathlib.Omega.{arith}
 use borrow.Author.Rules.{rules}
 use Rattle.names.proofs.name.Goals as goal
+use Rattle.names.proofs.name.Goals.{Else-size-eq0, In-Sound}
 
 -- the string begins before the last NUL or at it
-inside : (c : goal.In-Sound) → let a = c.args in a.off < a.ended
+inside : (c : In-Sound) → let a = c.args in a.off < a.ended
 inside c =
     let start = c in
     let a = start.args in
     key-inside a.segment.now a.ended a.off [] start.requires.0 (same_check _ c.in-Sound.is (c.key.ensures [])).1
 
 -- the name's NUL is behind it in the segment
-whole : (c : goal.Else-size-eq0) →
+whole : (c : Else-size-eq0) →
     let a = c.args in
     a.off + c.name_size-size.result < length a.segment.now
 whole c =

@@ -8,13 +8,14 @@ use Rattle.names.proofs.SizeLaws.{size-slashed, size-slashed-short}
 use native.Mathlib.Omega.{arith}
 use borrow.Author.Rules.{rules}
 use Rattle.names.proofs.name_size.Goals as goal
+use Rattle.names.proofs.name_size.Goals.{Else-not-contains_16, Then-not-contains_16}
 
 -- a NUL is among sixteen bytes, or none
-with-nul : (c : goal.Else-not-contains_16) →
+with-nul : (c : Else-not-contains_16) →
     let a = c.args in contains 0 (part a.segment.now a.off 16) ≡ true
 with-nul c = sym c.contains_16.ensures ∙ not-false _ c.if-not-contains_16.false
 
-without-nul : (c : goal.Then-not-contains_16) →
+without-nul : (c : Then-not-contains_16) →
     let a = c.args in contains 0 (part a.segment.now a.off 16) ≡ false
 without-nul c = sym c.contains_16.ensures ∙ not-true _ c.if-not-contains_16.true
 

@@ -8,9 +8,10 @@ use Rattle.names.proofs.ValueLaws.{free-decides}
 use native.Mathlib.Omega.{arith}
 use borrow.Author.Rules.{rules}
 use Rattle.names.proofs.outside_free.Goals as goal
+use Rattle.names.proofs.outside_free.Goals.{After-nul_within-end}
 
 -- the NUL that ends the string
-ended : (c : goal.After-nul_within-end) →
+ended : (c : After-nul_within-end) →
     let a = c.args in c.nul_within-end.result ≡ a.off + before_nul (drop a.off a.segment.now)
 ended c = let start = c in omega (arith, c.nul_within-end.ensures.value, start.requires.0)
 

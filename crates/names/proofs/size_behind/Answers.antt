@@ -8,14 +8,15 @@ use Rattle.names.proofs.SizeLaws.{size_above, size-slash, size-plain}
 use native.Mathlib.Omega.{arith}
 use borrow.Author.Rules.{rules}
 use Rattle.names.proofs.size_behind.Goals as goal
+use Rattle.names.proofs.size_behind.Goals.{After-nul_within-end}
 
 -- one byte more than a name may have was looked at
-looked : (c : goal.After-nul_within-end) →
+looked : (c : After-nul_within-end) →
     let a = c.args in
     NulWithin a.segment.now (a.off + a.passed) (name_most + 1 - a.passed) c.nul_within-end.result
 looked c = rw c.the_limits-limits.ensures.name_most_equal at c.nul_within-end.ensures
 
-few : (c : goal.After-nul_within-end) → c.args.passed ≤ name_most
+few : (c : After-nul_within-end) → c.args.passed ≤ name_most
 few c = omega (arith, sixteen, c.requires)
 
 pub overflow_add-limits : goal.overflow_add-limits

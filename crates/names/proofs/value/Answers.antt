@@ -9,9 +9,10 @@ use Rattle.names.proofs.ValueLaws.{value-alone, none-followed, value-sound, valu
 use native.Mathlib.Omega.{arith}
 use borrow.Author.Rules.{rules}
 use Rattle.names.proofs.value.Goals as goal
+use Rattle.names.proofs.value.Goals.{In-Sound}
 
 -- the string begins before the last NUL or at it
-inside : (c : goal.In-Sound) → let a = c.args in a.off < a.ended
+inside : (c : In-Sound) → let a = c.args in a.off < a.ended
 inside c =
     let start = c in
     let a = start.args in

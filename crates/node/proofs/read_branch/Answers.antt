@@ -17,8 +17,9 @@ use Rattle.node.proofs.NodeLaws.{branch-stopped, own-level-wrong, empty-node, ke
 use native.Mathlib.Omega.{arith}
 use borrow.Author.Rules.{rules}
 use Rattle.node.proofs.read_branch.Goals as goal
+use Rattle.node.proofs.read_branch.Goals.{After-check_keys, In-Read-2}
 
-node-is : (c : goal.In-Read-2) →
+node-is : (c : In-Read-2) →
     let at-read-node = c in
     let start = at-read-node.before.before.before.before.before in
     NodeIs start.args.image.now start.args.list.now start.args.group start.args.count start.args.at
@@ -31,7 +32,7 @@ node-is c =
     at-read-node.read_node.new.1.0 r) c.in-Read.is
     at-read-node.read_node.ensures
 
-node-walked : (c : goal.In-Read-2) →
+node-walked : (c : In-Read-2) →
     let at-read-node = c in
     let start = at-read-node.before.before.before.before.before in
     Walked start.args.list.now at-read-node.read_node.new.1.0
@@ -40,14 +41,14 @@ node-walked : (c : goal.In-Read-2) →
     (node_walk start.args.group.internal_k start.args.at) (blocks_of start.args.count start.args.list.now))
 node-walked c = (node-is c).walked
 
-fields : (c : goal.In-Read-2) →
+fields : (c : In-Read-2) →
     let start = c in
     NodeFields start.args.image.now start.args.group start.args.at start.args.count
     (NodeRead.TheVariants.Read c.in-Read.own c.in-Read.entries c.in-Read.c)
 fields c = (node-is c).fields
 
 -- the keys, as part of the node
-keys : (c : goal.After-check_keys) (h : Heap) →
+keys : (c : After-check_keys) (h : Heap) →
     let at_own = c in
     let start = at_own in
     h.segment ≡ start.args.segment.now →

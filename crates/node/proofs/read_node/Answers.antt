@@ -8,9 +8,10 @@ use Rattle.node.proofs.NodeLaws.{node-refused, node-inside, node-counted, signat
 use native.Mathlib.Omega.{arith}
 use borrow.Author.Rules.{rules}
 use Rattle.node.proofs.read_node.Goals as goal
+use Rattle.node.proofs.read_node.Goals.{Else-u32_at-ne-TREE, In-Entered-2}
 
 -- the node lies inside the image
-whole : (c : goal.In-Entered-2) →
+whole : (c : In-Entered-2) →
     let start = c in
     start.args.at + (32 + 32 * start.args.group.internal_k) ≤ length start.args.image.now
 whole c =
@@ -20,7 +21,7 @@ whole c =
     (sym c.in-Entered.is ∙ at-enter.enter.ensures.0) in
     omega (arith, start.requires.1.0)
 
-signed : (c : goal.Else-u32_at-ne-TREE) → c.u32_at.result ≡ TREE
+signed : (c : Else-u32_at-ne-TREE) → c.u32_at.result ≡ TREE
 unfolding TREE little_endian
 signed c = c.if-u32_at-ne-TREE.false
 

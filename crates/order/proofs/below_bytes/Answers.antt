@@ -7,9 +7,10 @@ use Rattle.order.proofs.Windows.{Window, same-fewer, byte-window, window_same, w
 use borrow.Author.Rules.{rules}
 use native.Mathlib.Omega.{arith}
 use Rattle.order.proofs.below_bytes.Goals as goal
+use Rattle.order.proofs.below_bytes.Goals.{In-loop-i}
 
 -- the next byte
-next : (c : goal.In-loop-i) →
+next : (c : In-loop-i) →
     let a = c.args in
     let i = c.loop-i.i in
     Window a.a.now a.b.now i 1 (get_or a.a.now i 0) (get_or a.b.now i 0)

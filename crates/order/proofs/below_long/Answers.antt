@@ -5,9 +5,10 @@ use Rattle.order.proofs.Windows.{Window, same-fewer, window_same, window-differ}
 use borrow.Author.Rules.{rules}
 use native.Mathlib.Omega.{arith}
 use Rattle.order.proofs.below_long.Goals as goal
+use Rattle.order.proofs.below_long.Goals.{After-eight_at-last_b, After-eight_at-next_b}
 
 -- the next eight bytes
-next : (c : goal.After-eight_at-next_b) →
+next : (c : After-eight_at-next_b) →
     let a = c.args in
     Window a.a.now a.b.now c.loop-i.i 8 c.eight_at-next_a.result c.eight_at-next_b.result
 next c =
@@ -22,7 +23,7 @@ next c =
     }
 
 -- the last eight bytes
-last : (c : goal.After-eight_at-last_b) →
+last : (c : After-eight_at-last_b) →
     let a = c.args in
     Window a.a.now a.b.now (a.end - 8) 8 c.eight_at-last_a.result c.eight_at-last_b.result
 last c =

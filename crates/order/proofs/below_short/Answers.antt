@@ -5,9 +5,10 @@ use Rattle.order.proofs.Windows.{Window, same-fewer, window_same, window-differ}
 use native.Mathlib.Omega.{arith}
 use borrow.Author.Rules.{rules}
 use Rattle.order.proofs.below_short.Goals as goal
+use Rattle.order.proofs.below_short.Goals.{After-four_at-first_b, After-four_at-last_b}
 
 -- the first four bytes
-first : (c : goal.After-four_at-first_b) →
+first : (c : After-four_at-first_b) →
     let a = c.args in
     Window a.a.now a.b.now 0 4 c.four_at-first_a.result c.four_at-first_b.result
 first c =
@@ -22,7 +23,7 @@ first c =
     }
 
 -- the last four bytes
-last : (c : goal.After-four_at-last_b) →
+last : (c : After-four_at-last_b) →
     let a = c.args in
     Window a.a.now a.b.now (a.end - 4) 4 c.four_at-last_a.result c.four_at-last_b.result
 last c =

@@ -10,15 +10,16 @@ use Rattle.walk.proofs.Tests.{all-fails, all-passes, all-last, range-below, rang
 use borrow.Author.Rules.{rules}
 use native.Mathlib.Omega.{arith}
 use Rattle.path.proofs.is_component.Goals as goal
+use Rattle.path.proofs.is_component.Goals.{After-same, Else-limits-part}
 
 -- there are 1 to 255 bytes
-sized : (c : goal.Else-limits-part) → in_range 1 name_most (length c.args.part.now) ≡ true
+sized : (c : Else-limits-part) → in_range 1 name_most (length c.args.part.now) ≡ true
 sized c =
     range_inside 1 name_most (length c.args.part.now) (omega arith)
     (omega (arith, c.the_limits-limits.ensures.name_most_equal))
 
 -- whether they are "."
-dotted : (c : goal.After-same) → same_bytes c.args.part.now (0x2e ∷ []) ≡ c.same.result
+dotted : (c : After-same) → same_bytes c.args.part.now (0x2e ∷ []) ≡ c.same.result
 dotted c = sym c.same.ensures
 
 pub returns-then-part-lt1 : goal.returns-then-part-lt1

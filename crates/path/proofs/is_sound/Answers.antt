@@ -6,9 +6,10 @@ use Rattle.path.proofs.PathLaws.{path_empty, path-long, path-start, path-root, p
 use borrow.Author.Rules.{rules}
 use native.Mathlib.Omega.{arith}
 use Rattle.path.proofs.is_sound.Goals as goal
+use Rattle.path.proofs.is_sound.Goals.{Else-limits-path}
 
 -- there are at most 1,024 bytes
-short : (c : goal.Else-limits-path) → length c.args.path.now ≤ path_most
+short : (c : Else-limits-path) → length c.args.path.now ≤ path_most
 short c = omega (arith, c.the_limits-limits.ensures.path_most_equal)
 
 pub returns-then-path-lt1 : goal.returns-then-path-lt1

@@ -12,19 +12,20 @@ use Rattle.report.proofs.Ledgers.{same-list, empty-reply, full-reply}
 use native.Mathlib.Omega.{arith}
 use borrow.Author.Rules.{rules}
 use Rattle.report.proofs.report.Goals as goal
+use Rattle.report.proofs.report.Goals.{After-hand_over, After-report_into-r, After-work_words-n}
 
-abbrev lent : goal.After-work_words-n → ℕ
+abbrev lent : After-work_words-n → ℕ
 lent c = length c.args.list.now
 
-lends : (c : goal.After-work_words-n) → Working (lent c) c.work_words-n.result work
+lends : (c : After-work_words-n) → Working (lent c) c.work_words-n.result work
 lends c = working (lent c) _ _ c.room.ensures c.work_words-n.ensures
 
-over : (c : goal.After-report_into-r) →
+over : (c : After-report_into-r) →
     HandedOver (lent c) c.work_words-n.result work c.report_into-r.new.1.0 c.report_into-r.result.block_count
 unfolding blocks_most
 over c = handed-over _ _ work _ _ (lends c) c.report_into-r.auto.1.0 c.report_into-r.ensures.0
 
-reported : (c : goal.After-hand_over) → let d = c in let t = d.report_into-r.last.1.1 in
+reported : (c : After-hand_over) → let d = c in let t = d.report_into-r.last.1.1 in
     ReportedIs (start d).args.image.now (lent d) c.hand_over.new.0 t.0 t.1.0 t.1.1.0 d.report_into-r.result
 unfolding blocks_most
 reported c =

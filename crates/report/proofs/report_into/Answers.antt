@@ -9,11 +9,12 @@ use Rattle.report.specs.Report.{Fields}
 use Rattle.report.proofs.Replied.{unopened-is, opened-is}
 use borrow.Author.Rules.{rules}
 use Rattle.report.proofs.report_into.Goals as goal
+use Rattle.report.proofs.report_into.Goals.{In-Opened-2}
 
-abbrev superblock : goal.In-Opened-2 → Superblock
+abbrev superblock : In-Opened-2 → Superblock
 superblock c = c.in-Opened.s
 
-opened-here : (c : goal.In-Opened-2) →
+opened-here : (c : In-Opened-2) →
     (opened (superblock_of (superblock c)) ≡ open_image c.args.image.now) × Bounded c.args.image.now (superblock c)
 opened-here c = rw c.in-Opened.is at c.open.ensures
 

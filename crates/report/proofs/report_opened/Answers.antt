@@ -12,43 +12,44 @@ use Rattle.audit.proofs.ReplyLaws.{lists-table, stored-room, readable}
 use Rattle.report.proofs.Replied.{entered-fit, entered-numbered, refused-is, done-is, same-long}
 use borrow.Author.Rules.{rules}
 use Rattle.report.proofs.report_opened.Goals as goal
+use Rattle.report.proofs.report_opened.Goals.{After-walk_image, In-Done-2, In-Stopped-2}
 
-abbrev filled : goal.After-walk_image → List ℕ
+abbrev filled : After-walk_image → List ℕ
 filled c = c.fill_undefined.new.0
 
-abbrev words : goal.After-walk_image → List ℕ
+abbrev words : After-walk_image → List ℕ
 words c = c.walk_image.new.1.0
 
-abbrev addresses : goal.After-walk_image → List ℕ
+abbrev addresses : After-walk_image → List ℕ
 addresses c = c.walk_image.new.1.1.0
 
-abbrev counts : goal.After-walk_image → List ℕ
+abbrev counts : After-walk_image → List ℕ
 counts c = c.walk_image.new.1.1.1.0
 
-lent : (c : goal.After-walk_image) → length (filled c) ≡ length c.args.list.now
+lent : (c : After-walk_image) → length (filled c) ≡ length c.args.list.now
 lent c = c.fill_undefined.auto.0
 
-all-filled : (c : goal.After-walk_image) → filled c ≡ replicate (length (filled c)) undefined_address
+all-filled : (c : After-walk_image) → filled c ≡ replicate (length (filled c)) undefined_address
 all-filled c = c.fill_undefined.ensures ∙ ap (λ (n : ℕ). replicate n undefined_address) (sym (lent c))
 
-abbrev refusal : goal.In-Stopped-2 → Refusal
+abbrev refusal : In-Stopped-2 → Refusal
 refusal c = c.in-Stopped.x
 
-walk-stopped : (c : goal.In-Stopped-2) → let w = c in
+walk-stopped : (c : In-Stopped-2) → let w = c in
     ImageWalked w.args.image.now (filled w) w.args.superblock (words w) (addresses w) (counts w) (Stopped (refusal c))
 walk-stopped c = rw c.in-Stopped.is at c.walk_image.ensures
 
-abbrev count : goal.In-Done-2 → ℕ
+abbrev count : In-Done-2 → ℕ
 count c = c.in-Done.count
 
-abbrev objects : goal.In-Done-2 → ℕ
+abbrev objects : In-Done-2 → ℕ
 objects c = c.in-Done.objects
 
-walk-done : (c : goal.In-Done-2) → let w = c in
+walk-done : (c : In-Done-2) → let w = c in
     ImageWalked w.args.image.now (filled w) w.args.superblock (words w) (addresses w) (counts w) (Done (count c) (objects c))
 walk-done c = rw c.in-Done.is at c.walk_image.ensures
 
-read : (c : goal.In-Done-2) → let w = c in Readable w.args.image.now (addresses w) (objects c)
+read : (c : In-Done-2) → let w = c in Readable w.args.image.now (addresses w) (objects c)
 read c =
     let w = c in
     readable w.args.image.now (filled w) w.args.superblock (count c) (objects c) (words w) (addresses w) (counts w) (walk-done c)

@@ -8,8 +8,9 @@ use Rattle.input.specs.declared.Input.{Input}
 use Rattle.input.proofs.ReadingLaws.{reads-within}
 use borrow.Author.Rules.{rules}
 use Rattle.report_command.proofs.answer.Goals as goal
+use Rattle.report_command.proofs.answer.Goals.{In-Read-2}
 
-within : (c : goal.In-Read-2) → c.in-Read.length ≤ length c.read_to_end.new.1.0
+within : (c : In-Read-2) → c.in-Read.length ≤ length c.read_to_end.new.1.0
 within c =
     let r = c in
     let b = r.args.buffer.now in

@@ -8,13 +8,14 @@ use Rattle.scan.proofs.ScanLaws.{Step, holds-step, Seeking, seek-start, seek-ski
 use borrow.Author.Rules.{rules}
 use native.Mathlib.Omega.{arith}
 use Rattle.scan.proofs.next_continuation.Goals as goal
+use Rattle.scan.proofs.next_continuation.Goals.{At-loop-at, In-loop-at}
 
 -- the message that stands there
-step : (c : goal.In-loop-at) →
+step : (c : In-loop-at) →
     Step c.args.image.now c.loop-at.at c.args.end c.loop-at.invariant.0.0
 step c = holds-step _ _ _ _ c.loop-at.invariant.0.1 c.loop-at-test.true
 
-inside : (c : goal.At-loop-at) → c.args.end ≤ length c.args.image.now
+inside : (c : At-loop-at) → c.args.end ≤ length c.args.image.now
 inside c = c.loop-at.invariant.0.1.inside
 
 pub loop-at-init : goal.loop-at-init

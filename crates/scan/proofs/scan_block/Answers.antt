@@ -15,9 +15,10 @@ use Rattle.scan.proofs.ScanTables.{Turning, kept-start, tables-now, kept_more, k
 use borrow.Author.Rules.{rules}
 use native.Mathlib.Omega.{arith}
 use Rattle.scan.proofs.scan_block.Goals as goal
+use Rattle.scan.proofs.scan_block.Goals.{After-visit_message, In-Read-2}
 
 -- the fields of the message that was read
-fields_read : (c : goal.In-Read-2) →
+fields_read : (c : In-Read-2) →
     let at-loop = c in
     let start = at-loop.before.before.before.before.before.before in
     let s = start.args in
@@ -30,7 +31,7 @@ fields_read c =
     c.message.ensures.fields
 
 -- it was read as its reader reads it
-read_as : (c : goal.In-Read-2) →
+read_as : (c : In-Read-2) →
     let at-loop = c in
     let start = at-loop.before.before.before.before.before.before in
     let s = start.args in
@@ -44,7 +45,7 @@ read_as c =
     sym (ap (message_result s.image.now at-loop.loop.at) c.in-Read.is) ∙ c.message.ensures.walk
 
 -- what was done at it, and what that leaves
-visited-as : (c : goal.After-visit_message) (r : Sharing) →
+visited-as : (c : After-visit_message) (r : Sharing) →
     let at-kind = c in
     let at-loop = at-kind.before.before.before.before in
     let start = at-loop.before.before.before.before.before.before in
@@ -63,7 +64,7 @@ visited-as c r e =
     let size : state.at + 8 + given.1.0 - (state.at + 8) ≡ given.1.0 = omega arith in
     rw (e, size) at (c.visit_message.ensures.walk given.1.1.0 (state.at + 8))
 
-kept-as : (c : goal.After-visit_message) (n : ℕ) →
+kept-as : (c : After-visit_message) (n : ℕ) →
     let at-loop = c in
     let start = at-loop.before.before.before.before.before.before in
     c.visit_message.result ≡ Counted n →

@@ -4,9 +4,10 @@ use lib.ListN.{length}
 use Rattle.sharing.proofs.SharingLaws.{marked-place, share-full, share_other, share-counted}
 use borrow.Author.Rules.{rules}
 use Rattle.sharing.proofs.share.Goals as goal
+use Rattle.sharing.proofs.share.Goals.{In-Counted-2}
 
 -- a discovery that was counted leaves a place that has a mark
-marked : (c : goal.In-Counted-2) →
+marked : (c : In-Counted-2) →
     let search = c in
     search.find-found.result.place < length search.args.marks.now
 marked c =

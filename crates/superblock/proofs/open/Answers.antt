@@ -14,22 +14,23 @@ use Rattle.superblock.proofs.SuperblockLaws.{opening-4, opening-done, end-inside
 use native.Mathlib.Omega.{arith}
 use borrow.Author.Rules.{rules}
 use Rattle.superblock.proofs.open.Goals as goal
+use Rattle.superblock.proofs.open.Goals.{Else-limits-image, Else-u64_at-ne-SIGNATURE}
 
 -- the image's length is in range
-in-range : (c : goal.Else-limits-image) → in_range image_least image_most (length c.args.image.now) ≡ true
+in-range : (c : Else-limits-image) → in_range image_least image_most (length c.args.image.now) ≡ true
 in-range c =
     let limits = c.the_limits-limits.ensures in
     range_inside image_least image_most _ (omega (arith, c.if-image-limits.false, limits.image_least_equal))
     (omega (arith, c.if-limits-image.false, limits.image_most_equal))
 
 -- and so it holds a superblock
-holds : (c : goal.Else-limits-image) → 96 ≤ length c.args.image.now
+holds : (c : Else-limits-image) → 96 ≤ length c.args.image.now
 holds c =
     let limits = c.the_limits-limits.ensures in
     omega (arith, c.if-image-limits.false, limits.image_least_equal, superblock-fits)
 
 -- the signature stands at 0
-signed : (c : goal.Else-u64_at-ne-SIGNATURE) → eqb (u64 c.args.image.now 0) signature ≡ true
+signed : (c : Else-u64_at-ne-SIGNATURE) → eqb (u64 c.args.image.now 0) signature ≡ true
 unfolding signature little_endian
 signed c = field-equal (sym c.u64_at.ensures.value) c.if-u64_at-ne-SIGNATURE.false
 

@@ -11,8 +11,9 @@ use Rattle.superblock.proofs.SuperblockLaws.{shifted-field, shifted_end}
 use native.Mathlib.Omega.{arith}
 use borrow.Author.Rules.{rules}
 use Rattle.superblock.proofs.superblock_sound.Goals as goal
+use Rattle.superblock.proofs.superblock_sound.Goals.{Else-image-shift}
 
-size-passed : (c : goal.Else-image-shift) → leb (96 + version_shift c.args.image.now) (length c.args.image.now) ≡ true
+size-passed : (c : Else-image-shift) → leb (96 + version_shift c.args.image.now) (length c.args.image.now) ≡ true
 size-passed c = let s = c in rw (shifted_end s.args.image.now s.args.shift s.requires) (le-leb _ _ c.if-image-shift.false)
 
 pub returns-then-image-shift : goal.returns-then-image-shift

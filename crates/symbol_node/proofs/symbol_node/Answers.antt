@@ -19,9 +19,10 @@ use Rattle.symbol_node.proofs.SymbolLaws.{version-wrong, count_low, count-high, 
 use native.Mathlib.Omega.{arith}
 use borrow.Author.Rules.{rules}
 use Rattle.symbol_node.proofs.symbol_node.Goals as goal
+use Rattle.symbol_node.proofs.symbol_node.Goals.{Else-k-n, Else-u32_at-ne-SNOD, In-Entered-2, Start}
 
 -- the node lies inside the image
-whole : (c : goal.In-Entered-2) →
+whole : (c : In-Entered-2) →
     let start = c in
     start.args.at + (8 + 80 * start.args.group.leaf_k) ≤ length start.args.image.now
 whole c =
@@ -33,11 +34,11 @@ whole c =
     (sym c.in-Entered.is ∙ at-enter.enter.ensures.0) in
     omega (arith, i, start.requires.fixed.file)
 
-signed : (c : goal.Else-u32_at-ne-SNOD) → c.u32_at.result ≡ SNOD
+signed : (c : Else-u32_at-ne-SNOD) → c.u32_at.result ≡ SNOD
 unfolding SNOD little_endian
 signed c = c.if-u32_at-ne-SNOD.false
 
-lent : (c : goal.In-Entered-2) →
+lent : (c : In-Entered-2) →
     let at-enter = c in
     let start = at-enter.before.before.before.before.before.before.before.before.before in
     Lent at-enter.enter.new.1.0 c.in-Entered.c start.args.group.room
@@ -50,14 +51,14 @@ lent c =
     (sym c.in-Entered.is ∙ at-enter.enter.ensures.0)
 
 -- the blocks entered, with the node as the last
-abbrev blocks : goal.In-Entered-2 → List Block
+abbrev blocks : In-Entered-2 → List Block
 blocks c = blocks_of c.in-Entered.c c.enter.new.1.0
 
 -- the links found before
-abbrev links : goal.Start → ℕ
+abbrev links : Start → ℕ
 links s = link_sum (linked_of s.args.state.objects s.args.addresses.now s.args.counts.now)
 
-grown : (c : goal.In-Entered-2) →
+grown : (c : In-Entered-2) →
     let s = c in
     Grown s.args.group.end_of_file s.args.group.room (blocks_of s.args.state.count s.args.list.now) (blocks c)
 grown c =
@@ -66,14 +67,14 @@ grown c =
     let e = at-enter.enter.ensures in
     symbols-grown s.args.image.now _ _ _ _ _ s.pre.sound.lent _ _ e.1 _ (sym c.in-Entered.is ∙ e.0)
 
-apart : (c : goal.In-Entered-2) → Fresh [] (blocks c)
+apart : (c : In-Entered-2) → Fresh [] (blocks c)
 apart c = grown-apart (grown c) c.requires.sound.apart
 
-inside : (c : goal.In-Entered-2) → Inside c.args.group.end_of_file (blocks c)
+inside : (c : In-Entered-2) → Inside c.args.group.end_of_file (blocks c)
 inside c = grown-inside (grown c) c.requires.sound.inside
 
 -- the links found before, and one for every byte of the node
-lengths : (c : goal.In-Entered-2) → links c + (8 + 80 * c.args.group.leaf_k) ≤ length_sum (blocks c)
+lengths : (c : In-Entered-2) → links c + (8 + 80 * c.args.group.leaf_k) ≤ length_sum (blocks c)
 lengths c =
     let at-enter = c in
     let s = c in
@@ -82,7 +83,7 @@ lengths c =
     omega (arith, s.pre.sound.links, sum)
 
 -- the node has no more entries than bytes
-links-fit : (c : goal.Else-k-n) →
+links-fit : (c : Else-k-n) →
     let place = c in
     links place + c.u16_at-n.result ≤ length_sum (blocks place)
 links-fit c =

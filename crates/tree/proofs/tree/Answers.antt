@@ -15,8 +15,9 @@ use Rattle.tree.proofs.TreeLaws.{no-bounds, root-used, root-stopped, root-empty,
 use native.Mathlib.Omega.{arith}
 use borrow.Author.Rules.{rules}
 use Rattle.tree.proofs.tree.Goals as goal
+use Rattle.tree.proofs.tree.Goals.{In-Read-2}
 
-node-is : (c : goal.In-Read-2) →
+node-is : (c : In-Read-2) →
     let at-read-node = c in
     let start = at-read-node.before.before.before.before.before.before.before.before.before.before.before in
     NodeIs start.args.image.now start.args.list.now start.args.group start.args.state.count start.args.at
@@ -34,7 +35,7 @@ abbrev none : Name
 none = record { at = 0; size = 0; first = 0; second = 0 }
 
 -- an empty root
-no-entries : (c : goal.In-Read-2) →
+no-entries : (c : In-Read-2) →
     let start = c in
     u16 start.args.image.now (start.args.at + 6) ≡ 0
 no-entries c =

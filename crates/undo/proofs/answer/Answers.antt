@@ -13,27 +13,28 @@ use Rattle.undo.proofs.ByteLaws.{length-words}
 use native.Mathlib.Omega.{arith}
 use borrow.Author.Rules.{rules}
 use Rattle.undo.proofs.answer.Goals as goal
+use Rattle.undo.proofs.answer.Goals.{Else-limits-image, Else-log-entries}
 
 -- the image's length is in range
-in-range : (c : goal.Else-limits-image) → in_range image_least image_most (length c.args.image.now) ≡ true
+in-range : (c : Else-limits-image) → in_range image_least image_most (length c.args.image.now) ≡ true
 in-range c =
     let limits = c.the_limits-limits.ensures in
     range_inside image_least image_most _ (omega (arith, c.if-image-limits.false, limits.image_least_equal))
     (omega (arith, c.if-limits-image.false, limits.image_most_equal))
 
 -- and so it holds a field
-holds : (c : goal.Else-limits-image) → 4 ≤ length c.args.image.now
+holds : (c : Else-limits-image) → 4 ≤ length c.args.image.now
 holds c =
     let limits = c.the_limits-limits.ensures in
     omega (arith, c.if-image-limits.false, limits.image_least_equal, field_fits)
 
 -- the log has the bytes of each entry, and so both words
-all-bytes : (c : goal.Else-log-entries) →
+all-bytes : (c : Else-log-entries) →
     let a = c.args in
     16 * a.entries ≤ length a.log.now
 all-bytes c = omega (arith, c.if-log-entries.false)
 
-both_words : (c : goal.Else-log-entries) →
+both_words : (c : Else-log-entries) →
     let a = c.args in
     2 * a.entries ≤ length (words_of a.log.now)
 both_words c =

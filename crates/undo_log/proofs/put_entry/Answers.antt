@@ -6,6 +6,7 @@ use lib.ListN.{length-set}
 use Rattle.undo_log.proofs.LogLaws.{entry-none, entry-room, entry-one}
 use borrow.Author.Rules.{rules}
 use Rattle.undo_log.proofs.put_entry.Goals as goal
+use Rattle.undo_log.proofs.put_entry.Goals.{Else-stored-true_count}
 
 pub returns-then-stored-true_count : goal.returns-then-stored-true_count
 returns-then-stored-true_count c =
@@ -18,7 +19,7 @@ returns-then-stored-true_count c =
     }
 
 -- a wrong count has room for its entry
-room : (c : goal.Else-stored-true_count) → c.args.n + c.args.n + 2 ≤ length c.args.log.now
+room : (c : Else-stored-true_count) → c.args.n + c.args.n + 2 ≤ length c.args.log.now
 room c =
     let a = c.args in
     entry-room a.log.now a.n a.address a.stored a.true_count c.if-stored-true_count.left c.pre.1

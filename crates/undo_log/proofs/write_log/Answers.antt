@@ -9,6 +9,7 @@ use Rattle.format.specs.Log.{log_words}
 use Rattle.undo_log.proofs.LogLaws.{first_wrong, wrong-none, room-more, words_more, words-all, news-more, wrong-within}
 use Rattle.undo_log.specs.Entries.{NewsFit}
 use Rattle.undo_log.proofs.write_log.Goals as goal
+use Rattle.undo_log.proofs.write_log.Goals.{After-loop-i}
 
 pub loop-i-init : goal.loop-i-init
 unfolding log_words
@@ -63,7 +64,7 @@ loop-i-preserved c =
     (omega arith, omega arith, w.0, w.1, news-more a.addresses a.stored a.true_counts l.i l.invariant.4 p.ensures.1.1)
 
 -- the entries have room
-behind : (c : goal.After-loop-i) → c.loop-i.n + c.loop-i.n ≤ length c.args.log.now
+behind : (c : After-loop-i) → c.loop-i.n + c.loop-i.n ≤ length c.args.log.now
 behind c =
     let l = c.loop-i in
     let a = c.args.t2 in

@@ -8,8 +8,9 @@ use Rattle.block_orders.proofs.Counted.{Few, entered-lent, few-less}
 use borrow.Author.Rules.{rules}
 use native.Mathlib.Omega.{arith}
 use Rattle.block_orders.proofs.compared.compare.Goals as goal
+use Rattle.block_orders.proofs.compared.compare.Goals.{In-Entered-2}
 
-lent : (c : goal.In-Entered-2) →
+lent : (c : In-Entered-2) →
     Lent c.enter.new.1.0 c.in-Entered.n c.places-room.result × (c.in-Entered.n ≡ c.loop-count.count + 1)
 lent c =
     let e = c.enter.ensures in

@@ -9,9 +9,10 @@ use Rattle.layout.specs.Layout.{layout_of, layout_result}
 use Rattle.dataset.specs.Dataset.{body_of, layout_walk}
 use borrow.Author.Rules.{rules}
 use Rattle.dataset.proofs.dataset.messages.Goals as goal
+use Rattle.dataset.proofs.dataset.messages.Goals.{In-Read-2}
 
 -- what was read of the layout
-layout-read : (c : goal.In-Read-2) →
+layout-read : (c : In-Read-2) →
     let a = c.args in
     value (layout_of c.in-Read.l) ≡ read_layout a.layout.place (body_of a.image.now a.layout)
 layout-read c = ap layout_result (sym c.in-Read.is) ∙ c.read_layout.ensures

@@ -12,14 +12,15 @@ use Rattle.datatype.specs.Datatype.{type_of, type_result}
 use Rattle.dataset.specs.Dataset.{body_of, parts_walk}
 use borrow.Author.Rules.{rules}
 use Rattle.dataset.proofs.dataset.read_parts.Goals as goal
+use Rattle.dataset.proofs.dataset.read_parts.Goals.{In-Read-2, In-Read-read_type-2}
 
 -- what was read of each message
-space-read : (c : goal.In-Read-2) →
+space-read : (c : In-Read-2) →
     let b = body_of c.args.image.now c.args.space in
     value (space_of b c.in-Read.rank c.in-Read.maxima_stored) ≡ read_dataspace b
 space-read c = ap (space_result _) (sym c.in-Read.is) ∙ c.read_space.ensures.walk
 
-shape-read : (c : goal.In-Read-2) →
+shape-read : (c : In-Read-2) →
     let b = body_of c.args.image.now c.args.space in
     SpaceInside b (Read c.in-Read.rank c.in-Read.maxima_stored)
 shape-read c =
@@ -27,7 +28,7 @@ shape-read c =
     let s = c.read_space.ensures in
     subst (SpaceInside (body_of a.image.now a.space)) c.in-Read.is (s.ranked, s.sizes, s.maxima)
 
-type-read : (c : goal.In-Read-read_type-2) →
+type-read : (c : In-Read-read_type-2) →
     let a = c.args in
     value (type_of c.in-Read-read_type.t) ≡ read_type (message_of a.image.now 0x0003 a.datatype)
 type-read c = ap type_result (sym c.in-Read-read_type.is) ∙ c.read_type.ensures

@@ -12,16 +12,17 @@ use Rattle.free_list.proofs.ChainLaws.{chained-here, chained-next, search-turn, 
 use borrow.Author.Rules.{rules}
 use native.Mathlib.Omega.{arith}
 use Rattle.free_list.proofs.search.overlaps_free.Goals as goal
+use Rattle.free_list.proofs.search.overlaps_free.Goals.{After-u64_at-own, In-loop-i}
 
 -- the fields of the block at `at` lie in the segment
-here : (c : goal.In-loop-i) → c.loop-i.at + 16 ≤ length c.args.segment.now
+here : (c : In-loop-i) → c.loop-i.at + 16 ≤ length c.args.segment.now
 here c =
     let l = c in
     let a = l.args in
     chained-here a.segment.now a.count l.loop-i.i l.loop-i.at (omega arith) l.loop-i.invariant.1
 
 -- what is found in this block or behind it
-turn : (c : goal.After-u64_at-own) →
+turn : (c : After-u64_at-own) →
     let l = c in
     let a = l.args in
     overlaps_any (chain a.count a.segment.now a.head) a.off a.size

@@ -9,9 +9,10 @@ use Rattle.group.proofs.GroupLaws.{list-refused, tree-ended, same-segment, sound
 use native.Mathlib.Omega.{arith}
 use borrow.Author.Rules.{rules}
 use Rattle.group.proofs.contents.read_with.Goals as goal
+use Rattle.group.proofs.contents.read_with.Goals.{Start}
 
 -- the slice is the heap's segment
-slice : (s : goal.Start) →
+slice : (s : Start) →
     let h = s.args.heap in
     part s.args.image.now h.segment (h.segment + h.size - h.segment) ≡ segment_of s.args.image.now h
 slice s = part-between s.args.image.now s.args.heap.segment s.args.heap.size

@@ -12,9 +12,10 @@ use Rattle.group.proofs.GroupLaws.{heap-stopped, at-contents, contents-ended}
 use native.Mathlib.Omega.{arith}
 use borrow.Author.Rules.{rules}
 use Rattle.group.proofs.group.read.Goals as goal
+use Rattle.group.proofs.group.read.Goals.{In-Opened-2}
 
 -- the heap was entered, and its segment lies inside the file
-opened : (c : goal.In-Opened-2) →
+opened : (c : In-Opened-2) →
     let s = start c in
     Walked s.args.list.now c.«open».new.1.1.0
     (open_end s.args.image.now (HeapOpened.TheVariants.Opened c.in-Opened.h c.in-Opened.c))

@@ -11,19 +11,20 @@ use Rattle.heap.proofs.SegmentLaws.{part-between}
 use borrow.Author.Rules.{rules}
 use native.Mathlib.Omega.{arith}
 use Rattle.heap.proofs.header.open.Goals as goal
+use Rattle.heap.proofs.header.open.Goals.{In-Entered, In-Entered-enter, In-Fields, Start}
 
 -- what is left of the walk
-abbrev Left : goal.Start → Walk OpenHeap → ℕ → List ℕ → Type 0
+abbrev Left : Start → Walk OpenHeap → ℕ → List ℕ → Type 0
 Left s w n ws =
     Simulation s.args.image.now s.args.end_of_file s.args.room (open_walk s.args.at) s.args.count s.args.blocks.now w n ws
 
-begun : (s : goal.Start) → Left s (enter heap_block s.args.at (fixed 32) (body_walk s.args.at)) s.args.count s.args.blocks.now
+begun : (s : Start) → Left s (enter heap_block s.args.at (fixed 32) (body_walk s.args.at)) s.args.count s.args.blocks.now
 begun s =
     let a = s.args in
     same-walk _ (open-parts a.at) (start a.image.now a.end_of_file a.room (open_walk a.at) a.count a.blocks.now s.requires.0)
 
 -- the header's block is entered
-header-entered : (c : goal.In-Entered) →
+header-entered : (c : In-Entered) →
     let at-enter = c in
     let start = at-enter.before.before.before.before in
     Left start (body_walk start.args.at (part start.args.image.now start.args.at 32)) c.in-Entered.with_header
@@ -36,7 +37,7 @@ header-entered c =
     block-entered 32 refl refl e.new.1.0 (begun place) e.ensures.1 c.in-Entered.with_header
     (sym c.in-Entered.is ∙ e.ensures.0)
 
-header-inside : (c : goal.In-Entered) →
+header-inside : (c : In-Entered) →
     let start = c in
     let a = start.args in a.at + 32 ≤ a.end_of_file
 header-inside c =
@@ -47,7 +48,7 @@ header-inside c =
     (sym c.in-Entered.is ∙ e.ensures.0)
 
 -- the header passed its tests
-header-passed : (c : goal.In-Fields) →
+header-passed : (c : In-Fields) →
     let at-with-header = c in
     let at-enter = at-with-header.before.before.before.before in
     let place = at-enter.before.before.before.before in
@@ -62,7 +63,7 @@ header-passed c =
     same-walk _ (header-fields a.at f.0 f.1.0 f.1.1.0 (part-between a.image.now a.at 32) h) (header-entered place)
 
 -- the segment's block is entered
-segment-entered : (c : goal.In-Entered-enter) →
+segment-entered : (c : In-Entered-enter) →
     let at-enter2 = c in
     let at_size = at-enter2.before.before.before in
     let start = at_size.before.before.before.before.before.before.before.before.before.before.before.before.before in
@@ -78,7 +79,7 @@ segment-entered c =
     block-entered at_size.size.given.0.0 refl refl e.new.1.0 (header-passed place) e.ensures.1 c.in-Entered-enter.with_segment
     (sym c.in-Entered-enter.is ∙ e.ensures.0)
 
-segment-inside : (c : goal.In-Entered-enter) →
+segment-inside : (c : In-Entered-enter) →
     let at_size = c in
     let start = at_size in
     let f = at_size.size-1.given.0 in f.1.1.0 + f.0 ≤ start.args.end_of_file

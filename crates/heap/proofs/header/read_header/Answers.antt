@@ -10,14 +10,15 @@ use Rattle.heap.proofs.HeaderLaws.{header-unsigned, header-version, header-small
 use borrow.Author.Rules.{rules}
 use native.Mathlib.Omega.{arith}
 use Rattle.heap.proofs.header.read_header.Goals as goal
+use Rattle.heap.proofs.header.read_header.Goals.{Else-bytes-ne0, Else-u32_at-ne-HEAP}
 
 -- the signature stands at 0
-signed : (c : goal.Else-u32_at-ne-HEAP) → eqb (u32 c.args.bytes.now 0) HEAP ≡ true
+signed : (c : Else-u32_at-ne-HEAP) → eqb (u32 c.args.bytes.now 0) HEAP ≡ true
 unfolding HEAP little_endian
 signed c = field-equal (sym c.u32_at.ensures.value) (omega arith)
 
 -- the version is 0
-versioned : (c : goal.Else-bytes-ne0) → eqb (u8 c.args.bytes.now 4) 0 ≡ true
+versioned : (c : Else-bytes-ne0) → eqb (u8 c.args.bytes.now 4) 0 ≡ true
 versioned c = eq-eqb (u8 c.args.bytes.now 4) 0 (omega arith)
 
 pub returns-then-u32_at-ne-HEAP : goal.returns-then-u32_at-ne-HEAP

@@ -6,9 +6,10 @@ use Rattle.ledger.proofs.ReportLaws.{stored-none, stored_more, stored-all}
 use borrow.Author.Rules.{rules}
 use native.Mathlib.Omega.{arith}
 use Rattle.ledger.proofs.report.read_stored.Goals as goal
+use Rattle.ledger.proofs.report.read_stored.Goals.{After-shared_slice_known-in-loop-i-1}
 
 -- the count of the ith object lies inside the image
-inside : (c : goal.After-shared_slice_known-in-loop-i-1) →
+inside : (c : After-shared_slice_known-in-loop-i-1) →
     get_or c.args.addresses.now c.loop-i.i 0 + 8
     ≤ length c.args.image.now
 inside c = c.requires.0.inside c.loop-i.i c.loop-i-test.true

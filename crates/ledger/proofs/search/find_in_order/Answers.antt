@@ -6,9 +6,10 @@ use Rattle.ledger.proofs.SearchLaws.{from_sorted, order-object, sought-there, so
 use native.Mathlib.Omega.{arith}
 use borrow.Author.Rules.{rules}
 use Rattle.ledger.proofs.search.find_in_order.Goals as goal
+use Rattle.ledger.proofs.search.find_in_order.Goals.{Then-order-objects}
 
 -- the object in the place has an address in the list
-object : (c : goal.Then-order-objects) →
+object : (c : Then-order-objects) →
     words_from c.args.addresses.now c.the_limits-from.result.objects_most
     c.halve-found.result.place < length c.args.addresses.now
 object c =

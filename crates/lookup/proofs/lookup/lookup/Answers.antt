@@ -8,11 +8,12 @@ use Rattle.walk.proofs.Handed.{work, Working, working}
 use native.Mathlib.Omega.{arith}
 use borrow.Author.Rules.{rules}
 use Rattle.lookup.proofs.lookup.lookup.Goals as goal
+use Rattle.lookup.proofs.lookup.lookup.Goals.{After-work_words-n}
 
-abbrev lent : goal.After-work_words-n → ℕ
+abbrev lent : After-work_words-n → ℕ
 lent c = length c.args.list.now
 
-lends : (c : goal.After-work_words-n) → Working (lent c) c.work_words-n.result work
+lends : (c : After-work_words-n) → Working (lent c) c.work_words-n.result work
 lends c = working (lent c) _ _ c.room.ensures c.work_words-n.ensures
 
 pub work_words-n-requires : goal.work_words-n-requires

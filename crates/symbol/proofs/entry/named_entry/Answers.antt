@@ -10,9 +10,10 @@ use Rattle.symbol.proofs.EntryLaws.{same-value, same-visit, place-refused, type-
 use borrow.Author.Rules.{rules}
 use native.Mathlib.Omega.{arith}
 use Rattle.symbol.proofs.entry.named_entry.Goals as goal
+use Rattle.symbol.proofs.entry.named_entry.Goals.{Else-not-at_most}
 
 -- the name is above the last one, and in the range
-passed : (c : goal.Else-not-at_most) →
+passed : (c : Else-not-at_most) →
     let a = c.args in
     (below (name_in a.segment.now a.state.last) (name_in a.segment.now a.name) ≡ true)
     × (range_holds a.segment.now a.range (name_in a.segment.now a.name) ≡ true)

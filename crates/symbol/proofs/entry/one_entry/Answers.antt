@@ -9,16 +9,17 @@ use native.Mathlib.Omega.{arith}
 use Rattle.symbol.proofs.EntryLaws.{same_text, name-sound, name-refused}
 use borrow.Author.Rules.{rules}
 use Rattle.symbol.proofs.entry.one_entry.Goals as goal
+use Rattle.symbol.proofs.entry.one_entry.Goals.{In-Sound-2}
 
 -- the string was read
-read : (c : goal.In-Sound-2) →
+read : (c : In-Sound-2) →
     let a = c.args in
     let off = c.u64_at-off.result in
     TextRead a.segment.now off (Sound c.in-Sound.n) (name_text (chained_heap a.segment.now a.group.head a.group.free) off)
 read c = let name = c in same_text c.in-Sound.is name.name.ensures
 
 -- the entry's name
-named : (c : goal.In-Sound-2) →
+named : (c : In-Sound-2) →
     let a = c.args in
     NameSound a.image.now a.segment.now a.group a.at
     (name_at a.segment.now c.u64_at-off.result c.in-Sound.n)

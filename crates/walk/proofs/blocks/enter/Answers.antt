@@ -11,15 +11,16 @@ use Rattle.walk.proofs.Verdict.{all_apart, met-first}
 use native.Mathlib.Omega.{arith}
 use borrow.Author.Rules.{rules}
 use Rattle.walk.proofs.blocks.enter.Goals as goal
+use Rattle.walk.proofs.blocks.enter.Goals.{After-find-found, Else-found}
 
-inside : (c : goal.After-find-found) → let a = c.args in a.at + a.size ≤ a.end_of_file
+inside : (c : After-find-found) → let a = c.args in a.at + a.size ≤ a.end_of_file
 inside c = omega (arith, c.if-end_of_file-at-2.false, c.if-end_of_file-at.false)
 
-small : (c : goal.After-find-found) → let a = c.args in a.at + a.size < 2 ^ 64
+small : (c : After-find-found) → let a = c.args in a.at + a.size < 2 ^ 64
 small c = omega (arith, inside c)
 
 -- the block meets none
-apart : (c : goal.Else-found) →
+apart : (c : Else-found) →
     let a = c.args in
     false ≡ overlaps_any (blocks_of a.count a.blocks.now) a.at a.size
 apart c = let a = c.args in sym (all_apart a.at a.size a.count a.blocks.now (c.find-found.ensures.apart c.if-found.false))
