@@ -14,7 +14,7 @@ arrays-long c = (search rules, search rules)
 pub slice_bounds-put_words-end-2 : goal.slice_bounds-put_words-end-2
 slice_bounds-put_words-end-2 c =
     let place = c in
-    omega (arith, arrays-long place)
+    omega (arith, arrays-long c.before.before.before.before.before.before.before.before.before.before.before.before.before.before.before)
 
 pub put_words-requires-2 : goal.put_words-requires-2
 put_words-requires-2 c =
@@ -25,7 +25,7 @@ put_words-requires-2 c =
 pub slice_bounds-put_words-end-3 : goal.slice_bounds-put_words-end-3
 slice_bounds-put_words-end-3 c =
     let place = c in
-    omega (arith, arrays-long place)
+    omega (arith, arrays-long c.before.before.before.before.before.before.before.before.before.before.before.before.before.before.before.before.before.before.before.before)
 
 pub put_words-requires-3 : goal.put_words-requires-3
 put_words-requires-3 c =

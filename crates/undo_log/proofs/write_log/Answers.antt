@@ -74,7 +74,7 @@ pub overflow_add-used : goal.overflow_add-used
 overflow_add-used c = omega (arith, behind c)
 
 pub clear_from-requires : goal.clear_from-requires
-clear_from-requires c = omega (arith, behind c)
+clear_from-requires c = omega (arith, behind c.before)
 
 pub returns : goal.returns
 returns c =

@@ -20,7 +20,7 @@ slice s = part-between s.args.image.now s.args.heap.segment s.args.heap.size
 pub read-requires : goal.read-requires
 read-requires c =
     let s = c in
-    rw (slice s) s.requires.1.1.1
+    rw (slice c.before.before.before.before.before.before.before.before.before.before) s.requires.1.1.1
 
 pub tree-requires : goal.tree-requires
 tree-requires c =

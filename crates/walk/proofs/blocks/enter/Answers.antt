@@ -48,7 +48,7 @@ first_met-b-requires c =
     let found = c in
     record {
       indexed = found.requires.indexed;
-      size_bound = small found;
+      size_bound = small c.before;
       found_in = found.find-found.ensures;
       met_value = c.if-found.true;
     }
@@ -58,7 +58,7 @@ returns-then-found c =
     let met = c in
     let found = met in
     let a = found.args in
-    let h = inside found in
+    let h = inside c.before.before.before.before.before in
     let k = met-first a.at a.size a.count a.blocks.now _ met.first_met-b.ensures in
     record {
       value = rw (entry_answer-overlap _ _ _ _ _ h (sym k.0), c.not_entered.ensures, k.1) (refl);
@@ -69,8 +69,8 @@ pub returns-then-room-count : goal.returns-then-room-count
 returns-then-room-count c =
     let none = c in
     let a = none.args in
-    let h = inside none in
-    let k = apart none in
+    let h = inside c.before.before.before in
+    let k = apart c.before.before in
     let l : a.room ≤ length (blocks_of a.count a.blocks.now) = rw length-blocks_of (omega arith) in
     record {
       value = rw (entry_answer-full, c.not_entered-then-room-count.ensures) (refl);
@@ -82,15 +82,15 @@ add-requires c =
     let none = c in
     let a = none.args in
     rw c.append.ensures
-    (addable a.blocks.now a.count a.room a.kind a.at a.size none.requires (omega arith) (small none)
+    (addable a.blocks.now a.count a.room a.kind a.at a.size none.requires (omega arith) (small c.before.before.before.before.before.before.before)
     none.find-found.result none.find-found.ensures none.if-found.false)
 
 pub returns : goal.returns
 returns c =
     let none = c in
     let a = none.args in
-    let h = inside none in
-    let k = apart none in
+    let h = inside c.before.before.before.before.before.before.before.before.before.before.before in
+    let k = apart c.before.before.before.before.before.before.before.before.before.before in
     let l : length (blocks_of a.count a.blocks.now) < a.room = rw length-blocks_of (omega arith) in
     record {
       value = rw entry_answer-open (refl);
