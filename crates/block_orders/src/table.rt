@@ -5,7 +5,6 @@ use crate::compared::compare;
 use crate::orders;
 use crate::orders::{Order, SIZE};
 use format::BLOCKS_MOST;
-use libc::STDOUT_FILENO;
 use text_line::{put_decimal, put_text};
 use walk::blocks::WORK_WORDS;
 
@@ -45,9 +44,7 @@ fn put_table(out: &mut [u8]) -> usize
 }
 
 // Writes the table to standard output.
-pub fn print(out: &mut [u8]) {
+pub fn print(rt: &HostRuntime, out: &mut [u8]) {
     let n = put_table(out);
-    if !io::write_all(STDOUT_FILENO, &out[..n]) {
-        os::fail(b"standard output");
-    }
+    source::print(rt, &out[..n]);
 }

@@ -8,8 +8,10 @@ ghost use Rattle.command.specs.Response.{Responds, TextWithin};
 
 use format::{COMMAND_BLOCKS, INPUT_MOST, OBJECTS_MOST, answers};
 use input::Input;
-use libc::STDOUT_FILENO;
 use output::{FIRST_LINE, OBJECT_LINE};
+use source::Opened;
+use source::kept::{Kept, error_of};
+use std::io::Read;
 
 // The first line, and one for each of the most objects.
 pub const OUTPUT_MOST: usize = FIRST_LINE + OBJECT_LINE * OBJECTS_MOST;
@@ -44,41 +46,40 @@ pub enum Response {
 }
 
 // Reads the input to its end, and writes what is printed for it.
-pub fn respond(fd: i32, buffer: &mut [u8], out: &mut [u8]) -> Response
+pub fn respond<R: Read>(reader: &mut R, buffer: &mut [u8], out: &mut [u8]) -> Response
     requires input_most_in_bounds { input_most < length buffer.old }
     requires output_most_in_bounds { output_most ≤ length out.old }
     ensures responds { Responds buffer.old buffer.new out.old out.new result }
     ensures text_within { TextWithin (length out.new) result }
 {
-    match input::read_to_end(fd, buffer) {
+    match input::read_to_end(reader, buffer) {
         Input::Failed => Response::Failed,
         Input::Read { length, last: _ } => Response::Text(report(&buffer[..length], out)),
     }
 }
 
 // Answers on standard output. An input that can't be read is named on standard error.
-fn run(fd: i32, name: &[u8]) {
+fn run<R: Read + Drop>(rt: &HostRuntime, reader: R, name: &[u8]) {
     let mut buffer = [0u8; BUFFER];
     let mut out = [0u8; OUTPUT_MOST];
-    match respond(fd, &mut buffer, &mut out) {
-        Response::Failed => source::fail(name),
-        Response::Text(n) => {
-            if !io::write_all(STDOUT_FILENO, &out[..n]) {
-                os::fail(b"standard output");
-            }
-        }
+    let mut kept = Kept {
+        reader,
+        error: None,
+    };
+    match respond(&mut kept, &mut buffer, &mut out) {
+        Response::Failed => source::fail(rt, name, error_of(kept)),
+        Response::Text(n) => source::print(rt, &out[..n]),
     }
 }
 
 // The command: audits the file that its one argument names, or standard input.
-pub fn start() {
-    let mut path = io::buffer();
-    let source = source::open(&mut path, b"usage: h5audit [FILE]\n");
-    let fd = source.fd;
-    if fd < 0 {
-        return;
-    }
+pub fn start(rt: &HostRuntime) {
+    let mut path = [0u8; 4096];
+    let source = source::open(rt, &mut path, "usage: h5audit [FILE]");
     let named = source.named;
-    run(fd, &path[..named]);
-    libc::close(fd);
+    match source.opened {
+        Opened::Nothing => {}
+        Opened::Input => run(rt, rt.stdin(), &path[..named]),
+        Opened::File(file) => run(rt, file, &path[..named]),
+    }
 }

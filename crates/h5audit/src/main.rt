@@ -1,6 +1,6 @@
 // The audit command.
 #![tactic(auto)]
 
-fn main() {
-    command::start();
+fn main(rt: HostRuntime) {
+    command::start(&rt);
 }

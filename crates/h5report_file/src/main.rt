@@ -1,6 +1,6 @@
 // The command of the damage report.
 #![tactic(auto)]
 
-fn main() {
-    report_command::start();
+fn main(rt: HostRuntime) {
+    report_command::start(&rt);
 }

@@ -5,6 +5,8 @@ ghost use Rattle.std.specs.Prelude.{◌≡◌, ◌<◌, length, take};
 ghost use Rattle.format.specs.Limits.{input_most};
 ghost use Rattle.input.specs.Reading.{Within, Reads};
 
+use std::io::Read;
+
 // What one read brought: so many bytes, none at the end of the input; or that it failed.
 #[derive(Clone, Copy)]
 pub enum Brought {
@@ -20,29 +22,28 @@ pub enum Input {
 }
 
 // One read behind the first bytes, which stay as they are. It may bring a part of the input only, as from a pipe.
-fn read_behind(fd: i32, buffer: &mut [u8], at: usize) -> Brought
+fn read_behind<R: Read>(reader: &mut R, buffer: &mut [u8], at: usize) -> Brought
     requires { at < length buffer.old }
     ensures within { Within at (length buffer.old) result }
     ensures buffer_unchanged { take at buffer.new ≡ take at buffer.old }
 {
     let rest = &mut buffer[at..];
-    let got = libc::read(fd, rest);
-    if got < 0 {
-        return Brought::Failed;
+    match reader.read(rest) {
+        Err(_) => Brought::Failed,
+        Ok(count) => Brought::Bytes(count),
     }
-    Brought::Bytes(io::count(got, rest))
 }
 
 // Reads until a read brings nothing or the buffer is full. The buffer is longer than the most input that is answered for, so that
 // a longer input is known as longer.
-pub fn read_to_end(fd: i32, buffer: &mut [u8]) -> Input
+pub fn read_to_end<R: Read>(reader: &mut R, buffer: &mut [u8]) -> Input
     requires { input_most < length buffer.old }
     ensures { Reads buffer.old 0 buffer.new result }
 {
     let mut at: usize = 0;
     let mut last: usize = 1;
     while at < buffer.len() {
-        match read_behind(fd, buffer, at) {
+        match read_behind(reader, buffer, at) {
             Brought::Failed => return Input::Failed,
             Brought::Bytes(k) => {
                 last = k;

@@ -6,42 +6,51 @@ ghost use Rattle.format.specs.Limits.{input_most};
 
 use format::INPUT_MOST;
 use input::Input;
-use libc::STDOUT_FILENO;
 use report_text::TEXT_MOST;
+use source::Opened;
+use source::kept::{Kept, error_of};
+use std::io::Read;
 
 // One byte more than is answered for, so that a longer input is known as longer.
 const BUFFER: usize = INPUT_MOST + 1;
 
 // Reports on standard output. An input that can't be read is named on standard error.
-fn answer(fd: i32, name: &[u8], buffer: &mut [u8], out: &mut [u8])
+fn answer<R: Read + Drop>(
+    rt: &HostRuntime,
+    reader: R,
+    name: &[u8],
+    buffer: &mut [u8],
+    out: &mut [u8],
+)
     requires { input_most < length buffer.old }
 {
-    match input::read_to_end(fd, buffer) {
-        Input::Failed => source::fail(name),
+    let mut kept = Kept {
+        reader,
+        error: None,
+    };
+    match input::read_to_end(&mut kept, buffer) {
+        Input::Failed => source::fail(rt, name, error_of(kept)),
         Input::Read { length, last: _ } => {
             let n = report_text::text(&buffer[..length], out);
-            if !io::write_all(STDOUT_FILENO, &out[..n]) {
-                os::fail(b"standard output");
-            }
+            source::print(rt, &out[..n]);
         }
     }
 }
 
-fn run(fd: i32, name: &[u8]) {
+fn run<R: Read + Drop>(rt: &HostRuntime, reader: R, name: &[u8]) {
     let mut buffer = [0u8; BUFFER];
     let mut out = [0u8; TEXT_MOST];
-    answer(fd, name, &mut buffer, &mut out);
+    answer(rt, reader, name, &mut buffer, &mut out);
 }
 
 // The command: reports on the file that its one argument names, or on standard input.
-pub fn start() {
-    let mut path = io::buffer();
-    let source = source::open(&mut path, b"usage: h5report [FILE]\n");
-    let fd = source.fd;
-    if fd < 0 {
-        return;
-    }
+pub fn start(rt: &HostRuntime) {
+    let mut path = [0u8; 4096];
+    let source = source::open(rt, &mut path, "usage: h5report [FILE]");
     let named = source.named;
-    run(fd, &path[..named]);
-    libc::close(fd);
+    match source.opened {
+        Opened::Nothing => {}
+        Opened::Input => run(rt, rt.stdin(), &path[..named]),
+        Opened::File(file) => run(rt, file, &path[..named]),
+    }
 }

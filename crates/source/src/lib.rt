@@ -3,54 +3,110 @@
 
 ghost use Rattle.io.specs.Counts.{IsPrefixLen};
 
-use libc::{STDERR_FILENO, STDIN_FILENO};
+use std::env::{Env, FillError};
+use std::fs::File;
+use std::io::{Error, ErrorKind, Read, Write};
+use std::str;
 
-// What is to be read, negative if that is nothing, and how many bytes its name has. Standard input has no name.
-#[derive(Clone, Copy)]
+pub mod kept;
+
+// What is to be read.
+#[derive(Drop)]
+pub enum Opened {
+    Nothing,
+    Input,
+    File(File),
+}
+
+// What is to be read, and how many bytes its name has. Standard input has no name.
+#[derive(Drop)]
 pub struct Source {
-    pub fd: i32,
+    pub opened: Opened,
     pub named: usize,
 }
 
+// Writes a line to standard error: what failed, and why. Where that can't be written, nothing is left to do.
+pub fn say(rt: &HostRuntime, name: &[u8], error: Error) {
+    rt.stderr().write_all(name).unwrap_or(());
+    eprintln!(rt; ": {error}").unwrap_or(());
+}
+
+// Opens the file of this name. Where there is none, standard error says why.
+fn open_file(rt: &HostRuntime, name: &[u8]) -> Opened {
+    let opened = match str::from_utf8(name) {
+        Ok(text) => File::open(rt, text),
+        Err(_) => Err(Error::from(ErrorKind::InvalidInput)),
+    };
+    match opened {
+        Ok(file) => Opened::File(file),
+        Err(error) => {
+            say(rt, name, error);
+            Opened::Nothing
+        }
+    }
+}
+
 // Opens the file that the argument names, and leaves the name in `path`.
-fn open_named(path: &mut [u8]) -> Source
+fn open_named(rt: &HostRuntime, path: &mut [u8]) -> Source
     ensures { IsPrefixLen result.named path.new }
 {
-    let named = os::arg(1, path);
-    if os::errno() != 0 {
-        os::fail(b"the argument");
-        return Source { fd: -1, named: 0 };
+    match rt.arg(1, path) {
+        Err(_) => {
+            say(rt, b"the argument", Error::from(ErrorKind::InvalidInput));
+            Source {
+                opened: Opened::Nothing,
+                named: 0,
+            }
+        }
+        Ok(named) => Source {
+            opened: open_file(rt, &path[..named]),
+            named,
+        },
     }
-    let fd = os::open_read(&path[..named]);
-    if fd < 0 {
-        os::fail(&path[..named]);
+}
+
+// Whether there is an argument of this number.
+fn is_given(rt: &HostRuntime, number: usize) -> bool {
+    let mut text = [0u8; 1];
+    match rt.arg(number, &mut text) {
+        Err(FillError::NotPresent) => false,
+        _ => true,
     }
-    Source { fd, named }
 }
 
 // Opens the input. Where there is none, standard error says why.
-pub fn open(path: &mut [u8], usage: &[u8]) -> Source
+pub fn open(rt: &HostRuntime, path: &mut [u8], usage: &str) -> Source
     ensures { IsPrefixLen result.named path.new }
 {
-    let words = os::arg_count();
-    if words < 2 {
+    if !is_given(rt, 1) {
         return Source {
-            fd: STDIN_FILENO,
+            opened: Opened::Input,
             named: 0,
         };
     }
-    if 2 < words {
-        io::write_all(STDERR_FILENO, usage);
-        return Source { fd: -1, named: 0 };
+    if is_given(rt, 2) {
+        eprintln!(rt; "{usage}").unwrap_or(());
+        return Source {
+            opened: Opened::Nothing,
+            named: 0,
+        };
     }
-    open_named(path)
+    open_named(rt, path)
 }
 
 // Says that the input of this name can't be read.
-pub fn fail(name: &[u8]) {
+pub fn fail(rt: &HostRuntime, name: &[u8], error: Error) {
     if name.len() == 0 {
-        os::fail(b"standard input");
+        say(rt, b"standard input", error);
         return;
     }
-    os::fail(name);
+    say(rt, name, error);
+}
+
+// Writes a text to standard output. Where that can't be written, standard error says why.
+pub fn print(rt: &HostRuntime, text: &[u8]) {
+    match rt.stdout().write_all(text) {
+        Ok(()) => {}
+        Err(error) => say(rt, b"standard output", error),
+    }
 }
