@@ -7,7 +7,8 @@ use native.Mathlib.Omega.{arith}
 use borrow.Author.Tests.{eq-eqb, ne_eqb}
 use lib.Dec.{leb, eqb}
 use lib.ListN.{length, take, drop}
-use Rattle.format.specs.Bytes.{if◌then◌else◌, in_range, part, u8, u16}
+use Rattle.std.specs.Prelude.{if◌then◌else◌}
+use Rattle.format.specs.Bytes.{in_range, part, u8, u16}
 use Rattle.format.specs.Result.{Result, value, answer, check, ◌>>◌}
 use Rattle.format.specs.Attribute.{taken, name_start, shares_type, read_shared_part, read_attribute}
 use Rattle.walk.specs.Numbers.{Number}

@@ -7,7 +7,8 @@ use mathlib.Core.Path.{refl}
 use lib.Dec.{leb}
 use lib.ListN.{length}
 use Rattle.format.specs.Limits.{image_least, image_most, objects_most, rank_most}
-use Rattle.format.specs.Bytes.{if◌then◌else◌, in_range, contains, to_words}
+use Rattle.std.specs.Prelude.{if◌then◌else◌}
+use Rattle.format.specs.Bytes.{in_range, contains, to_words}
 use Rattle.format.specs.Audit.{audit_run}
 use Rattle.format.specs.Lookup.{lookup_run}
 use Rattle.format.specs.Describe.{describe_run}

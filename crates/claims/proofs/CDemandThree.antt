@@ -8,7 +8,8 @@ use borrow.Author.Tests.{le-leb, leb-true}
 use lib.Dec.{leb}
 use lib.ListN.{length, replicate}
 use Rattle.format.specs.Limits.{objects_most, rank_most}
-use Rattle.format.specs.Bytes.{if◌then◌else◌, to_words}
+use Rattle.std.specs.Prelude.{if◌then◌else◌}
+use Rattle.format.specs.Bytes.{to_words}
 use Rattle.format.specs.Answers.{AuditReply, LookupReply, DescribeReply, MendReply, audit, lookup, describe, mend, undo}
 use Rattle.format.specs.Front.{CMend, CUndo, padded_bytes, short_reply, c_audit_end, c_lookup_end, c_describe_end, c_mend_end, c_undo_end}
 use Rattle.format.specs.Front.{c_audit, c_lookup, c_describe, c_mend, c_undo}

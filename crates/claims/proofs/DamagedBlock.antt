@@ -6,7 +6,7 @@ use mathlib.Core.Path.{◌≡◌, refl}
 use native.Mathlib.Omega.{arith}
 use borrow.Author.Tests.{le-leb, lt-ltb}
 use lib.ListN.{length, get_or, take}
-use Rattle.format.specs.Bytes.{if◌then◌else◌}
+use Rattle.std.specs.Prelude.{if◌then◌else◌}
 use Rattle.format.specs.Blocks.{Block, block, no_object, owner_after, last_owner, overlaps, block_list}
 use Rattle.format.specs.Report.{ListedBlock, listed_block, holds_byte, holding}
 use Rattle.links.specs.Owners.{HoldsByte, OneOwner}

@@ -7,7 +7,8 @@ use native.Mathlib.Omega.{arith}
 use borrow.Author.Tests.{eqb-false, leb-true, leb-false}
 use lib.Dec.{eqb, leb}
 use lib.ListN.{length, replicate, length-append, length-replicate}
-use Rattle.format.specs.Bytes.{if◌then◌else◌, undefined_address, to_words}
+use Rattle.std.specs.Prelude.{if◌then◌else◌}
+use Rattle.format.specs.Bytes.{undefined_address, to_words}
 use Rattle.format.specs.Blocks.{Block, superblock_kind, header_kind, no_object, owner_after, block_words, block_list, room_of}
 use Rattle.format.specs.Walk.{Walk, done, run}
 use Rattle.format.specs.Front.{padded_bytes}

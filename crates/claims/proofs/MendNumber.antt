@@ -6,7 +6,7 @@ use mathlib.Core.Path.{◌≡◌, refl}
 use native.Mathlib.Omega.{arith}
 use borrow.Author.Tests.{le-leb, lt-leb, leb-false}
 use lib.Dec.{leb}
-use Rattle.format.specs.Bytes.{if◌then◌else◌}
+use Rattle.std.specs.Prelude.{if◌then◌else◌}
 use Rattle.format.specs.Mend.{corrections}
 use Rattle.format.specs.Answers.{audit, mended_by, not_mended, mend_after, mend}
 use Rattle.links.proofs.AuditAnswers.{audit-answers}

@@ -8,7 +8,8 @@ use native.Mathlib.Omega.{arith}
 use lib.Dec.{leb}
 use lib.ListN.{length}
 use Rattle.format.specs.Limits.{objects_most, rank_most}
-use Rattle.format.specs.Bytes.{if◌then◌else◌, u64}
+use Rattle.std.specs.Prelude.{if◌then◌else◌}
+use Rattle.format.specs.Bytes.{u64}
 use Rattle.format.specs.Blocks.{Block, block_of, room_of}
 use Rattle.format.specs.declared.Refusal.{Refusal}
 use Rattle.format.specs.Walk.{kind_number, length_in, met_of, Walk}

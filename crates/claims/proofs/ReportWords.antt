@@ -9,7 +9,8 @@ use borrow.Author.Tests.{le-leb, eqb-true, eqb-false}
 use lib.Dec.{eqb}
 use lib.ListN.{length}
 use Rattle.format.specs.Limits.{image_least, blocks_most}
-use Rattle.format.specs.Bytes.{if◌then◌else◌, undefined_address, to_words, padded}
+use Rattle.std.specs.Prelude.{if◌then◌else◌}
+use Rattle.format.specs.Bytes.{undefined_address, to_words, padded}
 use Rattle.format.specs.Blocks.{Block, no_object, superblock_kind, owner_after, last_owner, block_list, room_of}
 use Rattle.format.specs.declared.Refusal.TheVariants.{Fault, NotEntered}
 use Rattle.format.specs.Walk.{Outcome, done, refused}

@@ -1,13 +1,13 @@
 -- The verdict of the index is that of the scan.
-use Prim.Native.Nat.{ℕ, ◌^◌, ◌≤◌, ◌<◌}
+use Prim.Native.Nat.{ℕ, ◌≤◌}
 use mathlib.Core.Bool.{Bool, true, false}
 use mathlib.Core.List.{List}
-use mathlib.Core.Path.{◌≡◌, refl, sym, ◌∙◌}
+use mathlib.Core.Path.{◌≡◌, refl, sym}
 use native.Mathlib.Omega.{arith}
 use lib.ListN.{length}
 use Rattle.format.specs.Limits.{blocks_most}
 use Rattle.format.specs.Blocks.{Block, overlaps_any, first_met}
-use Rattle.block_index.specs.Index.{Meets, start_of}
+use Rattle.block_index.specs.Index.{start_of}
 use Rattle.block_index.specs.Search.{FoundIn, FirstMet}
 use Rattle.block_index.specs.declared.index.Found.{Found}
 use Rattle.walk.proofs.Verdict.{all_apart, met-first, one-met}

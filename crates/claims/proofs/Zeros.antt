@@ -8,7 +8,8 @@ use borrow.Author.Tests.{ne_eqb}
 use lib.Dec.{leb}
 use lib.ListN.{length, replicate}
 use Rattle.format.specs.Limits.{objects_most, rank_most}
-use Rattle.format.specs.Bytes.{if◌then◌else◌, to_words}
+use Rattle.std.specs.Prelude.{if◌then◌else◌}
+use Rattle.format.specs.Bytes.{to_words}
 use Rattle.format.specs.Walk.{Outcome, done, refused}
 use Rattle.format.specs.Ledger.{Linked}
 use Rattle.format.specs.Audit.{audit_run}

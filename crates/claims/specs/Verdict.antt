@@ -1,6 +1,6 @@
 -- Item 3 of document 02, "Overlap test without the long scan": "compare a new block that meets none with at most 32 earlier ones, counted in a test; the
 -- verdict stays the same for every list of disjoint blocks and every new block."
-use Rattle.std.specs.Prelude.{ℕ, ◌-◌, ◌^◌, ◌≤◌, ◌<◌, true, List, [], ◌≡◌, length}
+use Rattle.std.specs.Prelude.{ℕ, ◌-◌, ◌^◌, ◌≤◌, List, [], ◌≡◌, length}
 use Rattle.format.specs.Limits.{blocks_most}
 use Rattle.format.specs.Blocks.{Block, overlaps_any, first_met}
 use Rattle.laws.specs.Blocks.{Fresh, Inside}

@@ -8,7 +8,8 @@ use borrow.Author.Tests.{eq-eqb, ne_eqb, le-leb, lt-leb}
 use lib.Dec.{eqb, leb}
 use lib.ListN.{length, drop}
 use Rattle.format.specs.Limits.{rank_most}
-use Rattle.format.specs.Bytes.{if◌then◌else◌, ◌implies◌, u8, to_words}
+use Rattle.std.specs.Prelude.{if◌then◌else◌}
+use Rattle.format.specs.Bytes.{◌implies◌, u8, to_words}
 use Rattle.format.specs.Dataspace.{Dataspace, all_at_most, read_dataspace}
 use Rattle.format.specs.Result.{Result, value, answer, check, ◌>>=◌, ◌>>◌}
 use Rattle.laws.proofs.Results.{passes, fails}

@@ -1,7 +1,7 @@
 -- What the dataspace reader's answer means.
-use Rattle.std.specs.Prelude.{ℕ, ◌+◌, ◌*◌, ◌≤◌, Bool, true, false, List, ◌≡◌, length, drop}
+use Rattle.std.specs.Prelude.{ℕ, ◌+◌, ◌*◌, ◌≤◌, Bool, true, false, List, ◌≡◌, length, drop, if◌then◌else◌}
 use Rattle.format.specs.Limits.{rank_most}
-use Rattle.format.specs.Bytes.{if◌then◌else◌, to_words, contains}
+use Rattle.format.specs.Bytes.{to_words, contains}
 use Rattle.format.specs.Dataspace.{Dataspace, read_dataspace}
 use Rattle.format.specs.Result.{Result, value, answer}
 use Rattle.dataspace.specs.declared.DataspaceRead.{DataspaceRead}

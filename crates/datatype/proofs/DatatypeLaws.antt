@@ -6,7 +6,8 @@ use mathlib.Core.Path.{◌≡◌}
 use native.Mathlib.Omega.{arith}
 use borrow.Author.Tests.{eq-eqb, ne_eqb, le-leb, lt-leb}
 use lib.Dec.{leb, eqb}
-use Rattle.format.specs.Bytes.{if◌then◌else◌, u8}
+use Rattle.std.specs.Prelude.{if◌then◌else◌}
+use Rattle.format.specs.Bytes.{u8}
 use Rattle.format.specs.Datatype.{class_read, has_bits, extent, shared_read}
 use Rattle.walk.specs.Numbers.{Number}
 use Rattle.walk.proofs.Tests.{range-below}

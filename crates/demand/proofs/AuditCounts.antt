@@ -10,7 +10,7 @@ use lib.ListN.{length, drop}
 use Rattle.format.specs.Limits.{objects_most}
 use Rattle.format.specs.Bytes.{with_first}
 use Rattle.format.specs.Blocks.{Block, room_of}
-use Rattle.format.specs.Walk.{superblock_block, fixed, ret, ◌>>=◌, ◌>>◌, done}
+use Rattle.format.specs.Walk.{superblock_block, fixed, ret, ◌>>=◌, done}
 use Rattle.format.specs.Superblock.{Superblock, opened, open_image, superblock_walk}
 use Rattle.format.specs.Message.{Message}
 use Rattle.format.specs.Header.{Object, group, dataset, committed}

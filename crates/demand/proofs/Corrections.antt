@@ -7,7 +7,8 @@ use mathlib.Core.Logic.{⊎_elim}
 use mathlib.Core.Path.{◌≡◌, refl, ap, sym, ◌∙◌}
 use borrow.Author.Tests.{eqb-true, eqb-false}
 use lib.Dec.{eqb}
-use Rattle.format.specs.Bytes.{if◌then◌else◌, u32}
+use Rattle.std.specs.Prelude.{if◌then◌else◌}
+use Rattle.format.specs.Bytes.{u32}
 use Rattle.format.specs.Ledger.{Linked}
 use Rattle.format.specs.Audit.{Counted, counted_in}
 use Rattle.format.specs.Log.{Change}

@@ -7,7 +7,8 @@ use mathlib.Core.Path.{◌≡◌, ap}
 use native.Mathlib.Omega.{arith}
 use lib.Dec.{leb, eqb}
 use lib.ListN.{drop}
-use Rattle.format.specs.Bytes.{if◌then◌else◌, in_range, part, u8, u16, u32, u64}
+use Rattle.std.specs.Prelude.{if◌then◌else◌}
+use Rattle.format.specs.Bytes.{in_range, part, u8, u16, u32, u64}
 use Rattle.format.specs.Result.{Result, value}
 use Rattle.format.specs.Walk.{symbol_block, shown, fault, located, Walk, ret, check, ◌>>=◌, ◌>>◌}
 use Rattle.format.specs.Heap.{Heap}

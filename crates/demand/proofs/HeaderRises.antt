@@ -9,7 +9,8 @@ use borrow.Author.Tests.{eqb-false}
 use lib.Dec.{eqb}
 use lib.ListN.{length, drop, length-drop, length-take}
 use Rattle.format.specs.Limits.{blocks_most}
-use Rattle.format.specs.Bytes.{if◌then◌else◌, part, u16, u32, u64}
+use Rattle.std.specs.Prelude.{if◌then◌else◌}
+use Rattle.format.specs.Bytes.{part, u16, u32, u64}
 use Rattle.format.specs.Result.{Result, value}
 use Rattle.format.specs.Walk.{Walk, Kind, is_header, blank_count, shown, length_in, located, header_block, continuation_block, stored, ret, ◌>>=◌}
 use Rattle.format.specs.Message.{Message, read_message, of_type}

@@ -7,7 +7,7 @@ use native.Mathlib.Omega.{arith}
 use borrow.Author.Tests.{leb-true}
 use lib.Dec.{leb}
 use lib.ListN.{length}
-use Rattle.format.specs.Bytes.{if◌then◌else◌}
+use Rattle.std.specs.Prelude.{if◌then◌else◌}
 use Rattle.format.specs.Log.{Change}
 use Rattle.format.specs.Mend.{corrections}
 use Rattle.format.specs.Answers.{audit, not_mended, mended_by, mend_after, mend}

@@ -11,7 +11,8 @@ use lib.Dec.{leb, eqb}
 use lib.ListN.{length, take, drop}
 use lib.Seq.{take_all}
 use Rattle.format.specs.Limits.{image_least, image_most}
-use Rattle.format.specs.Bytes.{if◌then◌else◌, in_range, u32, padded}
+use Rattle.std.specs.Prelude.{if◌then◌else◌}
+use Rattle.format.specs.Bytes.{in_range, u32, padded}
 use Rattle.format.specs.Log.{Change, log_words, changes, restored}
 use Rattle.format.specs.Undo.{fits, all_fit, undo_number, undone}
 use Rattle.format.specs.Answers.{undo_end, undo}

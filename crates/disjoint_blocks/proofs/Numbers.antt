@@ -29,7 +29,7 @@ first-apart : (o : ℕ) (b : Block) (bs : List Block) → Apart (b ∷ []) bs �
 unfolding block_words
 first-apart o b [] h j l = absurd (omega arith)
 first-apart o b (c ∷ cs) h zero l = apart-order b c.at c.size h.0
-first-apart o b (c ∷ cs) h (suc j) l = rw (behind-next o c cs j, start-next o c cs j) (first-apart _ b cs h.1 j (omega arith))
+first-apart o b (c ∷ cs) h (suc j) l = rw (behind-next o c cs j, start-next o c cs j) (first-apart (owner_after o c.kind) b cs h.1 j (omega arith))
 
 pub numbers_apart : (o : ℕ) (bs : List Block) → Fresh [] bs → (i j : ℕ) → i < j → j < length bs →
     Before (block_words o bs) i j ⊎ Before (block_words o bs) j i
@@ -41,10 +41,10 @@ numbers_apart o (b ∷ bs) h zero (suc j) l u =
     (⊎_elim (λ x. inr x) (λ x. inl x) (first-apart _ b bs (fresh-apart (b ∷ []) bs h.1) j (omega arith)))
 numbers_apart o (b ∷ bs) h (suc i) (suc j) l u =
     rw (behind-next o b bs i, behind-next o b bs j, start-next o b bs i, start-next o b bs j)
-    (numbers_apart _ bs (fresh-after (b ∷ []) [] bs h.1 (apart_none bs)) i j (omega arith) (omega arith))
+    (numbers_apart (owner_after o b.kind) bs (fresh-after (b ∷ []) [] bs h.1 (apart_none bs)) i j (omega arith) (omega arith))
 
 pub numbers-inside : (o eof : ℕ) (bs : List Block) → Inside eof bs → (b : ℕ) → b < length bs → behind_of (block_words o bs) b ≤ eof
 unfolding block_words
 numbers-inside o eof [] h b l = absurd (omega arith)
 numbers-inside o eof (c ∷ cs) h zero l = h.0
-numbers-inside o eof (c ∷ cs) h (suc b) l = rw (behind-next o c cs b) (numbers-inside _ eof cs h.1 b (omega arith))
+numbers-inside o eof (c ∷ cs) h (suc b) l = rw (behind-next o c cs b) (numbers-inside (owner_after o c.kind) eof cs h.1 b (omega arith))

@@ -6,7 +6,7 @@ use native.Mathlib.Nat.{eq-or-lt_of_le}
 use native.Mathlib.Omega.{arith}
 use borrow.Author.Tests.{lt-ltb, le-ltb, eq-eqb, ne_eqb}
 use lib.Dec.{ltb, eqb}
-use Rattle.format.specs.Bytes.{if◌then◌else◌}
+use Rattle.std.specs.Prelude.{if◌then◌else◌}
 use Rattle.ordering.specs.Order.{Ordering}
 use Rattle.ordering.specs.Merge.{TwoRuns}
 use Rattle.ordering.proofs.OrderLaws.{below_or_not, ordering-more}

@@ -7,7 +7,8 @@ use native.Mathlib.Omega.{arith}
 use borrow.Author.Tests.{le-leb, lt-leb, leb-true, leb-false, eq-eqb, ne_eqb}
 use lib.ListN.{length, drop}
 use lib.Dec.{leb, eqb}
-use Rattle.format.specs.Bytes.{if◌then◌else◌, is_empty, part}
+use Rattle.std.specs.Prelude.{if◌then◌else◌}
+use Rattle.format.specs.Bytes.{is_empty, part}
 use Rattle.format.specs.declared.Refusal.{Refusal}
 use Rattle.format.specs.Walk.{Walk, Outcome, done, refused, run, and_then, ◌>>◌}
 use Rattle.format.specs.Superblock.{Superblock, superblock_walk}

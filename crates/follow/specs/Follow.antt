@@ -1,6 +1,6 @@
 -- Where the components of a path lead.
-use Rattle.std.specs.Prelude.{ℕ, List, [], ◌∷◌, length, drop, leb}
-use Rattle.format.specs.Bytes.{if◌then◌else◌, is_empty}
+use Rattle.std.specs.Prelude.{ℕ, List, [], ◌∷◌, length, drop, leb, if◌then◌else◌}
+use Rattle.format.specs.Bytes.{is_empty}
 use Rattle.format.specs.Walk.{Outcome, done, run, and_then}
 use Rattle.format.specs.Superblock.{Superblock}
 use Rattle.format.specs.Path.{path_parts}

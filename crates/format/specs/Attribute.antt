@@ -1,7 +1,7 @@
 -- The attribute message, versions 1 to 3 (FF IV.A.2.m), as far as the audit reads it: whether its datatype is shared, and from where.
 -- "Only the audit reads attribute messages, of versions 1 to 3, but not the unshared datatypes and dataspaces in them."
-use Rattle.std.specs.Prelude.{ℕ, ◌+◌, ◌*◌, ◌/◌, List, [], ◌∷◌, Bool, not, ◌&&◌, ◌||◌, length, leb, eqb}
-use Rattle.format.specs.Bytes.{if◌then◌else◌, in_range, part, u8, u16, u64}
+use Rattle.std.specs.Prelude.{ℕ, ◌+◌, ◌*◌, ◌/◌, List, [], ◌∷◌, Bool, not, ◌&&◌, ◌||◌, length, leb, eqb, if◌then◌else◌}
+use Rattle.format.specs.Bytes.{in_range, part, u8, u16, u64}
 use Rattle.format.specs.Result.{Result, value, check, ◌>>=◌, ◌>>◌}
 use Rattle.format.specs.Datatype.{shared_read}
 

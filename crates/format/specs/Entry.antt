@@ -1,6 +1,6 @@
 -- Symbol table entries (FF III.C).
-use Rattle.std.specs.Prelude.{ℕ, List, Bool, leb, eqb}
-use Rattle.format.specs.Bytes.{if◌then◌else◌, u32, u64}
+use Rattle.std.specs.Prelude.{ℕ, List, Bool, leb, eqb, if◌then◌else◌}
+use Rattle.format.specs.Bytes.{u32, u64}
 use Rattle.format.specs.Result.{Result, value, check, ◌>>=◌, ◌>>◌}
 use Rattle.format.specs.Heap.{Heap}
 use Rattle.format.specs.Names.{Bound, read_text, name_text, value_text, below, within}

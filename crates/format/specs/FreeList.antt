@@ -1,6 +1,6 @@
 -- The free list of a local heap's data segment (FF III.D).
-use Rattle.std.specs.Prelude.{ℕ, zero, suc, ◌+◌, List, [], ◌∷◌, ◌++◌, not, ◌||◌, length, leb, eqb}
-use Rattle.format.specs.Bytes.{if◌then◌else◌, u64, undefined_address}
+use Rattle.std.specs.Prelude.{ℕ, zero, suc, ◌+◌, List, [], ◌∷◌, ◌++◌, not, ◌||◌, length, leb, eqb, if◌then◌else◌}
+use Rattle.format.specs.Bytes.{u64, undefined_address}
 use Rattle.format.specs.Blocks.{Block, block, overlaps_any}
 use Rattle.format.specs.Result.{Result, value, answer, check, ◌>>=◌, ◌>>◌}
 

@@ -1,8 +1,7 @@
 -- The damage report: "a separate report that names a damaged block by its address, so a lab can see it in a hex dump". It is always made: the audit's
 -- answer is a field of it, and the list and the fields are left also where that answer isn't 0.
-use Rattle.std.specs.Prelude.{ℕ, ◌+◌, ◌/◌, List, [], ◌∷◌, Bool, ◌&&◌, length, leb, ltb, eqb}
+use Rattle.std.specs.Prelude.{ℕ, ◌+◌, ◌/◌, List, [], ◌∷◌, Bool, ◌&&◌, length, leb, ltb, eqb, if◌then◌else◌}
 use Rattle.format.specs.Limits.{image_least}
-use Rattle.format.specs.Bytes.{if◌then◌else◌}
 use Rattle.format.specs.Blocks.{Block, superblock_kind, no_object, owner_after, last_owner, block_list, room_of}
 use Rattle.format.specs.declared.Refusal.{Refusal}
 use Rattle.format.specs.declared.Refusal.TheVariants.{Fault, NotEntered}

@@ -1,6 +1,5 @@
 -- Sharings: "The library also counts each datatype message that shares it and each attribute whose flags say so."
-use Rattle.std.specs.Prelude.{ℕ, suc, List, [], ◌∷◌, not, get_or, set, eqb}
-use Rattle.format.specs.Bytes.{if◌then◌else◌}
+use Rattle.std.specs.Prelude.{ℕ, suc, List, [], ◌∷◌, not, get_or, set, eqb, if◌then◌else◌}
 use Rattle.format.specs.Result.{Result, value, check, ◌>>=◌, ◌>>◌}
 use Rattle.format.specs.Message.{Message}
 use Rattle.format.specs.Header.{Object, group, dataset, committed}

@@ -3,7 +3,8 @@ use Prim.Native.Nat.{ℕ}
 use mathlib.Core.Bool.{Bool, true}
 use mathlib.Core.List.{List, [], ◌∷◌, ◌++◌}
 use mathlib.Core.Path.{◌≡◌, refl, ap, sym, ◌∙◌, fun_ext}
-use Rattle.format.specs.Bytes.{if◌then◌else◌, same_bytes}
+use Rattle.std.specs.Prelude.{if◌then◌else◌}
+use Rattle.format.specs.Bytes.{same_bytes}
 use Rattle.format.specs.Blocks.{Block}
 use Rattle.format.specs.Walk.{Walk, Outcome, done, refused, run, and_then, ◌>>=◌}
 use Rattle.format.specs.Superblock.{Superblock, superblock_walk}

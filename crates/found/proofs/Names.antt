@@ -5,7 +5,8 @@ use mathlib.Core.List.{List, [], ◌∷◌, ◌++◌, Memᴰ}
 use mathlib.Core.Logic.{◌⊎◌, inl, inr, ⊎_elim}
 use mathlib.Core.Path.{◌≡◌, refl, ap, sym, ◌∙◌}
 use native.Mathlib.Omega.{arith}
-use Rattle.format.specs.Bytes.{if◌then◌else◌, same_bytes}
+use Rattle.std.specs.Prelude.{if◌then◌else◌}
+use Rattle.format.specs.Bytes.{same_bytes}
 use Rattle.format.specs.Entry.{Entry, is_hard}
 use Rattle.format.specs.Lookup.{absent, hard, soft}
 use Rattle.order.proofs.OrderLaws.{same-equal}

@@ -9,7 +9,8 @@ use native.Mathlib.Omega.{arith}
 use borrow.Author.Tests.{le-leb}
 use lib.Dec.{leb, ltb}
 use lib.ListN.{length}
-use Rattle.format.specs.Bytes.{if◌then◌else◌, part}
+use Rattle.std.specs.Prelude.{if◌then◌else◌}
+use Rattle.format.specs.Bytes.{part}
 use Rattle.format.specs.Blocks.{Block, block_of, overlaps_any, entry_answer}
 use Rattle.format.specs.declared.Refusal.{Refusal}
 use Rattle.format.specs.Walk.{kind_number, Kind, Length, shown, length_in, Walk, ret, refuse, enter, Outcome, done, refused, if_entered, run}

@@ -9,7 +9,8 @@ use native.Mathlib.Numerals.{add-one}
 use borrow.Author.Tests.{leb-true, eq-eqb, ne_eqb}
 use lib.Dec.{leb, eqb}
 use lib.ListN.{length, get_or}
-use Rattle.format.specs.Bytes.{if◌then◌else◌, all_hold, u64, undefined_address}
+use Rattle.std.specs.Prelude.{if◌then◌else◌}
+use Rattle.format.specs.Bytes.{all_hold, u64, undefined_address}
 use Rattle.format.specs.Blocks.{Block, block, overlaps_any}
 use Rattle.format.specs.Result.{Result, value, answer, check, ◌>>=◌, ◌>>◌}
 use Rattle.format.specs.FreeList.{free_blocks, free_list}

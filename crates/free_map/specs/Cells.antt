@@ -1,6 +1,5 @@
 -- Numbers of cells: how they are made, and a search in one cell.
-use Rattle.std.specs.Prelude.{ℕ, ◌+◌, ◌-◌, ◌*◌, ◌≤◌, ◌<◌, Bool, ◌||◌, List, ◌≡◌, ltb, leb, eqb, length, get_or}
-use Rattle.format.specs.Bytes.{if◌then◌else◌}
+use Rattle.std.specs.Prelude.{ℕ, ◌+◌, ◌-◌, ◌*◌, ◌≤◌, ◌<◌, Bool, ◌||◌, List, ◌≡◌, ltb, leb, eqb, length, get_or, if◌then◌else◌}
 use Rattle.free_map.specs.FreeMap.{free_start, free_end}
 
 -- the number of a cell with so many free bytes at its start and at its end

@@ -1,6 +1,5 @@
 -- A map of a segment's free bytes: a number for each 16 bytes, which are a cell.
-use Rattle.std.specs.Prelude.{ℕ, ◌+◌, ◌-◌, ◌/◌, ◌%◌, ◌≤◌, ◌<◌, Bool, ◌||◌, List, [], ◌∷◌, ◌≡◌, ltb, leb, length, get_or}
-use Rattle.format.specs.Bytes.{if◌then◌else◌}
+use Rattle.std.specs.Prelude.{ℕ, ◌+◌, ◌-◌, ◌/◌, ◌%◌, ◌≤◌, ◌<◌, Bool, ◌||◌, List, [], ◌∷◌, ◌≡◌, ltb, leb, length, get_or, if◌then◌else◌}
 use Rattle.format.specs.Blocks.{Block, overlaps_any}
 
 -- the byte i lies in a free block

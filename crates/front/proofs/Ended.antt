@@ -6,7 +6,7 @@ use native.Mathlib.Omega.{arith}
 use borrow.Author.Tests.{le-leb, lt-leb}
 use lib.ListN.{length, take, replicate}
 use lib.Dec.{leb}
-use Rattle.format.specs.Bytes.{if◌then◌else◌}
+use Rattle.std.specs.Prelude.{if◌then◌else◌}
 use Rattle.format.specs.Blocks.{room_of, block_list}
 use Rattle.format.specs.Walk.{answer_of, Outcome, done, refused}
 use Rattle.format.specs.Front.{padded_bytes, refusal_words, reply_words, CReply, short_reply}

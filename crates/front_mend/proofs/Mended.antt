@@ -9,7 +9,8 @@ use lib.ListN.{length, take, replicate}
 use lib.Seq.{take_at, length-take-le}
 use lib.Dec.{leb}
 use Rattle.format.specs.Limits.{objects_most}
-use Rattle.format.specs.Bytes.{if◌then◌else◌, padded}
+use Rattle.std.specs.Prelude.{if◌then◌else◌}
+use Rattle.format.specs.Bytes.{padded}
 use Rattle.format.specs.Blocks.{room_of, block_list}
 use Rattle.format.specs.Walk.{answer_of, met_of, Outcome, done, refused}
 use Rattle.format.specs.Ledger.{Linked}

@@ -4,7 +4,8 @@ use mathlib.Core.Bool.{Bool, true, false}
 use mathlib.Core.List.{List, [], ◌∷◌, ◌++◌}
 use native.Mathlib.Omega.{arith}
 use mathlib.Core.Path.{◌≡◌, refl, ap, sym, ◌∙◌, fun_ext}
-use Rattle.format.specs.Bytes.{if◌then◌else◌, same_bytes}
+use Rattle.std.specs.Prelude.{if◌then◌else◌}
+use Rattle.format.specs.Bytes.{same_bytes}
 use Rattle.format.specs.Blocks.{Block}
 use Rattle.format.specs.Result.{Result, value, ◌>>=◌}
 use Rattle.format.specs.Walk.{run}

@@ -1,6 +1,6 @@
 -- The entries of a group, what the audit makes of them and what a lookup makes of them.
-use Rattle.std.specs.Prelude.{ℕ, true, false, List, [], ◌∷◌, ◌++◌, ◌≡◌}
-use Rattle.format.specs.Bytes.{if◌then◌else◌, same_bytes}
+use Rattle.std.specs.Prelude.{ℕ, true, false, List, [], ◌∷◌, ◌++◌, ◌≡◌, if◌then◌else◌}
+use Rattle.format.specs.Bytes.{same_bytes}
 use Rattle.format.specs.Result.{Result, value, ◌>>=◌}
 use Rattle.format.specs.Walk.{Walk}
 use Rattle.format.specs.Names.{below}

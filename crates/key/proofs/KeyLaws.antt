@@ -8,7 +8,8 @@ use borrow.Author.Tests.{ltb-true, leb-true, leb-false}
 use lib.Dec.{ltb, leb, eqb}
 use lib.ListN.{length, take, drop}
 use Rattle.format.specs.Limits.{name_most}
-use Rattle.format.specs.Bytes.{if◌then◌else◌, part, u64}
+use Rattle.std.specs.Prelude.{if◌then◌else◌}
+use Rattle.format.specs.Bytes.{part, u64}
 use Rattle.format.specs.Blocks.{Block}
 use Rattle.format.specs.Result.{value}
 use Rattle.format.specs.Walk.{fault as fault_at, located, ret, ◌>>=◌}

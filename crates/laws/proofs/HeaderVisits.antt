@@ -2,16 +2,15 @@
 use Prim.Native.Nat.{ℕ, zero, suc, ◌+◌}
 use mathlib.Core.Bool.{Bool, true, false}
 use mathlib.Core.List.{List, [], ◌∷◌, ◌++◌}
-use mathlib.Core.Path.{◌≡◌, refl, ap, sym, ◌∙◌}
+use mathlib.Core.Path.{◌≡◌, refl, ap}
 use lib.ListN.{length, drop}
 use lib.Dec.{eqb}
 use Rattle.format.specs.Limits.{blocks_most}
-use Rattle.format.specs.Bytes.{if◌then◌else◌, u8, u16, u32, u64}
-use Rattle.format.specs.Blocks.{Block}
+use Rattle.format.specs.Bytes.{u8, u16, u64}
 use Rattle.format.specs.Result.{Result, value}
-use Rattle.format.specs.Walk.{Walk, ret, refuse, fault, located, enter, stored, enter_block, check, header_block, continuation_block, run, ◌>>=◌, ◌>>◌}
+use Rattle.format.specs.Walk.{ret, fault, located, enter_block, check, continuation_block, ◌>>=◌, ◌>>◌}
 use Rattle.format.specs.Message.{Message, read_message, of_type}
-use Rattle.format.specs.Header.{Object, Gathered, messages, continuations, header_contents, header_messages, object_of, Headed, header_with, pass_over, header_walk}
+use Rattle.format.specs.Header.{Gathered, messages, continuations, header_contents, header_messages, object_of, Headed, header_with, pass_over, header_walk}
 use Rattle.laws.proofs.Bind.{bind-ret}
 use Rattle.laws.proofs.Follows.{Follows, follows-bind, follows_then, follows-check}
 use Rattle.laws.proofs.Follows.{follows_if, follows-refuse, follows-ret, follows-weaker, follows-value}

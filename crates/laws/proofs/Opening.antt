@@ -7,7 +7,8 @@ use native.Mathlib.Omega.{arith}
 use lib.ListN.{length}
 use lib.Dec.{eqb}
 use Rattle.format.specs.Limits.{image_least, image_most}
-use Rattle.format.specs.Bytes.{if◌then◌else◌, in_range, u64}
+use Rattle.std.specs.Prelude.{if◌then◌else◌}
+use Rattle.format.specs.Bytes.{in_range, u64}
 use Rattle.format.specs.Superblock.{Superblock, Opening, opened, not_opened, signature, superblock_read, superblock_sound, superblock_fields, open_image}
 
 -- all four tests hold

@@ -9,7 +9,7 @@ use borrow.Author.Tests.{eq-eqb, ne_eqb, eqb-true, eqb-false, lt-ltb, le-ltb, lt
 use lib.Dec.{eqb, ltb}
 use lib.ListN.{length, length-append}
 use Rattle.format.specs.Limits.{objects_most}
-use Rattle.format.specs.Bytes.{if◌then◌else◌}
+use Rattle.std.specs.Prelude.{if◌then◌else◌}
 use Rattle.format.specs.Result.{value, answer}
 use Rattle.format.specs.Entry.{Entry, is_hard}
 use Rattle.format.specs.Ledger.{Linked, linked, in_ledger, add_link, count_link, discover}

@@ -1,6 +1,5 @@
 -- The addresses of the objects in a list of words. Behind them stands their order, and behind that, in a longer list, a table of guesses.
-use Rattle.std.specs.Prelude.{ℕ, ◌+◌, ◌*◌, ◌/◌, ◌%◌, ◌^◌, ◌≤◌, ◌<◌, List, ◌≡◌, leb, length, get_or, set}
-use Rattle.format.specs.Bytes.{if◌then◌else◌}
+use Rattle.std.specs.Prelude.{ℕ, ◌+◌, ◌*◌, ◌/◌, ◌%◌, ◌^◌, ◌≤◌, ◌<◌, List, ◌≡◌, leb, length, get_or, set, if◌then◌else◌}
 use Rattle.format.specs.Limits.{objects_most}
 use Rattle.ordering.specs.Order.{Ordering, words_from}
 use Rattle.ledger.specs.declared.search.Place.{Place}

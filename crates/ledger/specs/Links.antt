@@ -1,6 +1,5 @@
 -- What a ledger records: its addresses, the links to each and to all, and that no address stands in it twice.
-use Rattle.std.specs.Prelude.{ℕ, ◌+◌, false, List, [], ◌∷◌, ◌≡◌, eqb}
-use Rattle.format.specs.Bytes.{if◌then◌else◌}
+use Rattle.std.specs.Prelude.{ℕ, ◌+◌, false, List, [], ◌∷◌, ◌≡◌, eqb, if◌then◌else◌}
 use Rattle.format.specs.Ledger.{Linked, in_ledger}
 
 -- the addresses, in order of discovery

@@ -1,7 +1,7 @@
 -- What holds of whatever a reader makes of its part.
 use Prim.Native.Nat.{ℕ}
 use mathlib.Core.Bool.{Bool, true, false}
-use Rattle.format.specs.Bytes.{if◌then◌else◌}
+use Rattle.std.specs.Prelude.{if◌then◌else◌}
 use Rattle.format.specs.Result.{Result, value, answer, check, ◌>>=◌}
 
 -- P holds of the value, where there is one

@@ -6,7 +6,8 @@ use mathlib.Core.Path.{◌≡◌, refl}
 use native.Mathlib.Omega.{arith}
 use borrow.Author.Tests.{eqb-true}
 use lib.Dec.{eqb}
-use Rattle.format.specs.Bytes.{if◌then◌else◌, contains}
+use Rattle.std.specs.Prelude.{if◌then◌else◌}
+use Rattle.format.specs.Bytes.{contains}
 
 -- the predicate holds of every number of the list
 abbrev pub Includes : (ℕ → Type 0) → List ℕ → Type 0

@@ -9,7 +9,7 @@ use native.Mathlib.Omega.{arith}
 use borrow.Author.Tests.{eq-eqb, eqb-true}
 use lib.ListN.{drop}
 use lib.Dec.{eqb}
-use Rattle.format.specs.Bytes.{if◌then◌else◌}
+use Rattle.std.specs.Prelude.{if◌then◌else◌}
 use Rattle.format.specs.Result.{value}
 use Rattle.format.specs.Ledger.{Linked, linked, in_ledger, count_link}
 use Rattle.laws.proofs.Results.{both_values}

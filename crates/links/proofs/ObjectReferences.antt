@@ -9,7 +9,8 @@ use mathlib.Core.Path.{◌≡◌, refl, ap, sym, ◌∙◌}
 use native.Mathlib.Omega.{arith}
 use lib.Dec.{eqb}
 use lib.ListN.{drop}
-use Rattle.format.specs.Bytes.{if◌then◌else◌, u32}
+use Rattle.std.specs.Prelude.{if◌then◌else◌}
+use Rattle.format.specs.Bytes.{u32}
 use Rattle.format.specs.Blocks.{Block}
 use Rattle.format.specs.Result.{Result, value, answer}
 use Rattle.format.specs.Result as results

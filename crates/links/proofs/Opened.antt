@@ -8,7 +8,8 @@ use borrow.Author.Tests.{leb-true, leb-false}
 use lib.Dec.{leb, eqb}
 use lib.ListN.{length}
 use Rattle.format.specs.Limits.{image_least, image_most}
-use Rattle.format.specs.Bytes.{if◌then◌else◌, u8, u64}
+use Rattle.std.specs.Prelude.{if◌then◌else◌}
+use Rattle.format.specs.Bytes.{u8, u64}
 use Rattle.format.specs.Superblock.{Superblock, opened, not_opened, version_shift, superblock_sound, superblock_fields, open_image}
 use Rattle.walk.proofs.Tests.{all_held, range-below}
 use Rattle.laws.proofs.Opening.{opened-tested}

@@ -7,9 +7,10 @@ use native.Mathlib.Omega.{arith}
 use borrow.Author.Tests.{eqb-true, eqb-false}
 use lib.Dec.{eqb}
 use lib.ListN.{length, drop, length-drop}
-use Rattle.format.specs.Bytes.{if◌then◌else◌, with_first, u16}
+use Rattle.std.specs.Prelude.{if◌then◌else◌}
+use Rattle.format.specs.Bytes.{with_first, u16}
 use Rattle.format.specs.Blocks.{Block}
-use Rattle.format.specs.Result.{Result, value, ◌>>=◌}
+use Rattle.format.specs.Result.{Result, value}
 use Rattle.format.specs.Walk as walks
 use Rattle.format.specs.Message.{Message, read_message, of_type, the_message}
 use Rattle.format.specs.Header.{messages}

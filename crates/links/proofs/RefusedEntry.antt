@@ -8,7 +8,8 @@ use native.Mathlib.Omega.{arith}
 use borrow.Author.Tests.{leb-true, leb-false, ltb-false}
 use lib.Dec.{leb, ltb}
 use lib.ListN.{length}
-use Rattle.format.specs.Bytes.{if◌then◌else◌, part}
+use Rattle.std.specs.Prelude.{if◌then◌else◌}
+use Rattle.format.specs.Bytes.{part}
 use Rattle.format.specs.Blocks.{Block, overlaps_any, entry_answer}
 use Rattle.format.specs.Walk.{Kind, Length, fixed, stored, shown, length_in, known_length}
 use Rattle.laws.proofs.Plan.{known-inside}

@@ -1,6 +1,5 @@
 -- "The block list grows to four words: address, length, kind .. and the number of the object it was walked for": what a caller reads off the words.
-use Rattle.std.specs.Prelude.{ℕ, zero, suc, ◌+◌, ◌*◌, ◌<◌, List, [], ◌∷◌, ◌≡◌, eqb, length, get_or, take, drop}
-use Rattle.format.specs.Bytes.{if◌then◌else◌}
+use Rattle.std.specs.Prelude.{ℕ, zero, suc, ◌+◌, ◌*◌, ◌<◌, List, [], ◌∷◌, ◌≡◌, eqb, length, get_or, take, drop, if◌then◌else◌}
 use Rattle.format.specs.Blocks.{Block, block_of, block, no_object, last_owner}
 use Rattle.links.specs.Owners.{owned_by}
 

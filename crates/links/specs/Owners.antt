@@ -1,6 +1,5 @@
 -- "Show that an object's blocks are exactly those its walk enters, and that no byte has two owners."
-use Rattle.std.specs.Prelude.{ℕ, zero, suc, ◌+◌, ◌≤◌, ◌<◌, List, [], ◌∷◌, ◌++◌, ◌≡◌, eqb, length, get_or}
-use Rattle.format.specs.Bytes.{if◌then◌else◌}
+use Rattle.std.specs.Prelude.{ℕ, zero, suc, ◌+◌, ◌≤◌, ◌<◌, List, [], ◌∷◌, ◌++◌, ◌≡◌, eqb, length, get_or, if◌then◌else◌}
 use Rattle.format.specs.Blocks.{Block, block_of, block, superblock_kind, header_kind, no_object, owner_after}
 use Rattle.format.specs.Walk.{done, run}
 use Rattle.format.specs.Superblock.{Superblock}

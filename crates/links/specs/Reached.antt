@@ -1,8 +1,7 @@
 -- What the audit is to find: the hard links and sharings of each object, and what they reach from the root.
-use Rattle.std.specs.Prelude.{ℕ, ◌+◌, ◌≡◌, eqb}
+use Rattle.std.specs.Prelude.{ℕ, ◌+◌, ◌≡◌, eqb, if◌then◌else◌}
 use mathlib.Core.List.{List, [], ◌∷◌, ◌++◌, Memᴰ}
 use Rattle.format.specs.Limits.{blocks_most}
-use Rattle.format.specs.Bytes.{if◌then◌else◌}
 use Rattle.format.specs.Blocks.{Block}
 use Rattle.format.specs.Result.{Result, value}
 use Rattle.format.specs.Result as results

@@ -1,2 +1,1 @@
-pub mod TreatmentLaws
 pub mod MessageLaws

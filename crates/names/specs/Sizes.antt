@@ -1,7 +1,7 @@
 -- How many bytes a name has, and what its bytes tell of it.
-use Rattle.std.specs.Prelude.{ℕ, ◌+◌, ◌≤◌, false, List, ◌≡◌, length, drop}
+use Rattle.std.specs.Prelude.{ℕ, ◌+◌, ◌≤◌, false, List, ◌≡◌, length, drop, if◌then◌else◌}
 use Rattle.format.specs.Limits.{name_most}
-use Rattle.format.specs.Bytes.{if◌then◌else◌, part, contains}
+use Rattle.format.specs.Bytes.{part, contains}
 use Rattle.format.specs.Names.{before_nul, string_at, is_name}
 
 -- how many bytes the name at off has; 0 if the string there is no name

@@ -1,11 +1,10 @@
 -- The number of a string's first bytes: how it is read, and that it decides the order where two differ.
 use Prim.Native.Nat.{ℕ, zero, suc, ◌+◌, ◌*◌, ◌-◌, ◌/◌, ◌%◌, ◌^◌, ◌≤◌, ◌<◌}
-use mathlib.Core.Bool.{Bool, true, false}
 use mathlib.Core.List.{List, [], ◌∷◌}
 use mathlib.Core.Path.{◌≡◌, refl, ap, sym, ◌∙◌}
 use native.Mathlib.Nat.{pow-suc, mul-zero, mul-le-mul_left, mod-eq_of_lt, div-eq_of_lt, add-mul-div_right, zero-add, suc-add}
 use native.Mathlib.Omega.{arith}
-use borrow.Author.Tests.{ltb-true, ltb-false, lt-ltb, le-ltb}
+use borrow.Author.Tests.{lt-ltb, le-ltb}
 use lib.Dec.{ltb}
 use lib.Pow.{pow-add, pow_mono}
 use lib.ListN.{length, get_or, take, drop, drop_of_length-le, get_or-eq_default}

@@ -9,7 +9,8 @@ use borrow.Author.Tests.{eq-eqb}
 use lib.Dec.{eqb}
 use lib.ListN.{length, get_or, drop, length-drop}
 use lib.Seq.{take-suc, get_or-drop}
-use Rattle.format.specs.Bytes.{if◌then◌else◌, part, same_bytes, contains}
+use Rattle.std.specs.Prelude.{if◌then◌else◌}
+use Rattle.format.specs.Bytes.{part, same_bytes, contains}
 use Rattle.format.specs.Names.{below}
 use Rattle.order.proofs.OrderLaws.{below_rest}
 

@@ -8,7 +8,8 @@ use borrow.Author.Tests.{eq-eqb, ne_eqb}
 use lib.Dec.{eqb}
 use lib.ListN.{length, get_or, take, drop, length-drop, take-append-drop}
 use lib.Seq.{take-add, take_all, length-take-le, drop-drop, get_or-take, get_or-drop}
-use Rattle.format.specs.Bytes.{if◌then◌else◌, part, same_bytes, contains}
+use Rattle.std.specs.Prelude.{if◌then◌else◌}
+use Rattle.format.specs.Bytes.{part, same_bytes, contains}
 use Rattle.format.specs.Names.{below}
 use Rattle.order.specs.Same.{SameStart}
 use Rattle.order.proofs.OrderLaws.{same-equal}

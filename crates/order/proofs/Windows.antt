@@ -34,6 +34,12 @@ pub record Window (a b : List ℕ) (at n x y : ℕ) : Type 0 where
   pub in-first : at + n ≤ length a
   pub in-second : at + n ≤ length b
 
+-- n bytes of each
+pub window-at : {a b : List ℕ} {at x y : ℕ} (n : ℕ) → SameStart a b at → BigEndian a at n x → BigEndian b at n y → AllBytes a → AllBytes b →
+    at + n ≤ length a → at + n ≤ length b → Window a b at n x y
+window-at n s f g h l i k =
+    record { start = s; first = f; second = g; first-bytes = h; second-bytes = l; in-first = i; in-second = k }
+
 -- one byte of each
 pub byte-window : {a b : List ℕ} {at : ℕ} → SameStart a b at → AllBytes a → AllBytes b → at < length a → at < length b →
     Window a b at 1 (get_or a at 0) (get_or b at 0)

@@ -1,6 +1,6 @@
 -- What the readers of a path return, as the definitions have it.
-use Rattle.std.specs.Prelude.{ℕ, ◌+◌, ◌-◌, ◌≤◌, ◌<◌, Bool, true, false, List, [], ◌∷◌, ◌≡◌, length, drop, eqb}
-use Rattle.format.specs.Bytes.{if◌then◌else◌, part}
+use Rattle.std.specs.Prelude.{ℕ, ◌+◌, ◌-◌, ◌≤◌, ◌<◌, Bool, true, false, List, [], ◌∷◌, ◌≡◌, length, drop, eqb, if◌then◌else◌}
+use Rattle.format.specs.Bytes.{part}
 use Rattle.format.specs.Path.{path_parts, parse_path, components, bad_path}
 
 -- the component that begins at start ends at r: it is the last, or the others begin behind the '/' at r

@@ -1,7 +1,7 @@
 -- Strings of the segment, and the range that the keys above a name leave for it.
-use Rattle.std.specs.Prelude.{ℕ, ◌+◌, ◌≤◌, Bool, true, not, List, [], ◌∷◌, ◌≡◌, length, drop}
+use Rattle.std.specs.Prelude.{ℕ, ◌+◌, ◌≤◌, Bool, true, not, List, [], ◌∷◌, ◌≡◌, length, drop, if◌then◌else◌}
 use Rattle.format.specs.Limits.{name_most}
-use Rattle.format.specs.Bytes.{if◌then◌else◌, all_hold, part}
+use Rattle.format.specs.Bytes.{all_hold, part}
 use Rattle.format.specs.Names.{Bound, below, within}
 use Rattle.order.specs.BigEndian.{first_number}
 use Rattle.range.specs.declared.Name.{Name}

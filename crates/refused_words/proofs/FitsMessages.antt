@@ -5,7 +5,8 @@ use mathlib.Core.List.{List, [], ◌∷◌, ◌++◌}
 use native.Mathlib.Omega.{arith}
 use lib.Dec.{eqb}
 use lib.ListN.{length, drop}
-use Rattle.format.specs.Bytes.{if◌then◌else◌, with_first, u16}
+use Rattle.std.specs.Prelude.{if◌then◌else◌}
+use Rattle.format.specs.Bytes.{with_first, u16}
 use Rattle.format.specs.Result.{Result}
 use Rattle.format.specs.Message.{Message, read_message, of_type, the_message}
 use Rattle.format.specs.Header.{Gathered, messages}

@@ -5,7 +5,8 @@ use mathlib.Core.List.{List, [], ◌∷◌, ◌++◌}
 use lib.Dec.{eqb, ltb}
 use lib.ListN.{length, drop}
 use Rattle.format.specs.Limits.{objects_most}
-use Rattle.format.specs.Bytes.{if◌then◌else◌, part, u8, u16, u64}
+use Rattle.std.specs.Prelude.{if◌then◌else◌}
+use Rattle.format.specs.Bytes.{part, u8, u16, u64}
 use Rattle.format.specs.Message.{Message}
 use Rattle.format.specs.Header.{Object, group, dataset, committed}
 use Rattle.format.specs.Attribute.{taken, name_start, read_shared_part, read_attribute}

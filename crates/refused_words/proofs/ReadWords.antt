@@ -6,7 +6,8 @@ use native.Mathlib.Nat.{pow-suc}
 use native.Mathlib.Omega.{arith}
 use lib.ListN.{take, drop, set}
 use lib.Seq.{get_or-drop}
-use Rattle.format.specs.Bytes.{if◌then◌else◌, little_endian, part, u16, u32, u64}
+use Rattle.std.specs.Prelude.{if◌then◌else◌}
+use Rattle.format.specs.Bytes.{little_endian, part, u16, u32, u64}
 use Rattle.format.specs.Walk.{Kind, is_header, blank_count, shown}
 use Rattle.demand.specs.Bytes.{IsBytes}
 use Rattle.demand.proofs.BytesBack.{part_bytes}

@@ -8,7 +8,8 @@ use borrow.Author.Tests.{leb-true}
 use lib.Dec.{eqb, leb, lit≤, lit<}
 use lib.ListN.{length}
 use Rattle.format.specs.Limits.{image_least, image_most}
-use Rattle.format.specs.Bytes.{if◌then◌else◌, all_hold, in_range, little_endian, part, u16, u32, u64}
+use Rattle.std.specs.Prelude.{if◌then◌else◌}
+use Rattle.format.specs.Bytes.{all_hold, in_range, little_endian, part, u16, u32, u64}
 use Rattle.format.specs.Superblock.{Superblock, version_shift, Opening, opened, not_opened}
 use Rattle.format.specs.Superblock.{signature, superblock_read, superblock_sound, superblock_fields, open_image}
 use Rattle.walk.specs.Numbers.{Number}

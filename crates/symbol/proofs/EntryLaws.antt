@@ -8,7 +8,8 @@ use borrow.Author.Tests.{leb-true}
 use lib.Dec.{leb}
 use lib.ListN.{length, drop}
 use Rattle.format.specs.Limits.{name_most}
-use Rattle.format.specs.Bytes.{if◌then◌else◌, all_hold, part, little_endian, u32, u64}
+use Rattle.std.specs.Prelude.{if◌then◌else◌}
+use Rattle.format.specs.Bytes.{all_hold, part, little_endian, u32, u64}
 use Rattle.format.specs.declared.Refusal.{Refusal}
 use Rattle.format.specs.Result.{Result, value, answer, check, ◌>>◌}
 use Rattle.format.specs.Walk.{fault as fault_at, located, ◌>>=◌}

@@ -7,7 +7,8 @@ use native.Mathlib.Omega.{arith}
 use borrow.Author.Tests.{eq-eqb, ne_eqb}
 use lib.Dec.{eqb}
 use lib.ListN.{length, length-append}
-use Rattle.format.specs.Bytes.{if◌then◌else◌, with_first}
+use Rattle.std.specs.Prelude.{if◌then◌else◌}
+use Rattle.format.specs.Bytes.{with_first}
 use Rattle.format.specs.Message.{Message, of_type, the_message}
 use Rattle.tally.specs.declared.First.{First}
 use Rattle.tally.specs.Tally.{message_at, Placed, IsFirst}

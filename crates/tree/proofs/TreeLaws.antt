@@ -7,7 +7,8 @@ use Rattle.format.specs.Blocks.{Block}
 use mathlib.Core.Path.{◌≡◌, refl, ap, sym, ◌∙◌}
 use native.Mathlib.Omega.{arith}
 use lib.ListN.{length}
-use Rattle.format.specs.Bytes.{if◌then◌else◌, part, u8, u16, u32}
+use Rattle.std.specs.Prelude.{if◌then◌else◌}
+use Rattle.format.specs.Bytes.{part, u8, u16, u32}
 use Rattle.format.specs.declared.Refusal.{Refusal}
 use Rattle.format.specs.Walk.{fault, Kind, shown, tree_block, Walk, ret, enter_block, check, ◌>>=◌, ◌>>◌, run}
 use Rattle.format.specs.Names.{within}

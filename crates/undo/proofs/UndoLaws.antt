@@ -9,7 +9,8 @@ use lib.Dec.{leb, eqb}
 use lib.ListN.{length, drop, get_or}
 use lib.Seq.{get_or-drop}
 use Rattle.format.specs.Limits.{image_least, image_most}
-use Rattle.format.specs.Bytes.{if◌then◌else◌, in_range, u32}
+use Rattle.std.specs.Prelude.{if◌then◌else◌}
+use Rattle.format.specs.Bytes.{in_range, u32}
 use Rattle.format.specs.Log.{Change, changes, put_count, restored}
 use Rattle.format.specs.Undo.{fits, all_fit, undo_number, undone}
 use Rattle.format.specs.Answers.{undo_end, undo}

@@ -9,7 +9,8 @@ use borrow.Author.Tests.{eq-eqb, ne_eqb}
 use lib.Dec.{eqb}
 use lib.ListN.{length, get_or, take, drop, set, replicate, length-append, length-set}
 use lib.Seq.{drop-nil, get_or-drop, take-suc-set}
-use Rattle.format.specs.Bytes.{if◌then◌else◌, padded}
+use Rattle.std.specs.Prelude.{if◌then◌else◌}
+use Rattle.format.specs.Bytes.{padded}
 use Rattle.format.specs.Audit.{Counted}
 use Rattle.format.specs.Log.{Change, log_words}
 use Rattle.format.specs.Mend.{corrections}

@@ -8,7 +8,8 @@ use native.Mathlib.Nat.{add-zero}
 use lib.Dec.{eqb}
 use lib.ListN.{length, get_or, take, drop}
 use lib.Seq.{drop-drop, get_or-drop}
-use Rattle.format.specs.Bytes.{if◌then◌else◌, to_bytes, overwrite}
+use Rattle.std.specs.Prelude.{if◌then◌else◌}
+use Rattle.format.specs.Bytes.{to_bytes, overwrite}
 use Rattle.undo_log.specs.Entries.{NewsFit, FieldsInside}
 use Rattle.format.specs.Log.{Change, log_words, changes, put_count, written}
 use Rattle.format.specs.Mend.{corrections}

@@ -6,7 +6,8 @@ use mathlib.Core.Path.{◌≡◌, refl, ap, sym, ◌∙◌}
 use native.Mathlib.Omega.{arith}
 use borrow.Author.Tests.{le-leb, lt-leb}
 use lib.Dec.{leb}
-use Rattle.format.specs.Bytes.{if◌then◌else◌, same_bytes}
+use Rattle.std.specs.Prelude.{if◌then◌else◌}
+use Rattle.format.specs.Bytes.{same_bytes}
 use Rattle.format.specs.Result.{value}
 use Rattle.format.specs.Entry.{Entry}
 use Rattle.format.specs.Lookup.{hard, soft, compare_name}

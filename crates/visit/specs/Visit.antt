@@ -1,6 +1,6 @@
 -- What is done at an entry, for both uses of the descent.
-use Rattle.std.specs.Prelude.{ℕ, ◌+◌, ◌≤◌, Bool, true, false, List, ◌≡◌, leb, eqb}
-use Rattle.format.specs.Bytes.{if◌then◌else◌, same_bytes}
+use Rattle.std.specs.Prelude.{ℕ, ◌+◌, ◌≤◌, Bool, true, false, List, ◌≡◌, leb, eqb, if◌then◌else◌}
+use Rattle.format.specs.Bytes.{same_bytes}
 use Rattle.format.specs.Result.{Result, value, answer, ◌>>=◌}
 use Rattle.format.specs.Entry.{Entry}
 use Rattle.format.specs.Ledger.{Linked, discover}

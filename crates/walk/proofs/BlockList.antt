@@ -10,8 +10,8 @@ use lib.ListN.{length, take, drop, get_or, set, replicate, replicate-append-repl
 use lib.Seq.{get_or-drop, take-suc-set}
 use lib.Dec.{leb, ltb}
 use Rattle.format.specs.Limits.{blocks_most}
-use Rattle.format.specs.Bytes.{if◌then◌else◌}
-use Rattle.format.specs.Blocks.{Block, block, block_of, owner_after, block_words, overlaps_any, entry_answer, room_of}
+use Rattle.std.specs.Prelude.{if◌then◌else◌}
+use Rattle.format.specs.Blocks.{Block, block_of, owner_after, block_words, overlaps_any, entry_answer, room_of}
 use Rattle.format.specs.declared.Refusal.{Refusal}
 use Rattle.format.specs.Walk.{not_entered}
 use Rattle.block_index.specs.Index.{places_for}

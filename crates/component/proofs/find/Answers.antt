@@ -4,21 +4,17 @@ use borrow.Author.Rules.{rules}
 use Rattle.component.proofs.find.Goals as goal
 
 pub read-requires : goal.read-requires
-read-requires c = let s = c in record {
-  settings = s.requires.0;
-  ready = s.requires.1 _ _;
+read-requires c = record {
+  settings = c.requires.opened;
+  ready = c.requires.by_index _ _;
 }
 
 pub returns-in-Stopped : goal.returns-in-Stopped
 returns-in-Stopped c =
-    let read = c in
-    let s = read in
-    group-stopped s.args.image.now s.args.name.now s.args.list.now _ _ s.args.superblock _ _ _ _ _ read.read.new.1.1.0
-    read.read.new.1.1.1.0 read.read.new.1.1.1.1.0 _ (rw c.in-Stopped.is at read.read.ensures)
+    group-stopped c.args.image.now c.args.name.now c.args.list.now _ _ c.args.superblock _ _ _ _ _ c.read.new.list
+    c.read.new.addresses c.read.new.counts _ c.in-Stopped.ensures
 
 pub returns-in-Done : goal.returns-in-Done
 returns-in-Done c =
-    let read = c in
-    let s = read in
-    group-found s.args.image.now s.args.name.now s.args.list.now _ _ s.args.superblock _ _ _ _ _ read.read.new.1.1.0
-    read.read.new.1.1.1.0 read.read.new.1.1.1.1.0 _ _ (rw c.in-Done.is at read.read.ensures) c.target_of.ensures
+    group-found c.args.image.now c.args.name.now c.args.list.now _ _ c.args.superblock _ _ _ _ _ c.read.new.list
+    c.read.new.addresses c.read.new.counts _ _ c.in-Done.ensures c.target_of.ensures

@@ -1,5 +1,7 @@
 -- The whole product is the product so far times the sizes that are left; none of them is 0, so it only grows.
-use Prim.Native.Nat.{◌*◌, ◌-◌, ◌≤◌}
+use Prim.Native.Nat.{ℕ, ◌+◌, ◌*◌, ◌<◌}
+use mathlib.Core.List.{List}
+use Rattle.walk.specs.Numbers.{Number}
 use mathlib.Core.Path.{◌≡◌}
 use mathlib.Core.Bool.{false}
 use native.Mathlib.Nat.{mul_comm}
@@ -10,18 +12,11 @@ use Rattle.dataspace.proofs.DataspaceLaws.{words_from, words-start, fills-larger
 use native.Mathlib.Omega.{arith}
 use borrow.Author.Rules.{rules}
 use Rattle.dataspace.proofs.multiplies_to.Goals as goal
-use Rattle.dataspace.proofs.multiplies_to.Goals.{After-u64_at-size}
 
-turn : (c : After-u64_at-size) →
-    let s = c in
-    let a = s.args in
-    Turn a.body.now a.rank s.loop-i.i (product (to_words a.rank (drop 8 a.body.now)) * a.element_size) s.loop-i.so_far a.stored
-    c.u64_at-size.result
-turn c =
-    let s = c in
-    let a = s.args in
-    product-turn a.body.now a.rank s.loop-i.i _ s.loop-i.so_far a.stored s.loop-i.invariant.2 s.loop-i.invariant.3 c.loop-i-test.true
-    c.u64_at-size.ensures
+turn : (b : List ℕ) (rank i size so_far stored s : ℕ) → contains 0 (words_from b 8 rank i) ≡ false →
+    product (to_words rank (drop 8 b)) * size ≡ so_far * product (words_from b 8 rank i) → i < rank → Number b (8 + 8 * i) 8 s →
+    Turn b rank i (product (to_words rank (drop 8 b)) * size) so_far stored s
+turn b rank i size so_far stored s z e h n = product-turn b rank i _ so_far stored z e h n
 
 pub returns-then-stored-element_size : goal.returns-then-stored-element_size
 returns-then-stored-element_size c =
@@ -35,15 +30,18 @@ loop-i-init c =
     (search rules, c.if-stored-element_size.false, rw (← w) s.requires.nonzero, rw (← w) (mul_comm _ _))
 
 pub returns-then-stored-size : goal.returns-then-stored-size
-returns-then-stored-size c = (turn c).above c.if-stored-size.true
+returns-then-stored-size c = (turn _ _ _ c.args.element_size _ c.args.stored _ c.loop-i.invariant.2 c.loop-i.invariant.3 c.loop-i-test.true c.u64_at-size.ensures).above c.if-stored-size.true
+
+pub nonzero_div-stored : goal.nonzero_div-stored
+nonzero_div-stored c = let t = turn _ _ _ c.args.element_size _ c.args.stored _ c.loop-i.invariant.2 c.loop-i.invariant.3 c.loop-i-test.true c.u64_at-size.ensures in omega (arith, t.least)
 
 pub overflow_mul-so_far : goal.overflow_mul-so_far
 overflow_mul-so_far c =
     let start = c in
-    omega (arith, (turn c).within c.if-stored-size.false, start.ranges.stored)
+    omega (arith, (turn _ _ _ c.args.element_size _ c.args.stored _ c.loop-i.invariant.2 c.loop-i.invariant.3 c.loop-i-test.true c.u64_at-size.ensures).within c.if-stored-size.false, start.ranges.stored)
 
 pub loop-i-preserved : goal.loop-i-preserved
-loop-i-preserved c = let t = turn c in (search rules, t.within c.if-stored-size.false, t.nonzero, t.next)
+loop-i-preserved c = let t = turn _ _ _ c.args.element_size _ c.args.stored _ c.loop-i.invariant.2 c.loop-i.invariant.3 c.loop-i-test.true c.u64_at-size.ensures in (search rules, t.within c.if-stored-size.false, t.nonzero, t.next)
 
 pub returns : goal.returns
 returns c =

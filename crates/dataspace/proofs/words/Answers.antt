@@ -13,7 +13,7 @@ pub loop-i-init : goal.loop-i-init
 loop-i-init c = (search rules, padded-start (drop c.args.from c.args.body.now))
 
 pub bounds-words-i : goal.bounds-words-i
-bounds-words-i c = rank-held _ _ c.loop-i-test.true c.requires.1
+bounds-words-i c = rank-held _ _ c.loop-i-test.true c.requires.rank_le_rank_most
 
 pub loop-i-preserved : goal.loop-i-preserved
 loop-i-preserved c =
@@ -21,7 +21,7 @@ loop-i-preserved c =
     let a = s.args in (
       search rules,
       ap (λ (l : _). set l s.loop-i.i c.u64_at.result) s.loop-i.invariant.1
-          ∙ padded-next a.body.now a.from s.loop-i.i (omega (arith, s.requires.1)) c.u64_at.ensures,
+          ∙ padded-next a.body.now a.from s.loop-i.i (omega (arith, s.requires.rank_le_rank_most)) c.u64_at.ensures,
     )
 
 pub returns : goal.returns

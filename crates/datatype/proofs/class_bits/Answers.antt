@@ -5,13 +5,13 @@ use borrow.Author.Rules.{rules}
 use Rattle.datatype.proofs.class_bits.Goals as goal
 
 pub overflow_mul-result : goal.overflow_mul-result
-overflow_mul-result c = omega (arith, c.wide.ensures, c.shared_slice_known-2-1.given 3)
+overflow_mul-result c = omega (arith, c.wide.ensures, c.type_inv.body 3)
 
 pub overflow_add-result : goal.overflow_add-result
-overflow_add-result c = omega (arith, c.wide.ensures, c.shared_slice_known-2-1.given 3, c.u16_at-low.ensures.bound)
+overflow_add-result c = omega (arith, c.wide.ensures, c.type_inv.body 3, c.u16_at-low.ensures.bound)
 
 pub returns : goal.returns
 returns c =
     let b = c.args.body.now in
     rw c.wide.ensures
-    (number-add 2 1 c.u16_at-low.ensures (number-one b 3 (omega arith) (c.shared_slice_known-2-1.given 3).fits) (omega arith))
+    (number-add 2 1 c.u16_at-low.ensures (number-one b 3 (omega arith) (c.type_inv.body 3).fits) (omega arith))

@@ -9,8 +9,8 @@ pub bits_sound-requires : goal.bits_sound-requires
 bits_sound-requires c =
     let s = c in
     record {
-      in_bounds = extent-holds s.args.class (length s.args.body.now) (sym c.has_bits.ensures ∙ c.if-has_bits.true) s.requires.0;
-      size_bound = s.requires.1;
+      in_bounds = extent-holds s.args.class (length s.args.body.now) (sym c.has_bits.ensures ∙ c.if-has_bits.true) s.requires.class_in_bounds;
+      size_bound = s.requires.size_bound;
     }
 
 pub returns-then-has_bits : goal.returns-then-has_bits

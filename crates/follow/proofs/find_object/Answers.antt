@@ -5,16 +5,11 @@ use borrow.Author.Rules.{rules}
 use Rattle.follow.proofs.find_object.Goals as goal
 
 pub follow-requires : goal.follow-requires
-follow-requires c =
-    let places = c in
-    let start = places in record {
-      opened = opened start.args.image.now start.args.superblock _ (length start.args.list.now) places.places-room.ensures start.requires.0;
-      lent = room-lent start.args.list.now _ places.places-room.ensures;
-      in_bounds = start.requires.1;
-    }
+follow-requires c = record {
+  opened = opened c.args.image.now c.args.superblock _ (length c.args.list.now) c.places-room.ensures c.requires.bounded;
+  lent = room-lent c.args.list.now _ c.places-room.ensures;
+  in_bounds = c.requires.in_bounds;
+}
 
 pub returns : goal.returns
-returns c =
-    let follow = c in
-    let places = follow in
-    rw (← places.places-room.ensures) follow.follow.ensures
+returns c = rw (← c.places-room.ensures) c.follow.ensures

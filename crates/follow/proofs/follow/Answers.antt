@@ -15,81 +15,52 @@ use Rattle.follow.proofs.FollowLaws.{rest-first, object-next, symbolic-next, sto
 use Rattle.follow.proofs.follow.Goals as goal
 
 pub returns-then-path-eq1 : goal.returns-then-path-eq1
-returns-then-path-eq1 c =
-    let start = c in
-    root-alone start.args.image.now start.args.path.now _ _ _ c.if-path-eq1.true
+returns-then-path-eq1 c = root-alone c.args.image.now c.args.path.now _ _ _ c.if-path-eq1.true
 
 pub loop-from-init : goal.loop-from-init
-loop-from-init c =
-    let start = c in (
-      ap (λ (ps : List (List ℕ)). target_run start.args.image.now (superblock_of start.args.superblock) start.args.room ps
-          start.args.superblock.root) (rest-first start.args.path.now c.if-path-eq1.false start.requires.1.1),
-      start.requires.1.0,
-      refl,
-      omega (arith, start.requires.1.1),
-    )
+loop-from-init c = (
+  ap (λ (ps : List (List ℕ)). target_run c.args.image.now (superblock_of c.args.superblock) c.args.room ps c.args.superblock.root)
+      (rest-first c.args.path.now c.if-path-eq1.false c.requires.in_bounds),
+  c.requires.lent,
+  refl,
+  omega (arith, c.requires.in_bounds),
+)
 
-pub slice_bounds-component-count : goal.slice_bounds-component-count
-slice_bounds-component-count c = omega (arith, c.component_end-end.ensures.after)
+pub slice_bounds-component-end : goal.slice_bounds-component-end
+slice_bounds-component-end c = c.component_end-end.ensures.inside
 
 pub component-requires : goal.component-requires
-component-requires c =
-    let at-loop = c in
-    let start = at-loop.before.before.before.before.before in
-    record {
-      opened = start.requires.0;
-      lent = at-loop.loop.invariant.1;
-    }
+component-requires c = record { opened = c.requires.opened; lent = c.loop-from.invariant.1 }
 
 pub returns-in-Stopped : goal.returns-in-Stopped
 returns-in-Stopped c =
-    let at-component = c in
-    let at-component-end = at-component.before.before.before in
-    let at-loop = at-component-end.before.before in
-    let start = at-loop.before.before.before.before.before in
-    subst (EndsAs (Stopped c.in-Stopped.x)) (sym at-loop.loop.invariant.0)
-    (stopped-next start.args.image.now start.args.path.now (superblock_of start.args.superblock) start.args.room at-loop.loop.from
-    at-component-end.component_end.result at-loop.loop.at (omega arith) at-component-end.component_end.ensures c.in-Stopped.x
-    (rw c.in-Stopped.is at at-component.component.ensures).found)
+    subst (EndsAs (Stopped c.in-Stopped.x)) (sym c.loop-from.invariant.0)
+    (stopped-next c.args.image.now c.args.path.now (superblock_of c.args.superblock) c.args.room c.loop-from.from
+    c.component_end-end.result c.loop-from.at (omega arith) c.component_end-end.ensures c.in-Stopped.x c.in-Stopped.ensures.found)
 
 pub returns-in-Symbolic : goal.returns-in-Symbolic
 returns-in-Symbolic c =
-    let at-component = c in
-    let at-component-end = at-component.before.before.before in
-    let at-loop = at-component-end.before.before in
-    let start = at-loop.before.before.before.before.before in
-    subst (EndsAs Symbolic) (sym at-loop.loop.invariant.0)
-    (symbolic-next start.args.image.now start.args.path.now (superblock_of start.args.superblock) start.args.room at-loop.loop.from
-    at-component-end.component_end.result at-loop.loop.at (omega arith) at-component-end.component_end.ensures
-    (rw c.in-Symbolic.is at at-component.component.ensures).found)
+    subst (EndsAs Symbolic) (sym c.loop-from.invariant.0)
+    (symbolic-next c.args.image.now c.args.path.now (superblock_of c.args.superblock) c.args.room c.loop-from.from
+    c.component_end-end.result c.loop-from.at (omega arith) c.component_end-end.ensures c.in-Symbolic.ensures.found)
 
 pub overflow_add-from : goal.overflow_add-from
-overflow_add-from c =
-    let at-component-end = c in
-    omega (arith, at-component-end.component_end.ensures.inside)
+overflow_add-from c = omega (arith, c.component_end-end.ensures.inside)
 
 pub loop-from-smaller : goal.loop-from-smaller
-loop-from-smaller c =
-    let at-component-end = c in
-    omega (arith, at-component-end.component_end.ensures.after)
+loop-from-smaller c = omega (arith, c.component_end-end.ensures.after)
 
 pub loop-from-preserved : goal.loop-from-preserved
-loop-from-preserved c =
-    let at-component = c in
-    let at-component-end = at-component.before.before.before in
-    let at-loop = at-component-end.before.before in
-    let start = at-loop.before.before.before.before.before in
-    let r = rw c.in-Object.is at at-component.component.ensures in (
-      at-loop.loop.invariant.0 ∙ object-next start.args.image.now start.args.path.now (superblock_of start.args.superblock) start.args.room
-          at-loop.loop.from at-component-end.component_end.result at-loop.loop.at (omega arith) at-component-end.component_end.ensures
-          c.in-Object.a r.found,
-      lent_same at-loop.loop.invariant.1 at-component.component.auto.1.1.0,
-      at-component.component.auto.1.1.0 ∙ at-loop.loop.invariant.2,
-      omega (arith, at-component-end.component_end.ensures.inside),
-    )
+loop-from-preserved c = (
+  c.loop-from.invariant.0 ∙ object-next c.args.image.now c.args.path.now (superblock_of c.args.superblock) c.args.room
+      c.loop-from.from c.component_end-end.result c.loop-from.at (omega arith) c.component_end-end.ensures
+      c.in-Object.a c.in-Object.ensures.found,
+  lent_same c.loop-from.invariant.1 c.component.auto.list,
+  c.component.auto.list ∙ c.loop-from.invariant.2.0,
+  omega (arith, c.component_end-end.ensures.inside),
+)
 
 pub returns : goal.returns
 returns c =
-    let start = c in
     subst (EndsAs (Object c.loop-from.at)) (sym c.loop-from.invariant.0)
-    (none_left start.args.image.now start.args.path.now _ _ c.loop-from.from c.loop-from.at (omega arith))
+    (none_left c.args.image.now c.args.path.now _ _ c.loop-from.from c.loop-from.at (omega arith))

@@ -26,37 +26,32 @@ returns-then-segment-at c =
 
 pub meets_block-requires : goal.meets_block-requires
 meets_block-requires c =
-    let start = c in
     record {
-      held = start.requires.1.0;
-      spanned = start.requires.1.1;
+      held = c.requires.held;
+      spanned = c.requires.spanned;
       size_nonzero = omega arith;
       size_in_bounds = omega arith;
     }
 
 pub returns-then-meets_block : goal.returns-then-meets_block
 returns-then-meets_block c =
-    let at_Meets = c in
-    let u = at_Meets.u64_at-size in
-    let a = at_Meets.args in
+    let u = c.u64_at-size in
+    let a = c.args in
     not-added (sym (ap not c.if-meets_block.true)
-    ∙ overlap-decides a.segment.now a.at u.result (omega arith) u.ensures.value (omega arith) (omega arith) _ at_Meets.meets_block.ensures)
+    ∙ overlap-decides a.segment.now a.at u.result (omega arith) u.ensures.value (omega arith) (omega arith) _ c.meets_block.ensures)
 
 pub returns-then-map-eq0 : goal.returns-then-map-eq0
 returns-then-map-eq0 c =
-    let at_test = c in
-    let at_Meets = at_test in
-    let u = at_Meets.u64_at-size in
-    let a = at_Meets.args in
+    let u = c.u64_at-size in
+    let a = c.args in
     was-added u.result u.ensures.value refl
-    (sym (ap not at_test.if-meets_block.false)
-    ∙ overlap-decides a.segment.now a.at u.result (omega arith) u.ensures.value (omega arith) (omega arith) _ at_Meets.meets_block.ensures)
+    (sym (ap not c.if-meets_block.false)
+    ∙ overlap-decides a.segment.now a.at u.result (omega arith) u.ensures.value (omega arith) (omega arith) _ c.meets_block.ensures)
     (λ h. absurd (omega arith))
 
 pub add-requires : goal.add-requires
 add-requires c =
-    let start = c in
-    let long = start.requires.0 (omega arith) in
+    let long = c.requires.segment_len_bound (omega arith) in
     record {
       le_size = omega arith;
       size_bound = omega arith;
@@ -65,16 +60,11 @@ add-requires c =
 
 pub returns : goal.returns
 returns c =
-    let at-add = c in
-    let at_cells = at-add.before.before in
-    let at_test = at_cells.before in
-    let at_Meets = at_test.before in
-    let u = at_Meets.before.before.before.before.u64_at in
-    let start = at_Meets.before.before.before.before.before.before.before.before.before in
-    let a = start.args in
+    let u = c.u64_at-size in
+    let a = c.args in
     let seg = a.segment.now in
-    was-added u.result u.ensures.value at-add.add.ensures.0
-    (sym (ap not at_test.if5.false)
-    ∙ overlap-decides seg a.at u.result (omega arith) u.ensures.value (omega arith) (omega arith) _ at_Meets.meets_block.ensures)
+    was-added u.result u.ensures.value c.add.ensures.map_len_unchanged
+    (sym (ap not c.if-meets_block.false)
+    ∙ overlap-decides seg a.at u.result (omega arith) u.ensures.value (omega arith) (omega arith) _ c.meets_block.ensures)
     (λ h.
-    at-add.add.ensures.1 seg _ (start.requires.1.0.mapped (omega arith)) (omega arith) (sym at_Meets.meets_block.ensures ∙ at_test.if5.false))
+    c.add.ensures.by_index seg _ (c.requires.held.mapped (omega arith)) (omega arith) (sym c.meets_block.ensures ∙ c.if-meets_block.false))

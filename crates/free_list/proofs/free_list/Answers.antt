@@ -11,7 +11,6 @@ use Rattle.free_list.proofs.FreeLaws.{block-unsound, block_inside, block_held, b
 use borrow.Author.Rules.{rules}
 use native.Mathlib.Omega.{arith}
 use Rattle.free_list.proofs.free_list.Goals as goal
-use Rattle.free_list.proofs.free_list.Goals.{Else-not-add_block}
 
 pub returns-then-head-eq1 : goal.returns-then-head-eq1
 unfolding chain
@@ -53,40 +52,33 @@ add_block-requires c =
 
 pub returns-then-not-add_block : goal.returns-then-not-add_block
 returns-then-not-add_block c =
-    let at-add = c in
-    let l = at-add.before.before.before.loop in
-    let t = at-add.add_block.ensures in
-    record { value = block-unsound l.invariant.1 t (omega arith) (not-true _ c.if-not-add_block.true); held = tt; long = t.long ∙ l.invariant.2 }
+    let l = c.loop-met in
+    let t = c.add_block.ensures in
+    record { value = block-unsound l.invariant.1 t (omega arith) c.if-not-add_block.true; held = tt; long = t.long ∙ l.invariant.2 }
 
 -- the block lies in the segment
-inside : (c : Else-not-add_block) →
-    let a = c in
-    let seg = a.args.segment.now in
-    (a.loop-met.at + 16 ≤ length seg) × (a.loop-met.at + u64 seg (a.loop-met.at + 8) ≤ length seg)
-inside c =
-    let at-add = c in
-    let l = at-add.before.before.before.loop in
-    block_inside l.invariant.1 at-add.add_block.ensures (omega arith) (not-false _ c.if-not-add_block.false)
-
 pub overflow_add-off : goal.overflow_add-off
-overflow_add-off c = omega (arith, (inside c).0)
+overflow_add-off c = omega (arith, (block_inside c.loop-met.invariant.1 c.add_block.ensures (omega arith) c.if-not-add_block.false).0)
 
 pub u64_at-requires : goal.u64_at-requires
-u64_at-requires c = omega (arith, (inside c).0)
+u64_at-requires c = omega (arith, (block_inside c.loop-met.invariant.1 c.add_block.ensures (omega arith) c.if-not-add_block.false).0)
 
 pub widened-span-requires : goal.widened-span-requires
-widened-span-requires c = omega (arith, (inside c).1, c.u64_at.ensures.value)
+widened-span-requires c =
+    omega (
+      arith,
+      (block_inside c.loop-met.invariant.1 c.add_block.ensures (omega arith) c.if-not-add_block.false).1,
+      c.u64_at.ensures.value,
+    )
 
 pub u64_at-next-requires : goal.u64_at-next-requires
-u64_at-next-requires c = omega (arith, (inside c).0)
+u64_at-next-requires c = omega (arith, (block_inside c.loop-met.invariant.1 c.add_block.ensures (omega arith) c.if-not-add_block.false).0)
 
 pub returns-then-next-eq1 : goal.returns-then-next-eq1
 returns-then-next-eq1 c =
-    let at_test = c in
-    let at-add = at_test in
-    let l = at-add.before.before.before.loop in
-    let t = at-add.add_block.ensures in
-    let s = not-false _ at_test.if-not-add_block.false in record {
+    let l = c.loop-met in
+    let t = c.add_block.ensures in
+    let s = c.if-not-add_block.false in record {
       value = block_last l.invariant.1 t (omega arith) s (sym c.u64_at-next.ensures.value ∙ c.if-next-eq1.true);
       held = block_held l.invariant.1 t (omega arith) s;
       long = t.long ∙ l.invariant.2;
@@ -94,18 +86,13 @@ returns-then-next-eq1 c =
 
 pub loop-met-preserved : goal.loop-met-preserved
 loop-met-preserved c =
-    let at_next = c in
-    let at-widened = at_next in
-    let at_size = at-widened.before in
-    let at_test = at_size.before in
-    let at-add = at_test.before.before.before in
-    let l = at-add.before.before.before.loop in
-    let t = at-add.add_block.ensures in (
+    let l = c.loop-met in
+    let t = c.add_block.ensures in (
       omega arith,
-      block_more l.invariant.1 t (omega arith) (not-false _ at_test.if3.false) at_next.u64_at-next.ensures.value c.if-next-eq1.false,
+      block_more l.invariant.1 t (omega arith) c.if-not-add_block.false c.u64_at-next.ensures.value c.if-next-eq1.false,
       t.long ∙ l.invariant.2,
-      block-spanned l.invariant.1 t (omega arith) l.invariant.3 at_size.u64_at.ensures.value at-widened.widened.ensures,
+      block-spanned l.invariant.1 t (omega arith) l.invariant.3 c.u64_at.ensures.value c.widened-span.ensures,
     )
 
 pub returns : goal.returns
-returns c = let l = c in record { value = free-long l.loop-met.invariant.1 (omega arith); held = tt; long = l.loop-met.invariant.2 }
+returns c = record { value = free-long c.loop-met.invariant.1 (omega arith); held = tt; long = c.loop-met.invariant.2 }

@@ -7,13 +7,6 @@ use Rattle.free_map.proofs.SearchLaws.{Left, left-first, turn-hit, turn-miss, tu
 use borrow.Author.Rules.{rules}
 use native.Mathlib.Omega.{arith}
 use Rattle.free_map.proofs.meets.Goals as goal
-use Rattle.free_map.proofs.meets.Goals.{After-cell_meets}
-
--- what was found in the cell
-found : (c : After-cell_meets) →
-    let l = c in
-    cell_meets (get_or l.args.map.now l.loop-c.c 0) l.loop-c.from 16 ≡ c.cell_meets.result
-found c = sym (rw c.cell.ensures at c.cell_meets.ensures)
 
 pub loop-c-init : goal.loop-c-init
 loop-c-init c =
@@ -24,7 +17,7 @@ pub returns-then-cell_meets : goal.returns-then-cell_meets
 returns-then-cell_meets c =
     let l = c in
     let a = l.args in
-    turn-hit a.map.now a.off a.size l.loop-c.c l.loop-c.from l.loop-c.invariant.3 (omega arith) (omega arith) (found c ∙ c.if-cell_meets.true)
+    turn-hit a.map.now a.off a.size l.loop-c.c l.loop-c.from l.loop-c.invariant.3 (omega arith) (omega arith) (sym (rw c.cell.ensures at c.cell_meets.ensures) ∙ c.if-cell_meets.true)
 
 pub loop-c-preserved : goal.loop-c-preserved
 loop-c-preserved c =
@@ -34,7 +27,7 @@ loop-c-preserved c =
       omega arith,
       omega arith,
       turn-miss a.map.now a.off a.size l.loop-c.c l.loop-c.from l.loop-c.invariant.3 (omega arith) (omega arith)
-          (found c ∙ c.if-cell_meets.false),
+          (sym (rw c.cell.ensures at c.cell_meets.ensures) ∙ c.if-cell_meets.false),
     )
 
 pub returns : goal.returns

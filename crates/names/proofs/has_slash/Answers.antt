@@ -10,7 +10,7 @@ use Rattle.names.proofs.has_slash.Goals as goal
 pub returns-then-not-contains_16 : goal.returns-then-not-contains_16
 returns-then-not-contains_16 c =
     let a = c.args in
-    sym (fewer a.segment.now a.off (sym c.contains_16.ensures ∙ not-true _ c.if-not-contains_16.true) a.n (omega arith))
+    sym (fewer a.segment.now a.off (sym c.contains_16.ensures ∙ c.if-not-contains_16.true) a.n (omega arith))
 
 pub returns : goal.returns
 returns c =

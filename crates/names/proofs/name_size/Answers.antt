@@ -8,60 +8,47 @@ use Rattle.names.proofs.SizeLaws.{size-slashed, size-slashed-short}
 use native.Mathlib.Omega.{arith}
 use borrow.Author.Rules.{rules}
 use Rattle.names.proofs.name_size.Goals as goal
-use Rattle.names.proofs.name_size.Goals.{Else-not-contains_16, Then-not-contains_16}
-
--- a NUL is among sixteen bytes, or none
-with-nul : (c : Else-not-contains_16) →
-    let a = c.args in contains 0 (part a.segment.now a.off 16) ≡ true
-with-nul c = sym c.contains_16.ensures ∙ not-false _ c.if-not-contains_16.false
-
-without-nul : (c : Then-not-contains_16) →
-    let a = c.args in contains 0 (part a.segment.now a.off 16) ≡ false
-without-nul c = sym c.contains_16.ensures ∙ not-true _ c.if-not-contains_16.true
 
 pub size_behind-requires : goal.size_behind-requires
-size_behind-requires c = let start = c in record {
-  segment_in_bounds = start.requires;
-  passed_bound = omega arith;
-  plain = plain-none _ _;
-}
+size_behind-requires c =
+    record {
+      segment_in_bounds = c.requires;
+      passed_bound = omega arith;
+      plain = plain-none _ _;
+    }
 
 pub returns-then-contains_16 : goal.returns-then-contains_16
 returns-then-contains_16 c =
-    let none = c in
-    let start = none in
-    size-slashed _ _ start.requires
-    (slash-first start.args.segment.now start.args.off (omega arith) (without-nul none) (sym c.contains_16-then-not-contains_16.ensures ∙ c.if-contains_16.true))
+    let without-nul : contains 0 (part c.args.segment.now c.args.off 16) ≡ false = sym c.contains_16.ensures ∙ c.if-not-contains_16.true in
+    size-slashed _ _ c.requires
+    (slash-first c.args.segment.now c.args.off (omega arith) without-nul (sym c.contains_16-then-not-contains_16.ensures ∙ c.if-contains_16.true))
 
 pub size_behind-requires-then-not-contains_16 : goal.size_behind-requires-then-not-contains_16
 size_behind-requires-then-not-contains_16 c =
-    let none = c in
-    let start = none in
+    let without-nul : contains 0 (part c.args.segment.now c.args.off 16) ≡ false = sym c.contains_16.ensures ∙ c.if-not-contains_16.true in
     record {
-      segment_in_bounds = start.requires;
+      segment_in_bounds = c.requires;
       passed_bound = omega arith;
-      plain = goes_on _ _ (omega arith) (without-nul none) (sym c.contains_16-then-not-contains_16.ensures ∙ c.if-contains_16.false);
+      plain = goes_on _ _ (omega arith) without-nul (sym c.contains_16-then-not-contains_16.ensures ∙ c.if-contains_16.false);
     }
 
 pub has_slash-requires : goal.has_slash-requires
 has_slash-requires c =
+    let with-nul : contains 0 (part c.args.segment.now c.args.off 16) ≡ true = sym c.contains_16.ensures ∙ c.if-not-contains_16.false in
     let a = c.args in
     record {
       off_in_bounds = omega arith;
-      n_bound = omega (arith, ends-within a.segment.now a.off (with-nul c) c.string_size-n.ensures);
+      n_bound = omega (arith, ends-within a.segment.now a.off with-nul c.string_size-n.ensures);
     }
 
 pub returns-then-has_slash : goal.returns-then-has_slash
 returns-then-has_slash c =
-    let at_size = c in
-    let start = at_size in
-    size-slashed-short _ _ start.requires at_size.string_size-n.ensures (sym c.has_slash.ensures ∙ c.if-has_slash.true)
+    size-slashed-short _ _ c.requires c.string_size-n.ensures (sym c.has_slash.ensures ∙ c.if-has_slash.true)
 
 pub size_unless_dot-requires : goal.size_unless_dot-requires
 size_unless_dot-requires c =
-    let at_size = c in
-    let start = at_size in
+    let with-nul : contains 0 (part c.args.segment.now c.args.off 16) ≡ true = sym c.contains_16.ensures ∙ c.if-not-contains_16.false in
     record {
-      segment_in_bounds = start.requires;
-      slashless = ends-plain _ _ (with-nul at_size) at_size.string_size-n.ensures (sym c.has_slash.ensures ∙ c.if-has_slash.false);
+      segment_in_bounds = c.requires;
+      slashless = ends-plain _ _ with-nul c.string_size-n.ensures (sym c.has_slash.ensures ∙ c.if-has_slash.false);
     }

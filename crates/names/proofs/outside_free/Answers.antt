@@ -8,32 +8,31 @@ use Rattle.names.proofs.ValueLaws.{free-decides}
 use native.Mathlib.Omega.{arith}
 use borrow.Author.Rules.{rules}
 use Rattle.names.proofs.outside_free.Goals as goal
-use Rattle.names.proofs.outside_free.Goals.{After-nul_within-end}
-
--- the NUL that ends the string
-ended : (c : After-nul_within-end) →
-    let a = c.args in c.nul_within-end.result ≡ a.off + before_nul (drop a.off a.segment.now)
-ended c = let start = c in omega (arith, c.nul_within-end.ensures.value, start.requires.0)
 
 pub returns-then-map-ne0 : goal.returns-then-map-ne0
 returns-then-map-ne0 c =
-    let start = c in
-    c.ends_outside.ensures _ (start.requires.1.0.mapped (omega arith)) start.requires.1.1 (omega arith)
+    c.ends_outside.ensures _ (c.requires.held.mapped (omega arith)) c.requires.marked (omega arith)
 
 pub overflow_sub-end : goal.overflow_sub-end
-overflow_sub-end c = search (rules, ended c)
+overflow_sub-end c =
+    let ended : c.nul_within-end.result ≡ c.args.off + before_nul (drop c.args.off c.args.segment.now) = omega (arith, c.nul_within-end.ensures.value, c.requires.segment_in_bounds) in
+    search (rules, ended)
 
 pub overflow_add-end : goal.overflow_add-end
-overflow_add-end c = search (rules, ended c)
+overflow_add-end c =
+    let ended : c.nul_within-end.result ≡ c.args.off + before_nul (drop c.args.off c.args.segment.now) = omega (arith, c.nul_within-end.ensures.value, c.requires.segment_in_bounds) in
+    search (rules, ended)
 
 pub overlaps_free-requires : goal.overlaps_free-requires
-overlaps_free-requires c = let e = ended c in record {
-  chained = c.requires.1.0.chained;
-  size_in_bounds = omega arith;
-}
+overlaps_free-requires c =
+    let ended : c.nul_within-end.result ≡ c.args.off + before_nul (drop c.args.off c.args.segment.now) = omega (arith, c.nul_within-end.ensures.value, c.requires.segment_in_bounds) in
+    let e = ended in record {
+      chained = c.requires.held.chained;
+      size_in_bounds = omega arith;
+    }
 
 pub returns : goal.returns
 returns c =
-    let start = c in
-    let e = ended c in
-    ap not c.overlaps_free.ensures ∙ free-decides start.args.segment.now _ start.args.off _ start.requires.0 (omega arith)
+    let ended : c.nul_within-end.result ≡ c.args.off + before_nul (drop c.args.off c.args.segment.now) = omega (arith, c.nul_within-end.ensures.value, c.requires.segment_in_bounds) in
+    let e = ended in
+    ap not c.overlaps_free.ensures ∙ free-decides c.args.segment.now _ c.args.off _ c.requires.segment_in_bounds (omega arith)

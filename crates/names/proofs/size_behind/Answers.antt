@@ -8,16 +8,6 @@ use Rattle.names.proofs.SizeLaws.{size_above, size-slash, size-plain}
 use native.Mathlib.Omega.{arith}
 use borrow.Author.Rules.{rules}
 use Rattle.names.proofs.size_behind.Goals as goal
-use Rattle.names.proofs.size_behind.Goals.{After-nul_within-end}
-
--- one byte more than a name may have was looked at
-looked : (c : After-nul_within-end) →
-    let a = c.args in
-    NulWithin a.segment.now (a.off + a.passed) (name_most + 1 - a.passed) c.nul_within-end.result
-looked c = rw c.the_limits-limits.ensures.name_most_equal at c.nul_within-end.ensures
-
-few : (c : After-nul_within-end) → c.args.passed ≤ name_most
-few c = omega (arith, sixteen, c.requires)
 
 pub overflow_add-limits : goal.overflow_add-limits
 overflow_add-limits c = omega (arith, name-bound, c.the_limits-limits.ensures.name_most_equal)
@@ -27,23 +17,23 @@ overflow_sub-limits c = omega (arith, sixteen, c.the_limits-limits.ensures.name_
 
 pub returns-then-limits-end : goal.returns-then-limits-end
 returns-then-limits-end c =
-    let found = c in
-    let start = found in
-    let most = found.the_limits-limits.ensures.name_most_equal in
-    size_above _ _ start.requires.0 start.requires.1.1 (few found) (looked found) (omega (arith, most))
+    let looked : NulWithin c.args.segment.now (c.args.off + c.args.passed) (name_most + 1 - c.args.passed) c.nul_within-end.result = rw c.the_limits-limits.ensures.name_most_equal at c.nul_within-end.ensures in
+    let few : c.args.passed ≤ name_most = omega (arith, sixteen, c.requires) in
+    let most = c.the_limits-limits.ensures.name_most_equal in
+    size_above _ _ c.requires.segment_in_bounds c.requires.plain few looked (omega (arith, most))
 
 pub returns-then-contains : goal.returns-then-contains
 returns-then-contains c =
-    let found = c in
-    let start = found in
-    let most = found.the_limits-limits.ensures.name_most_equal in
-    size-slash _ _ start.requires.0 start.requires.1.1 (few found) (looked found) (omega (arith, most)) (sym c.contains.ensures ∙ c.if-contains.true)
+    let looked : NulWithin c.args.segment.now (c.args.off + c.args.passed) (name_most + 1 - c.args.passed) c.nul_within-end.result = rw c.the_limits-limits.ensures.name_most_equal at c.nul_within-end.ensures in
+    let few : c.args.passed ≤ name_most = omega (arith, sixteen, c.requires) in
+    let most = c.the_limits-limits.ensures.name_most_equal in
+    size-slash _ _ c.requires.segment_in_bounds c.requires.plain few looked (omega (arith, most)) (sym c.contains.ensures ∙ c.if-contains.true)
 
 pub size_unless_dot-requires : goal.size_unless_dot-requires
 size_unless_dot-requires c =
-    let found = c in
-    let start = found in
-    let most = found.the_limits-limits.ensures.name_most_equal in record {
-      segment_in_bounds = start.requires.0;
-      slashless = size-plain _ _ start.requires.0 start.requires.1.1 (few found) (looked found) (omega (arith, most)) (sym c.contains.ensures ∙ c.if-contains.false);
+    let looked : NulWithin c.args.segment.now (c.args.off + c.args.passed) (name_most + 1 - c.args.passed) c.nul_within-end.result = rw c.the_limits-limits.ensures.name_most_equal at c.nul_within-end.ensures in
+    let few : c.args.passed ≤ name_most = omega (arith, sixteen, c.requires) in
+    let most = c.the_limits-limits.ensures.name_most_equal in record {
+      segment_in_bounds = c.requires.segment_in_bounds;
+      slashless = size-plain _ _ c.requires.segment_in_bounds c.requires.plain few looked (omega (arith, most)) (sym c.contains.ensures ∙ c.if-contains.false);
     }

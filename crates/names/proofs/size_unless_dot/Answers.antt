@@ -5,10 +5,10 @@ use borrow.Author.Rules.{rules}
 use Rattle.names.proofs.size_unless_dot.Goals as goal
 
 pub returns-then-n-ne1 : goal.returns-then-n-ne1
-returns-then-n-ne1 c = let start = c in size-other _ _ start.requires.0 start.requires.1 (λ e. omega arith)
+returns-then-n-ne1 c = let start = c in size-other _ _ start.requires.segment_in_bounds start.requires.slashless (λ e. omega arith)
 
 pub returns-then-segment-off-eq46 : goal.returns-then-segment-off-eq46
-returns-then-segment-off-eq46 c = let start = c in size-dot _ _ start.requires.0 start.requires.1 (omega arith) (omega arith)
+returns-then-segment-off-eq46 c = let start = c in size-dot _ _ start.requires.segment_in_bounds start.requires.slashless (omega arith) (omega arith)
 
 pub returns : goal.returns
-returns c = let start = c in size-one _ _ start.requires.0 start.requires.1 (omega arith) (λ e. omega arith)
+returns c = let start = c in size-one _ _ start.requires.segment_in_bounds start.requires.slashless (omega arith) (λ e. omega arith)

@@ -1,9 +1,5 @@
 -- No byte from i on is a NUL.
-use Prim.Native.Nat.{◌≤◌}
-use lib.ListN.{length}
-use Rattle.nul.specs.Nul.{NoneFrom}
 use Rattle.nul.proofs.Search.{none-next}
-use borrow.Author.Rules.{rules}
 use native.Mathlib.Omega.{arith}
 use Rattle.nul.proofs.last_near.Goals as goal
 

@@ -2,9 +2,6 @@
 use Prim.Native.Nat.{◌≤◌}
 use lib.ListN.{length}
 use Rattle.nul.specs.Nul.{NoneFrom}
-use Rattle.nul.proofs.Search.{none-next}
-use borrow.Author.Rules.{rules}
-use native.Mathlib.Omega.{arith}
 use Rattle.nul.proofs.last_near.Given as goal
 
 abbrev pub invariant-loop-i : goal.invariant-loop-i

@@ -1,11 +1,8 @@
 -- No byte from `end` on is a NUL; sixteen bytes without one move `end`.
-use Prim.Native.Nat.{◌-◌, ◌≤◌}
+use Prim.Native.Nat.{◌-◌}
 use mathlib.Core.Path.{sym, ◌∙◌}
-use lib.ListN.{length}
 use Rattle.order.proofs.Sixteen.{none_found}
-use Rattle.nul.specs.Nul.{NoneFrom}
 use Rattle.nul.proofs.Search.{none_from}
-use borrow.Author.Rules.{rules}
 use native.Mathlib.Omega.{arith}
 use Rattle.nul.proofs.last_nul.Goals as goal
 

@@ -1,12 +1,7 @@
 -- No byte from `end` on is a NUL; sixteen bytes without one move `end`.
-use Prim.Native.Nat.{◌-◌, ◌≤◌}
-use mathlib.Core.Path.{sym, ◌∙◌}
+use Prim.Native.Nat.{◌≤◌}
 use lib.ListN.{length}
-use Rattle.order.proofs.Sixteen.{none_found}
 use Rattle.nul.specs.Nul.{NoneFrom}
-use Rattle.nul.proofs.Search.{none_from}
-use borrow.Author.Rules.{rules}
-use native.Mathlib.Omega.{arith}
 use Rattle.nul.proofs.last_nul.Given as goal
 
 abbrev pub invariant-loop-end : goal.invariant-loop-end

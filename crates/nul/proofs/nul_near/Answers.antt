@@ -1,9 +1,6 @@
 -- No byte before i is a NUL; each byte that is none moves i.
-use Prim.Native.Nat.{◌-◌}
-use lib.ListN.{length}
 use Rattle.nul.proofs.NulLaws.{nul-here, nul-none}
-use Rattle.nul.proofs.Search.{At, at-start, at_next, within-nul}
-use borrow.Author.Rules.{rules}
+use Rattle.nul.proofs.Search.{at-start, at_next, within-nul}
 use native.Mathlib.Omega.{arith}
 use Rattle.nul.proofs.nul_near.Goals as goal
 

@@ -1,9 +1,6 @@
 -- No byte before i is a NUL; sixteen bytes without one move i.
-use Prim.Native.Nat.{◌-◌}
 use mathlib.Core.Path.{sym, ◌∙◌}
-use lib.ListN.{length}
-use Rattle.nul.proofs.Search.{At, at-start, at-16}
-use borrow.Author.Rules.{rules}
+use Rattle.nul.proofs.Search.{at-start, at-16}
 use native.Mathlib.Omega.{arith}
 use Rattle.nul.proofs.nul_within.Goals as goal
 

@@ -1,10 +1,7 @@
 -- No byte before i is a NUL; sixteen bytes without one move i.
 use Prim.Native.Nat.{◌-◌}
-use mathlib.Core.Path.{sym, ◌∙◌}
 use lib.ListN.{length}
-use Rattle.nul.proofs.Search.{At, at-start, at-16}
-use borrow.Author.Rules.{rules}
-use native.Mathlib.Omega.{arith}
+use Rattle.nul.proofs.Search.{At}
 use Rattle.nul.proofs.nul_within.Given as goal
 
 abbrev pub invariant-loop-i : goal.invariant-loop-i

@@ -1,11 +1,6 @@
 -- The bytes passed are the same.
 use Prim.Native.Nat.{◌-◌}
-use lib.ListN.{get_or}
 use Rattle.order.specs.Same.{SameStart}
-use Rattle.order.proofs.Sixteen.{same_none}
-use Rattle.order.proofs.Windows.{Window, same-fewer, byte-window, window_same, window-differ}
-use borrow.Author.Rules.{rules}
-use native.Mathlib.Omega.{arith}
 use Rattle.order.proofs.below_bytes.Given as goal
 
 abbrev pub invariant-loop-i : goal.invariant-loop-i

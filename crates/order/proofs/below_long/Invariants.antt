@@ -1,9 +1,6 @@
 -- The bytes passed are the same. Of the last eight bytes those that were passed are the same, too.
 use Prim.Native.Nat.{◌-◌}
 use Rattle.order.specs.Same.{SameStart}
-use Rattle.order.proofs.Windows.{Window, same-fewer, window_same, window-differ}
-use borrow.Author.Rules.{rules}
-use native.Mathlib.Omega.{arith}
 use Rattle.order.proofs.below_long.Given as goal
 
 abbrev pub invariant-loop-i : goal.invariant-loop-i

@@ -2,7 +2,6 @@
 use Prim.Native.Nat.{◌+◌}
 use Rattle.order.proofs.FirstLaws.{part-byte, part_end}
 use native.Mathlib.Omega.{arith}
-use borrow.Author.Rules.{rules}
 use Rattle.order.proofs.byte_or_zero.Goals as goal
 
 pub overflow_cast-result : goal.overflow_cast-result

@@ -1,10 +1,6 @@
 -- What the whole search finds is what is found from the ith byte on; sixteen bytes without it move i. The last sixteen have the rest.
-use Prim.Native.Nat.{◌≤◌, ◌-◌}
-use mathlib.Core.Path.{◌≡◌, refl, sym, ◌∙◌}
-use lib.ListN.{length, drop}
-use Rattle.format.specs.Bytes.{contains}
+use mathlib.Core.Path.{refl, sym, ◌∙◌}
 use Rattle.order.proofs.Sixteen.{contains-found, contains-behind, contains-last}
-use borrow.Author.Rules.{rules}
 use native.Mathlib.Omega.{arith}
 use Rattle.order.proofs.contains.Goals as goal
 

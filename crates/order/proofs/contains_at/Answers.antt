@@ -1,13 +1,10 @@
 -- It was found exactly if it is one of the bytes looked at.
-use Prim.Native.Nat.{◌-◌, ◌≤◌}
 use mathlib.Core.Path.{◌≡◌, refl}
-use mathlib.Core.Logic.{⊎_elim}
-use lib.Dec.{eqb}
-use Rattle.format.specs.Bytes.{part, contains}
+use Rattle.format.specs.Bytes.{contains}
 use Rattle.order.proofs.Sixteen.{found_turn, missed-turn}
-use borrow.Author.Rules.{rules}
 use native.Mathlib.Omega.{arith}
 use Rattle.order.proofs.contains_at.Goals as goal
+use Rattle.order.proofs.contains_at.Goals.{then-x-s, else-x-s}
 
 pub loop-k-init : goal.loop-k-init
 unfolding contains
@@ -18,8 +15,10 @@ loop-k-preserved c =
     let l = c in
     let a = l.args in (
       omega arith,
-      ⊎_elim (λ w. rw w.1 (found_turn a.x a.s.now a.at l.loop-k.k (omega arith) w.0.taken))
-          (λ w. rw w.1 (missed-turn a.x a.s.now a.at l.loop-k.k (omega arith) l.loop-k.invariant.1 w.0.left)) c.if-x-s.branch,
+      elim c.if-x-s.branch [
+        | then-x-s w ↦ rw w.found-is (found_turn a.x a.s.now a.at l.loop-k.k (omega arith) w.if-x-s.true)
+        | else-x-s w ↦ rw w.found-is (missed-turn a.x a.s.now a.at l.loop-k.k (omega arith) l.loop-k.invariant.1 w.if-x-s.false)
+      ],
     )
 
 pub returns : goal.returns

@@ -1,12 +1,8 @@
 -- It was found exactly if it is one of the bytes looked at.
 use Prim.Native.Nat.{◌-◌, ◌≤◌}
-use mathlib.Core.Path.{◌≡◌, refl}
-use mathlib.Core.Logic.{⊎_elim}
+use mathlib.Core.Path.{◌≡◌}
 use lib.Dec.{eqb}
 use Rattle.format.specs.Bytes.{part, contains}
-use Rattle.order.proofs.Sixteen.{found_turn, missed-turn}
-use borrow.Author.Rules.{rules}
-use native.Mathlib.Omega.{arith}
 use Rattle.order.proofs.contains_at.Given as goal
 
 abbrev pub invariant-loop-k : goal.invariant-loop-k

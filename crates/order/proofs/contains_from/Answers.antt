@@ -1,10 +1,6 @@
 -- What the search finds is what is found from the ith byte on.
-use Prim.Native.Nat.{◌≤◌, ◌-◌}
-use mathlib.Core.Path.{◌≡◌, refl}
-use lib.ListN.{length, drop}
-use Rattle.format.specs.Bytes.{contains}
+use mathlib.Core.Path.{refl}
 use Rattle.order.proofs.Comparing.{contains-here, contains-next, contains-end}
-use borrow.Author.Rules.{rules}
 use native.Mathlib.Omega.{arith}
 use Rattle.order.proofs.contains_from.Goals as goal
 

@@ -1,11 +1,8 @@
 -- What the search finds is what is found from the ith byte on.
 use Prim.Native.Nat.{◌≤◌, ◌-◌}
-use mathlib.Core.Path.{◌≡◌, refl}
+use mathlib.Core.Path.{◌≡◌}
 use lib.ListN.{length, drop}
 use Rattle.format.specs.Bytes.{contains}
-use Rattle.order.proofs.Comparing.{contains-here, contains-next, contains-end}
-use borrow.Author.Rules.{rules}
-use native.Mathlib.Omega.{arith}
 use Rattle.order.proofs.contains_from.Given as goal
 
 abbrev pub invariant-loop-i : goal.invariant-loop-i

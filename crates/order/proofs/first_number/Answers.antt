@@ -1,7 +1,6 @@
 -- Eight bytes, if the string has so many; else those that it has.
 use Rattle.order.proofs.FirstLaws.{read_none, read-long, read_short}
 use native.Mathlib.Omega.{arith}
-use borrow.Author.Rules.{rules}
 use Rattle.order.proofs.first_number.Goals as goal
 
 pub returns-then-size-eq0 : goal.returns-then-size-eq0

@@ -1,12 +1,9 @@
 -- The number of the first k bytes.
-use Prim.Native.Nat.{◌-◌, ◌≤◌}
-use mathlib.Core.Path.{◌≡◌, ap, sym, ◌∙◌}
+use mathlib.Core.Path.{◌≡◌, sym}
 use native.Mathlib.Numerals.{add-one}
 use Rattle.format.specs.Bytes.{part}
-use Rattle.order.specs.BigEndian.{first_number}
 use Rattle.order.proofs.BigEndianLaws.{bytes-part}
 use Rattle.order.proofs.FirstLaws.{first-none, first_more, first_fits}
-use borrow.Author.Rules.{rules}
 use native.Mathlib.Omega.{arith}
 use Rattle.order.proofs.first_number_slow.Goals as goal
 

@@ -1,13 +1,8 @@
 -- The number of the first k bytes.
 use Prim.Native.Nat.{◌-◌, ◌≤◌}
-use mathlib.Core.Path.{◌≡◌, ap, sym, ◌∙◌}
-use native.Mathlib.Numerals.{add-one}
+use mathlib.Core.Path.{◌≡◌}
 use Rattle.format.specs.Bytes.{part}
 use Rattle.order.specs.BigEndian.{first_number}
-use Rattle.order.proofs.BigEndianLaws.{bytes-part}
-use Rattle.order.proofs.FirstLaws.{first-none, first_more, first_fits}
-use borrow.Author.Rules.{rules}
-use native.Mathlib.Omega.{arith}
 use Rattle.order.proofs.first_number_slow.Given as goal
 
 abbrev pub invariant-loop-k : goal.invariant-loop-k

@@ -1,7 +1,6 @@
 -- Lists of different lengths differ; else the comparison decides, behind the bytes that both begin with.
 use Rattle.order.proofs.Comparing.{same-lengths}
 use native.Mathlib.Omega.{arith}
-use borrow.Author.Rules.{rules}
 use Rattle.order.proofs.same.Goals as goal
 
 pub returns-then-a-b : goal.returns-then-a-b

@@ -1,13 +1,10 @@
 -- A difference was found exactly if the bytes looked at aren't the same.
-use Prim.Native.Nat.{◌-◌, ◌≤◌}
 use mathlib.Core.Path.{◌≡◌, refl}
-use mathlib.Core.Logic.{⊎_elim}
-use lib.Dec.{eqb}
-use Rattle.format.specs.Bytes.{part, same_bytes}
+use Rattle.format.specs.Bytes.{same_bytes}
 use Rattle.order.proofs.Sixteen.{differ-turn, same_turn}
-use borrow.Author.Rules.{rules}
 use native.Mathlib.Omega.{arith}
 use Rattle.order.proofs.same_16.Goals as goal
+use Rattle.order.proofs.same_16.Goals.{then-a-at, else-a-at}
 
 pub loop-k-init : goal.loop-k-init
 unfolding same_bytes
@@ -18,9 +15,11 @@ loop-k-preserved c =
     let l = c in
     let a = l.args in (
       omega arith,
-      ⊎_elim (λ w. rw w.1 (differ-turn a.a.now a.b.now a.at l.loop-k.k (omega arith) (omega arith) w.0.taken))
-          (λ w. rw w.1 (same_turn a.a.now a.b.now a.at l.loop-k.k (omega arith) (omega arith) l.loop-k.invariant.1 w.0.left))
-          c.if-a-at.branch,
+      elim c.if-a-at.branch [
+        | then-a-at w ↦ rw w.differ-is (differ-turn a.a.now a.b.now a.at l.loop-k.k (omega arith) (omega arith) w.if-a-at.true)
+        | else-a-at w ↦
+            rw w.differ-is (same_turn a.a.now a.b.now a.at l.loop-k.k (omega arith) (omega arith) l.loop-k.invariant.1 w.if-a-at.false)
+      ],
     )
 
 pub returns : goal.returns

@@ -1,12 +1,8 @@
 -- A difference was found exactly if the bytes looked at aren't the same.
 use Prim.Native.Nat.{◌-◌, ◌≤◌}
-use mathlib.Core.Path.{◌≡◌, refl}
-use mathlib.Core.Logic.{⊎_elim}
+use mathlib.Core.Path.{◌≡◌}
 use lib.Dec.{eqb}
 use Rattle.format.specs.Bytes.{part, same_bytes}
-use Rattle.order.proofs.Sixteen.{differ-turn, same_turn}
-use borrow.Author.Rules.{rules}
-use native.Mathlib.Omega.{arith}
 use Rattle.order.proofs.same_8.Given as goal
 
 abbrev pub invariant-loop-k : goal.invariant-loop-k

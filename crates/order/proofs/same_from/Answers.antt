@@ -1,16 +1,11 @@
 -- Lists of one length; what the whole comparison finds is what is found from the ith byte on.
-use Prim.Native.Nat.{◌≤◌, ◌-◌}
-use mathlib.Core.Path.{◌≡◌}
-use lib.ListN.{length, drop}
-use Rattle.format.specs.Bytes.{same_bytes}
 use Rattle.order.proofs.Comparing.{same-differ, same_next, same_end}
 use Rattle.order.proofs.Sixteen.{same-behind}
-use borrow.Author.Rules.{rules}
 use native.Mathlib.Omega.{arith}
 use Rattle.order.proofs.same_from.Goals as goal
 
 pub loop-i-init : goal.loop-i-init
-loop-i-init c = (omega (arith, c.requires.1.first), same-behind _ _ _ c.requires.1)
+loop-i-init c = (omega (arith, c.requires.same_start.first), same-behind _ _ _ c.requires.same_start)
 
 pub returns-then-a-i : goal.returns-then-a-i
 returns-then-a-i c =

@@ -3,10 +3,6 @@ use Prim.Native.Nat.{◌≤◌, ◌-◌}
 use mathlib.Core.Path.{◌≡◌}
 use lib.ListN.{length, drop}
 use Rattle.format.specs.Bytes.{same_bytes}
-use Rattle.order.proofs.Comparing.{same-differ, same_next, same_end}
-use Rattle.order.proofs.Sixteen.{same-behind}
-use borrow.Author.Rules.{rules}
-use native.Mathlib.Omega.{arith}
 use Rattle.order.proofs.same_from.Given as goal
 
 abbrev pub invariant-loop-i : goal.invariant-loop-i

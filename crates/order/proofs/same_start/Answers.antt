@@ -1,9 +1,5 @@
 -- The bytes passed are the same.
-use Prim.Native.Nat.{◌-◌}
 use mathlib.Core.Path.{sym, ◌∙◌}
-use borrow.Author.Tests.{not-false}
-use lib.ListN.{length}
-use Rattle.order.specs.Same.{SameStart}
 use Rattle.order.proofs.Sixteen.{same_none, same_more}
 use native.Mathlib.Omega.{arith}
 use Rattle.order.proofs.same_start.Goals as goal
@@ -36,7 +32,7 @@ pub loop-i-preserved : goal.loop-i-preserved
 loop-i-preserved c =
     let l = c.loop-i in
     same_more _ _ l.i 16 (omega (arith, l.invariant.first)) (omega (arith, l.invariant.second)) l.invariant
-    (sym c.same_16.ensures ∙ not-false _ c.if-not-same_16.false)
+    (sym c.same_16.ensures ∙ c.if-not-same_16.false)
 
 pub returns : goal.returns
 returns c = c.loop-i.invariant

@@ -1,11 +1,7 @@
 -- The bytes passed are the same.
 use Prim.Native.Nat.{◌-◌}
-use mathlib.Core.Path.{sym, ◌∙◌}
-use borrow.Author.Tests.{not-false}
 use lib.ListN.{length}
 use Rattle.order.specs.Same.{SameStart}
-use Rattle.order.proofs.Sixteen.{same_none, same_more}
-use native.Mathlib.Omega.{arith}
 use Rattle.order.proofs.same_start.Given as goal
 
 abbrev pub invariant-loop-i : goal.invariant-loop-i

@@ -1,7 +1,6 @@
 -- Behind eight bytes or fewer there are none; else the number of those behind the first eight is read.
 use Rattle.order.proofs.FirstLaws.{second_none, second-some}
 use native.Mathlib.Omega.{arith}
-use borrow.Author.Rules.{rules}
 use Rattle.order.proofs.second_number.Goals as goal
 
 pub returns-then-size-le8 : goal.returns-then-size-le8

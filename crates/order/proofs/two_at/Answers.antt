@@ -2,7 +2,6 @@
 use Prim.Native.Nat.{◌+◌}
 use Rattle.order.proofs.BigEndianLaws.{number-one, number-add}
 use native.Mathlib.Omega.{arith}
-use borrow.Author.Rules.{rules}
 use Rattle.order.proofs.two_at.Goals as goal
 
 pub overflow_cast-result : goal.overflow_cast-result

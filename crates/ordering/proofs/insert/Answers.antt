@@ -1,7 +1,7 @@
 -- The words from i on have moved.
-use Prim.Native.Nat.{◌+◌, ◌≤◌}
+use Prim.Native.Nat.{◌+◌}
 use mathlib.Core.Path.{◌≡◌, refl}
-use Rattle.ordering.proofs.OrderLaws.{Moved, moved_none, moved_more, moved_in}
+use Rattle.ordering.proofs.OrderLaws.{moved_none, moved_more, moved_in}
 use borrow.Author.Rules.{rules}
 use native.Mathlib.Omega.{arith}
 use Rattle.ordering.proofs.insert.Goals as goal

@@ -1,9 +1,6 @@
 -- The words from i on have moved.
 use Prim.Native.Nat.{◌+◌, ◌≤◌}
-use mathlib.Core.Path.{◌≡◌, refl}
-use Rattle.ordering.proofs.OrderLaws.{Moved, moved_none, moved_more, moved_in}
-use borrow.Author.Rules.{rules}
-use native.Mathlib.Omega.{arith}
+use Rattle.ordering.proofs.OrderLaws.{Moved}
 use Rattle.ordering.proofs.insert.Given as goal
 
 abbrev pub invariant-loop-i : goal.invariant-loop-i

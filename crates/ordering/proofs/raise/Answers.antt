@@ -1,9 +1,6 @@
 -- The words from i on have moved up.
-use Prim.Native.Nat.{◌≤◌}
 use mathlib.Core.Path.{◌≡◌}
-use Rattle.ordering.specs.Merge.{Raised}
 use Rattle.ordering.proofs.RaiseLaws.{raised-none, raised-more}
-use borrow.Author.Rules.{rules}
 use native.Mathlib.Omega.{arith}
 use Rattle.ordering.proofs.raise.Goals as goal
 

@@ -1,12 +1,6 @@
 -- What holds of all components is what holds of those from at on.
-use Prim.Native.Nat.{◌≤◌, ◌-◌}
-use mathlib.Core.Path.{◌≡◌, refl, sym, ◌∙◌}
-use borrow.Author.Tests.{not-true, not-false}
-use lib.ListN.{length, drop}
-use Rattle.format.specs.Bytes.{part}
-use Rattle.format.specs.Path.{path_parts, is_component, all_components}
+use mathlib.Core.Path.{refl, sym, ◌∙◌}
 use Rattle.path.proofs.PathLaws.{all-refused, all_done, all-next}
-use borrow.Author.Rules.{rules}
 use native.Mathlib.Omega.{arith}
 use Rattle.path.proofs.all_components.Goals as goal
 
@@ -19,7 +13,7 @@ returns-then-not-is_component c =
     let e = i in
     let l = e in
     all-refused l.args.path.now l.loop-from.at e.component_end-end.result e.component_end-end.ensures _ l.loop-from.invariant.1
-    (sym i.is_component.ensures ∙ not-true _ c.if-not-is_component.true)
+    (sym i.is_component.ensures ∙ c.if-not-is_component.true)
 
 pub returns-then-end-path : goal.returns-then-end-path
 returns-then-end-path c =
@@ -27,7 +21,7 @@ returns-then-end-path c =
     let e = i in
     let l = e in
     all_done l.args.path.now l.loop-from.at e.component_end-end.result e.component_end-end.ensures _ l.loop-from.invariant.1
-    (omega arith) (sym i.is_component.ensures ∙ not-false _ c.if-not-is_component.false)
+    (omega arith) (sym i.is_component.ensures ∙ c.if-not-is_component.false)
 
 pub loop-from-preserved : goal.loop-from-preserved
 loop-from-preserved c =
@@ -36,5 +30,5 @@ loop-from-preserved c =
     let l = e in (
       omega arith,
       all-next l.args.path.now l.loop-from.at e.component_end-end.result e.component_end-end.ensures _ l.loop-from.invariant.1
-          (omega arith) (sym i.is_component.ensures ∙ not-false _ c.if-not-is_component.false),
+          (omega arith) (sym i.is_component.ensures ∙ c.if-not-is_component.false),
     )

@@ -1,9 +1,5 @@
 -- A component that begins at i and ends at r begins at from too, as no byte from there to i is a '/'.
-use Prim.Native.Nat.{ℕ, ◌≤◌, ◌-◌}
-use lib.ListN.{length}
-use Rattle.path.specs.Form.{EndsAt}
 use Rattle.path.proofs.PathLaws.{ends-here, ends-later, ends_last}
-use borrow.Author.Rules.{rules}
 use native.Mathlib.Omega.{arith}
 use Rattle.path.proofs.component_end.Goals as goal
 

@@ -2,9 +2,6 @@
 use Prim.Native.Nat.{ℕ, ◌≤◌, ◌-◌}
 use lib.ListN.{length}
 use Rattle.path.specs.Form.{EndsAt}
-use Rattle.path.proofs.PathLaws.{ends-here, ends-later, ends_last}
-use borrow.Author.Rules.{rules}
-use native.Mathlib.Omega.{arith}
 use Rattle.path.proofs.component_end.Given as goal
 
 abbrev pub invariant-loop-i : goal.invariant-loop-i

@@ -1,16 +1,14 @@
 -- The first test that decides; behind them all, the components do.
-use Prim.Native.Nat.{◌≤◌}
-use lib.ListN.{length}
+use Prim.Native.Nat.{ℕ, ◌≤◌}
+use mathlib.Core.Path.{◌≡◌}
 use Rattle.format.specs.Limits.{path_most}
 use Rattle.path.proofs.PathLaws.{path_empty, path-long, path-start, path-root, path-rest}
-use borrow.Author.Rules.{rules}
 use native.Mathlib.Omega.{arith}
 use Rattle.path.proofs.is_sound.Goals as goal
-use Rattle.path.proofs.is_sound.Goals.{Else-limits-path}
 
 -- there are at most 1,024 bytes
-short : (c : Else-limits-path) → length c.args.path.now ≤ path_most
-short c = omega (arith, c.the_limits-limits.ensures.path_most_equal)
+short : (n m : ℕ) → m ≡ path_most → n ≤ m → n ≤ path_most
+short n m e h = omega arith
 
 pub returns-then-path-lt1 : goal.returns-then-path-lt1
 returns-then-path-lt1 c = path_empty _ (omega arith)
@@ -19,10 +17,10 @@ pub returns-then-limits-path : goal.returns-then-limits-path
 returns-then-limits-path c = path-long _ (omega (arith, c.the_limits-limits.ensures.path_most_equal))
 
 pub returns-then-path-ne47 : goal.returns-then-path-ne47
-returns-then-path-ne47 c = path-start _ (omega arith) (short c) (λ e. omega arith)
+returns-then-path-ne47 c = path-start _ (omega arith) (short _ _ c.the_limits-limits.ensures.path_most_equal (omega arith)) (λ e. omega arith)
 
 pub returns-then-path-eq1 : goal.returns-then-path-eq1
-returns-then-path-eq1 c = path-root _ (omega arith) (short c) (omega arith) (omega arith)
+returns-then-path-eq1 c = path-root _ (omega arith) (short _ _ c.the_limits-limits.ensures.path_most_equal (omega arith)) (omega arith) (omega arith)
 
 pub returns : goal.returns
-returns c = path-rest _ (omega arith) (short c) (omega arith) _ (λ e. omega arith) c.all_components.ensures
+returns c = path-rest _ (omega arith) (short _ _ c.the_limits-limits.ensures.path_most_equal (omega arith)) (omega arith) _ (λ e. omega arith) c.all_components.ensures

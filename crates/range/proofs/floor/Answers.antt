@@ -7,7 +7,7 @@ use Rattle.range.proofs.floor.Goals as goal
 pub returns-then-not-range : goal.returns-then-not-range
 returns-then-not-range c =
     let start = c in
-    floor-last start.args.segment.now start.args.range start.args.last start.requires.1 (not-true _ c.if-not-range.true)
+    floor-last start.args.segment.now start.args.range start.args.last start.requires.name_inside (not-true _ c.if-not-range.true)
 
 pub returns : goal.returns
 returns c =

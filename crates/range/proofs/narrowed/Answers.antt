@@ -5,7 +5,7 @@ use borrow.Author.Rules.{rules}
 use Rattle.range.proofs.narrowed.Goals as goal
 
 pub returns-then-not-range : goal.returns-then-not-range
-returns-then-not-range c = let p = c.requires in narrowed-first _ _ _ _ p.1.0 p.1.1 (not-true _ c.if-not-range.true)
+returns-then-not-range c = let p = c.requires in narrowed-first _ _ _ _ p.name_inside p.name_inside_2 (not-true _ c.if-not-range.true)
 
 pub returns : goal.returns
 returns c =

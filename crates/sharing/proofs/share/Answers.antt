@@ -1,23 +1,10 @@
 -- The discovery where the search ended, then the mark of that place.
-use Prim.Native.Nat.{◌<◌}
-use lib.ListN.{length}
 use Rattle.sharing.proofs.SharingLaws.{marked-place, share-full, share_other, share-counted}
 use borrow.Author.Rules.{rules}
 use Rattle.sharing.proofs.share.Goals as goal
-use Rattle.sharing.proofs.share.Goals.{In-Counted-2}
-
--- a discovery that was counted leaves a place that has a mark
-marked : (c : In-Counted-2) →
-    let search = c in
-    search.find-found.result.place < length search.args.marks.now
-marked c =
-    let count = c in
-    let search = count in
-    let s = search in
-    marked-place _ _ _ _ _ _ s.requires search.find-found.ensures.found _ _ _ c.in-Counted.is count.count_at.ensures
 
 pub bounds-marks-place : goal.bounds-marks-place
-bounds-marks-place c = marked c
+bounds-marks-place c = marked-place _ _ _ _ _ _ c.requires c.find-found.ensures.found _ _ _ c.in-Counted.is c.count_at.ensures
 
 pub returns-then-marks-place-eq-OTHER_KIND : goal.returns-then-marks-place-eq-OTHER_KIND
 returns-then-marks-place-eq-OTHER_KIND c =
@@ -28,7 +15,7 @@ returns-then-marks-place-eq-OTHER_KIND c =
     share_other _ _ _ _ _ _ s.requires search.find-found.ensures.found _ _ _ arm.in-Counted.is count.count_at.ensures c.if-marks-place-eq-OTHER_KIND.true
 
 pub bounds-marks-place-in-Counted : goal.bounds-marks-place-in-Counted
-bounds-marks-place-in-Counted c = marked c
+bounds-marks-place-in-Counted c = marked-place _ _ _ _ _ _ c.requires c.find-found.ensures.found _ _ _ c.in-Counted.is c.count_at.ensures
 
 pub returns-in-Full : goal.returns-in-Full
 returns-in-Full c =

@@ -1,5 +1,4 @@
 -- By what is done: a lookup or another message is passed by; an attribute is read, and what it shares is counted.
-use borrow.Author.Tests.{not-true, not-false}
 use Rattle.sharing.proofs.SharingLaws.{lookup-message, other-message, own-type, bad-attribute, shared-type}
 use borrow.Author.Rules.{rules}
 use Rattle.sharing.proofs.visit_message.Goals as goal
@@ -7,25 +6,25 @@ use Rattle.sharing.proofs.visit_message.Goals as goal
 pub returns-then-not-auditing : goal.returns-then-not-auditing
 returns-then-not-auditing c =
     let s = c in
-    lookup-message _ _ _ _ _ _ _ s.requires (not-true _ c.if-not-auditing.true)
+    lookup-message _ _ _ _ _ _ _ s.requires c.if-not-auditing.true
 
 pub returns-then-kind-ne12 : goal.returns-then-kind-ne12
 returns-then-kind-ne12 c =
     let s = c in
-    other-message _ _ _ _ _ _ _ s.requires (not-false _ c.if-not-auditing.false) c.if-kind-ne12.true
+    other-message _ _ _ _ _ _ _ s.requires c.if-not-auditing.false c.if-kind-ne12.true
 
 pub share-requires : goal.share-requires
 share-requires c =
     let second = c in
     let s = second in
-    s.requires (not-false _ second.if-not-auditing.false)
+    s.requires second.if-not-auditing.false
 
 pub returns-in-Own : goal.returns-in-Own
 returns-in-Own c =
     let read = c in
     let second = read in
     let s = second in
-    own-type _ _ _ _ _ _ _ s.requires (not-false _ second.if-not-auditing.false) second.if-kind-ne12.false read.read.ensures c.in-Own.is
+    own-type _ _ _ _ _ _ _ s.requires second.if-not-auditing.false second.if-kind-ne12.false read.read.ensures c.in-Own.is
 
 pub returns-in-Refused : goal.returns-in-Refused
 returns-in-Refused c =
@@ -33,7 +32,7 @@ returns-in-Refused c =
     let read = arm in
     let second = read in
     let s = second in
-    bad-attribute _ _ _ _ _ _ _ s.requires (not-false _ second.if-not-auditing.false) second.if-kind-ne12.false read.read.ensures _ arm.in-Refused.is
+    bad-attribute _ _ _ _ _ _ _ s.requires second.if-not-auditing.false second.if-kind-ne12.false read.read.ensures _ arm.in-Refused.is
 
 pub returns-in-Shares : goal.returns-in-Shares
 returns-in-Shares c =
@@ -42,5 +41,5 @@ returns-in-Shares c =
     let read = arm in
     let second = read in
     let s = second in
-    shared-type _ _ _ _ _ _ _ s.requires (not-false _ second.if-not-auditing.false) second.if-kind-ne12.false read.read.ensures _ arm.in-Shares.is
+    shared-type _ _ _ _ _ _ _ s.requires second.if-not-auditing.false second.if-kind-ne12.false read.read.ensures _ arm.in-Shares.is
     _ _ _ _ shared.share.ensures

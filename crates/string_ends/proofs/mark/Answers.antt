@@ -19,9 +19,8 @@ loop-c-init c =
 
 pub loop-c-preserved : goal.loop-c-preserved
 loop-c-preserved c =
-    let at-loop = c in
-    let l = at-loop.loop in
-    let seg = at-loop.before.before.before.args.segment.now in
+    let l = c.loop-c in
+    let seg = c.args.segment.now in
     let made = c.number_before-v.result in
     let same = length-set l.map (l.c - 1) made in (
       omega (arith, same),

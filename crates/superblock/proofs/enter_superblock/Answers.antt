@@ -13,4 +13,4 @@ returns c = λ im.
     let a = c.args in
     let e = c.enter.ensures in
     one_block im a.superblock.end_of_file a.room superblock_block 0 a.superblock.size 0 a.blocks.now _ _
-    c.requires e.0 e.1
+    c.requires e.value e.entered

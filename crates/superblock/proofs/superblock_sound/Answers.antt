@@ -2,7 +2,8 @@
 use mathlib.Core.Path.{◌≡◌, ap, sym, ◌∙◌}
 use mathlib.Core.Bool.{true}
 use borrow.Author.Tests.{le-leb, lt-leb}
-use Prim.Native.Nat.{ℕ, ◌+◌}
+use Prim.Native.Nat.{ℕ, ◌+◌, ◌≤◌}
+use mathlib.Core.List.{List}
 use lib.Dec.{leb}
 use lib.ListN.{length}
 use Rattle.format.specs.Superblock.{version_shift, superblock_sound}
@@ -11,10 +12,10 @@ use Rattle.superblock.proofs.SuperblockLaws.{shifted-field, shifted_end}
 use native.Mathlib.Omega.{arith}
 use borrow.Author.Rules.{rules}
 use Rattle.superblock.proofs.superblock_sound.Goals as goal
-use Rattle.superblock.proofs.superblock_sound.Goals.{Else-image-shift}
+use Rattle.superblock.specs.Superblock.{Shifted}
 
-size-passed : (c : Else-image-shift) → leb (96 + version_shift c.args.image.now) (length c.args.image.now) ≡ true
-size-passed c = let s = c in rw (shifted_end s.args.image.now s.args.shift s.requires) (le-leb _ _ c.if-image-shift.false)
+size-passed : (im : List ℕ) (shift : ℕ) → Shifted im shift → 96 + shift ≤ length im → leb (96 + version_shift im) (length im) ≡ true
+size-passed im shift s h = rw (shifted_end im shift s) (le-leb _ _ h)
 
 pub returns-then-image-shift : goal.returns-then-image-shift
 unfolding superblock_sound
@@ -24,13 +25,13 @@ returns-then-image-shift c =
 
 pub returns-then-u16_at-lt1 : goal.returns-then-u16_at-lt1
 unfolding superblock_sound
-returns-then-u16_at-lt1 c = all-passes _ (size-passed c) (all-fails _ (field_below (sym c.u16_at.ensures.value) c.if-u16_at-lt1.true))
+returns-then-u16_at-lt1 c = all-passes _ (size-passed _ _ c.requires c.if-image-shift.false) (all-fails _ (field_below (sym c.u16_at.ensures.value) c.if-u16_at-lt1.true))
 
 pub returns-then-u16_at-lt1-2 : goal.returns-then-u16_at-lt1-2
 unfolding superblock_sound
 returns-then-u16_at-lt1-2 c =
     let second = c in
-    all-passes _ (size-passed second)
+    all-passes _ (size-passed _ _ second.requires second.if-image-shift.false)
     (all-passes _ (field-least (sym second.u16_at.ensures.value) second.if-u16_at-lt1.false)
     (all-fails _ (field_below (sym c.u16_at-2.ensures.value) c.if-u16_at-lt1-2.true)))
 
@@ -40,7 +41,7 @@ returns-then-u32_at-gt1 c =
     let third = c in
     let second = third in
     let s = second in
-    all-passes _ (size-passed second)
+    all-passes _ (size-passed _ _ second.requires second.if-image-shift.false)
     (all-passes _ (field-least (sym second.u16_at.ensures.value) second.if-u16_at-lt1.false)
     (all-passes _ (field-least (sym third.u16_at-2.ensures.value) third.if-u16_at-lt1-2.false)
     (all-fails _ (field-above (shifted-field s.args.image.now s.args.shift 72 4 _ s.requires c.u32_at.ensures) c.if-u32_at-gt1.true))))
@@ -52,7 +53,7 @@ returns c =
     let third = fourth in
     let second = third in
     let s = second in
-    all-passes _ (size-passed second)
+    all-passes _ (size-passed _ _ second.requires second.if-image-shift.false)
     (all-passes _ (field-least (sym second.u16_at.ensures.value) second.if-u16_at-lt1.false)
     (all-passes _ (field-least (sym third.u16_at-2.ensures.value) third.if-u16_at-lt1-2.false)
     (all-passes _ (field-most (shifted-field s.args.image.now s.args.shift 72 4 _ s.requires fourth.u32_at.ensures) fourth.if-u32_at-gt1.false)

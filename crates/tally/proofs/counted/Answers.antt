@@ -43,8 +43,8 @@ returns-in-17 c = λ im ms p t. record {
 pub returns-in_default : goal.returns-in_default
 returns-in_default c = λ im ms p t. record {
   total = total-more ms _ _ _ t.total c.next_total-total.ensures;
-  space = first-kept im ms _ 1 _ c.in-1.rest.0.0.0.1 t.space;
-  datatype = first-kept im ms _ 3 _ c.in-1.rest.0.0.1 t.datatype;
-  layout = first-kept im ms _ 8 _ c.in-1.rest.0.1 t.layout;
-  table = first-kept im ms _ 17 _ c.in-1.rest.1 t.table;
+  space = first-kept im ms _ 1 _ (λ e. omega arith) t.space;
+  datatype = first-kept im ms _ 3 _ (λ e. omega arith) t.datatype;
+  layout = first-kept im ms _ 8 _ (λ e. omega arith) t.layout;
+  table = first-kept im ms _ 17 _ (λ e. omega arith) t.table;
 }

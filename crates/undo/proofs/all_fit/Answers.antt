@@ -20,16 +20,16 @@ returns-then-not-fits c =
     let s = c in
     let a = s.args in
     let read = c.u64_at-field.ensures in
-    let one = entry-fits a.log.now s.loop-i.i (omega arith) read c.u64_at-word.ensures a.image.now c.fits2.ensures in
-    all_here a.image.now (words_of a.log.now) a.entries s.loop-i.i _ s.loop-i.invariant.1 (omega arith) one (not-true _ c.if-not-fits.true)
+    let one = entry-fits a.log.now s.loop-i.i (omega arith) read c.u64_at-word.ensures a.image.now c.fits.ensures in
+    all_here a.image.now (words_of a.log.now) a.entries s.loop-i.i _ s.loop-i.invariant.1 (omega arith) one c.if-not-fits.true
 
 pub loop-i-preserved : goal.loop-i-preserved
 loop-i-preserved c =
     let s = c in
     let a = s.args in
     let read = c.u64_at-field.ensures in
-    let one = entry-fits a.log.now s.loop-i.i (omega arith) read c.u64_at-word.ensures a.image.now c.fits2.ensures in
-    let fit = not-false _ c.if-not-fits.false in
+    let one = entry-fits a.log.now s.loop-i.i (omega arith) read c.u64_at-word.ensures a.image.now c.fits.ensures in
+    let fit = c.if-not-fits.false in
     (search rules, all-next a.image.now (words_of a.log.now) a.entries s.loop-i.i _ s.loop-i.invariant.1 (omega arith) one fit)
 
 pub returns : goal.returns

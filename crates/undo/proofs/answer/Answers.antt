@@ -1,6 +1,7 @@
 -- The first test that fails decides; a limit is known by its name.
-use Prim.Native.Nat.{◌*◌, ◌/◌, ◌≤◌}
+use Prim.Native.Nat.{ℕ, ◌*◌, ◌/◌, ◌≤◌}
 use mathlib.Core.Path.{◌≡◌, sym, ◌∙◌}
+use mathlib.Core.List.{List}
 use mathlib.Core.Bool.{true}
 use borrow.Author.Tests.{not-true, not-false}
 use lib.ListN.{length}
@@ -13,33 +14,14 @@ use Rattle.undo.proofs.ByteLaws.{length-words}
 use native.Mathlib.Omega.{arith}
 use borrow.Author.Rules.{rules}
 use Rattle.undo.proofs.answer.Goals as goal
-use Rattle.undo.proofs.answer.Goals.{Else-limits-image, Else-log-entries}
 
 -- the image's length is in range
-in-range : (c : Else-limits-image) → in_range image_least image_most (length c.args.image.now) ≡ true
-in-range c =
-    let limits = c.the_limits-limits.ensures in
-    range_inside image_least image_most _ (omega (arith, c.if-image-limits.false, limits.image_least_equal))
-    (omega (arith, c.if-limits-image.false, limits.image_most_equal))
+in-range : (n l m : ℕ) → l ≡ image_least → m ≡ image_most → l ≤ n → n ≤ m → in_range image_least image_most n ≡ true
+in-range n l m e f h k = range_inside image_least image_most n (omega arith) (omega arith)
 
--- and so it holds a field
-holds : (c : Else-limits-image) → 4 ≤ length c.args.image.now
-holds c =
-    let limits = c.the_limits-limits.ensures in
-    omega (arith, c.if-image-limits.false, limits.image_least_equal, field_fits)
-
--- the log has the bytes of each entry, and so both words
-all-bytes : (c : Else-log-entries) →
-    let a = c.args in
-    16 * a.entries ≤ length a.log.now
-all-bytes c = omega (arith, c.if-log-entries.false)
-
-both_words : (c : Else-log-entries) →
-    let a = c.args in
-    2 * a.entries ≤ length (words_of a.log.now)
-both_words c =
-    let a = c.args in
-    omega (arith, all-bytes c, length-words (length a.log.now / 8) a.log.now)
+-- the log has both words of each entry
+both_words : (e : ℕ) (log : List ℕ) → e ≤ length log / 16 → 2 * e ≤ length (words_of log)
+both_words e log h = omega (arith, length-words (length log / 8) log)
 
 pub returns-then-image-limits : goal.returns-then-image-limits
 returns-then-image-limits c =
@@ -56,26 +38,29 @@ returns-then-limits-image c =
 
 pub returns-then-log-entries : goal.returns-then-log-entries
 returns-then-log-entries c =
+    let limits = c.the_limits-limits.ensures in
     let a = c.args in
-    number-18 a.image.now (words_of a.log.now) a.entries (in-range c)
+    number-18 a.image.now (words_of a.log.now) a.entries (in-range _ _ _ limits.image_least_equal limits.image_most_equal c.if-image-limits.false c.if-limits-image.false)
     (omega (arith, c.if-log-entries.true, length-words (length a.log.now / 8) a.log.now))
 
 pub all_fit-requires : goal.all_fit-requires
 all_fit-requires c = record {
-  in_bounds = holds c;
-  entries_in_bounds = all-bytes c;
+  in_bounds = omega (arith, c.if-image-limits.false, c.the_limits-limits.ensures.image_least_equal, field_fits);
+  entries_in_bounds = omega (arith, c.if-log-entries.false);
 }
 
 pub returns-then-not-all_fit : goal.returns-then-not-all_fit
 returns-then-not-all_fit c =
-    let third = c in
-    let a = third.args in
-    number-19 a.image.now (words_of a.log.now) a.entries (in-range third) (both_words third)
-    (sym c.all_fit.ensures ∙ not-true _ c.if-not-all_fit.true)
+    let limits = c.the_limits-limits.ensures in
+    let a = c.args in
+    number-19 a.image.now (words_of a.log.now) a.entries (in-range _ _ _ limits.image_least_equal limits.image_most_equal c.if-image-limits.false c.if-limits-image.false)
+    (both_words a.entries a.log.now c.if-log-entries.false)
+    (sym c.all_fit.ensures ∙ c.if-not-all_fit.true)
 
 pub returns : goal.returns
 returns c =
-    let third = c in
-    let a = third.args in
-    number-0 a.image.now (words_of a.log.now) a.entries (in-range third) (both_words third)
-    (sym c.all_fit.ensures ∙ not-false _ c.if-not-all_fit.false)
+    let limits = c.the_limits-limits.ensures in
+    let a = c.args in
+    number-0 a.image.now (words_of a.log.now) a.entries (in-range _ _ _ limits.image_least_equal limits.image_most_equal c.if-image-limits.false c.if-limits-image.false)
+    (both_words a.entries a.log.now c.if-log-entries.false)
+    (sym c.all_fit.ensures ∙ c.if-not-all_fit.false)

@@ -26,7 +26,7 @@ put_u32-requires c =
     let a = st.args in
     let i = s.loop-i.i - 1 in
     let f = field-read a.log.now i (omega arith) c.u64_at-field.ensures in
-    omega (arith, f, s.loop-i.invariant.2, field-inside a.image.now (words_of a.log.now) a.entries i (omega arith) st.requires.1.1)
+    omega (arith, f, s.loop-i.invariant.2, field-inside a.image.now (words_of a.log.now) a.entries i (omega arith) st.requires.log_value)
 
 pub loop-i-preserved : goal.loop-i-preserved
 loop-i-preserved c =
@@ -39,7 +39,7 @@ loop-i-preserved c =
     let counts = c.u64_at-old.ensures in
     let put = old-put a.log.now i (omega arith) field counts s.loop-i.image _ w.ensures in
     let h = restored-next a.image.now s.loop-i.image (words_of a.log.now) a.entries i (omega arith) (rw e s.loop-i.invariant.3) in
-    (omega arith, omega arith, w.auto.0 ∙ s.loop-i.invariant.2, put ∙ h)
+    (omega arith, omega arith, w.auto.out ∙ s.loop-i.invariant.2, put ∙ h)
 
 pub returns : goal.returns
 returns c =

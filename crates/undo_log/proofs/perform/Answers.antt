@@ -15,7 +15,7 @@ loop-i-init c = (omega arith, refl, refl)
 pub put_u32-requires : goal.put_u32-requires
 put_u32-requires c =
     let test = c in
-    omega (arith, test.requires.1 test.loop-i.i test.loop-i-test.true)
+    omega (arith, test.requires.fields_inside test.loop-i.i test.loop-i-test.true)
 
 pub loop-i-preserved : goal.loop-i-preserved
 loop-i-preserved c =

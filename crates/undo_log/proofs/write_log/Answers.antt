@@ -14,7 +14,7 @@ use Rattle.undo_log.proofs.write_log.Goals.{After-loop-i}
 pub loop-i-init : goal.loop-i-init
 unfolding log_words
 loop-i-init c =
-    let a = c.args.t2 in
+    let a = c.args.ledger in
     let z = wrong-none a.addresses a.stored a.true_counts in
     (omega arith, refl, rw z, rw z, rw z tt)
 
@@ -45,29 +45,29 @@ bounds-ledger-i-in-loop-i-2 c = search rules
 pub put_entry-n-requires : goal.put_entry-n-requires
 put_entry-n-requires c =
     let l = c.loop-i in
-    let a = c.args.t2 in
+    let a = c.args.ledger in
     let p = c.requires in
     let h : l.i < a.objects = c.loop-i-test.true in
     record {
-      address_bound = p.1.0 l.i h;
+      address_bound = p.counts_below l.i h;
       true_count_in_bounds = room-more a.addresses a.stored a.true_counts l.i a.objects l.n (length l.log) h l.invariant.2 (omega arith);
     }
 
 pub loop-i-preserved : goal.loop-i-preserved
 loop-i-preserved c =
     let l = c.loop-i in
-    let a = c.args.t2 in
+    let a = c.args.ledger in
     let p = c.put_entry-n in
     let e = p.ensures in
-    let w = words_more a.addresses a.stored a.true_counts l.i l.n p.result l.log p.new.0 l.invariant.2 l.invariant.3 e.0 e.1.0
+    let w = words_more a.addresses a.stored a.true_counts l.i l.n p.result l.log p.new.log l.invariant.2 l.invariant.3 e.value e.log_after
     in
-    (omega arith, omega arith, w.0, w.1, news-more a.addresses a.stored a.true_counts l.i l.invariant.4 p.ensures.1.1)
+    (omega arith, omega arith, w.0, w.1, news-more a.addresses a.stored a.true_counts l.i l.invariant.4 e.news_fit)
 
 -- the entries have room
 behind : (c : After-loop-i) → c.loop-i.n + c.loop-i.n ≤ length c.args.log.now
 behind c =
     let l = c.loop-i in
-    let a = c.args.t2 in
+    let a = c.args.ledger in
     omega (arith, wrong-within a.addresses a.stored a.true_counts l.i a.objects l.invariant.0)
 
 pub overflow_add-used : goal.overflow_add-used
@@ -79,7 +79,7 @@ clear_from-requires c = omega (arith, behind c.before)
 pub returns : goal.returns
 returns c =
     let l = c.loop-i in
-    let a = c.args.t2 in
+    let a = c.args.ledger in
     let e : l.i ≡ a.objects = omega arith in
     let n = rw e at l.invariant.2 in
     let words = rw e at l.invariant.3 in

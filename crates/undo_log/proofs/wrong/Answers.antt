@@ -8,9 +8,10 @@ use lib.ListN.{length, get_or}
 use Rattle.format.specs.Limits.{objects_most}
 use Rattle.undo_log.proofs.LogLaws.{first_wrong, wrong-none, length_more, correction-right, correction-wrong}
 use Rattle.undo_log.proofs.wrong.Goals as goal
+use Rattle.undo_log.proofs.wrong.Goals.{then-ledger-i, else-ledger-i}
 
 pub loop-i-init : goal.loop-i-init
-loop-i-init c = (omega arith, omega arith, rw (wrong-none c.args.t1.addresses))
+loop-i-init c = (omega arith, omega arith, rw (wrong-none c.args.ledger.addresses))
 
 pub offset_bounds-ledger-i : goal.offset_bounds-ledger-i
 unfolding objects_most
@@ -31,15 +32,15 @@ bounds-ledger-i-in-loop-i c = search rules
 pub loop-i-preserved : goal.loop-i-preserved
 loop-i-preserved c =
     let l = c.loop-i in
-    let a = c.args.t1 in
+    let a = c.args.ledger in
     let m = length_more a.addresses a.stored a.true_counts l.i in
-    ⊎_elim
-    (λ w. (omega arith, omega arith, omega (arith, m, w, ap length (correction-wrong (get_or a.addresses l.i 0) _ _ w.0.taken))))
-    (λ w. (omega arith, omega arith, omega (arith, m, w, ap length (correction-right (get_or a.addresses l.i 0) _ _ w.0.left))))
-    c.if-ledger-i.branch
+    elim c.if-ledger-i.branch [
+      | then-ledger-i w ↦ (omega arith, omega arith, omega (arith, m, ap length (correction-wrong (get_or a.addresses l.i 0) _ _ w.if-ledger-i.true)))
+      | else-ledger-i w ↦ (omega arith, omega arith, omega (arith, m, ap length (correction-right (get_or a.addresses l.i 0) _ _ w.if-ledger-i.false)))
+    ]
 
 pub returns : goal.returns
 returns c =
     let l = c.loop-i in
-    let e : l.i ≡ c.args.t1.objects = omega arith in
+    let e : l.i ≡ c.args.ledger.objects = omega arith in
     record { wrong = l.invariant.2 ∙ rw e; most = omega arith }

@@ -16,7 +16,7 @@ loop-i-preserved c =
     let st = c in
     let w = c.put_word in (
       omega arith,
-      w.auto.0 ∙ l.invariant.1,
+      w.auto.out ∙ l.invariant.1,
       begins-next st.args.words.now l.out _ l.i l.invariant.2 (omega arith) (omega (arith, st.requires, l.invariant.1))
           w.ensures,
     )

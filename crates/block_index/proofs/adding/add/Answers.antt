@@ -1,6 +1,5 @@
 -- The bases of the runs are known by the number of places: its equation puts them into the laws' form.
 use Rattle.block_index.proofs.AddLaws.{full-held, added-last, added-merged}
-use borrow.Author.Rules.{rules}
 use Rattle.block_index.proofs.adding.add.Goals as goal
 
 pub merge-requires : goal.merge-requires

@@ -1,4 +1,3 @@
-use borrow.Author.Rules.{rules}
 use Rattle.block_index.proofs.index.first_run.Goals as goal
 
 pub returns : goal.returns

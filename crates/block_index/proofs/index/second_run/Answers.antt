@@ -1,4 +1,3 @@
-use borrow.Author.Rules.{rules}
 use Rattle.block_index.proofs.index.second_run.Goals as goal
 
 pub returns : goal.returns

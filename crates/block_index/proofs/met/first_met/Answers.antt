@@ -2,14 +2,13 @@
 use mathlib.Core.Path.{refl}
 use Rattle.block_index.proofs.SortedRuns.{first-sorted, second-sorted}
 use Rattle.block_index.proofs.MetLaws.{least-of-both}
-use borrow.Author.Rules.{rules}
 use Rattle.block_index.proofs.met.first_met.Goals as goal
 
 pub least_met-low-requires : goal.least_met-low-requires
-least_met-low-requires c = rw c.first_run-run.ensures (first-sorted _ _ c.requires.0)
+least_met-low-requires c = rw c.first_run-run.ensures (first-sorted _ _ c.requires.indexed)
 
 pub least_met-requires : goal.least_met-requires
-least_met-requires c = rw c.second_run-last.ensures (second-sorted _ _ c.requires.0)
+least_met-requires c = rw c.second_run-last.ensures (second-sorted _ _ c.requires.indexed)
 
 pub returns : goal.returns
 returns c =
@@ -17,6 +16,6 @@ returns c =
     let a = s.args in
     let f = c.first_run-run.ensures in
     let g = c.second_run-last.ensures in
-    least-of-both _ _ a.at a.size _ _ (s.requires.1.1.0.meets s.requires.1.1.1)
-    (rw f at (c.least_met-low.ensures a.at a.size refl (rw f s.requires.1.1.0.first)))
-    (rw g at (c.least_met.ensures a.at a.size refl (rw g s.requires.1.1.0.second)))
+    least-of-both _ _ a.at a.size _ _ (s.requires.found_in.meets s.requires.met_value)
+    (rw f at (c.least_met-low.ensures a.at a.size refl (rw f s.requires.found_in.first)))
+    (rw g at (c.least_met.ensures a.at a.size refl (rw g s.requires.found_in.second)))

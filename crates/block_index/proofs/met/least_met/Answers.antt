@@ -1,10 +1,8 @@
 -- Of the blocks looked at the least number is known; those that are left begin at the end or behind it, or are looked at next.
-use Prim.Native.Nat.{◌-◌}
-use mathlib.Core.Logic.{⊎_elim}
-use Rattle.block_index.proofs.MetLaws.{Lowest, lowest-none, lowest-kept, lowest-new, lowest-all, lowest-next}
-use borrow.Author.Rules.{rules}
+use Rattle.block_index.proofs.MetLaws.{lowest-none, lowest-kept, lowest-new, lowest-all, lowest-next}
 use native.Mathlib.Omega.{arith}
 use Rattle.block_index.proofs.met.least_met.Goals as goal
+use Rattle.block_index.proofs.met.least_met.Goals.{then-b-low, else-b-low}
 
 pub loop-k-init : goal.loop-k-init
 loop-k-init c = lowest-none _ _ _ _ _
@@ -38,10 +36,10 @@ pub loop-k-preserved : goal.loop-k-preserved
 loop-k-preserved c =
     let i = c in
     let v = i.loop-k.invariant in
-    ⊎_elim
-    (λ w. rw w.1 (lowest-new _ _ _ _ _ _ _ v (omega arith) w.0.taken (omega (arith, c.if-end-blocks.false))))
-    (λ w. rw w.1 (lowest-kept _ _ _ _ _ _ _ v (omega (arith, w.0.left))))
-    c.if-b-low.branch
+    elim c.if-b-low.branch [
+      | then-b-low w ↦ rw w.low-is (lowest-new _ _ _ _ _ _ _ v (omega arith) w.if-b-low.true (omega (arith, c.if-end-blocks.false)))
+      | else-b-low w ↦ rw w.low-is (lowest-kept _ _ _ _ _ _ _ v (omega (arith, w.if-b-low.false)))
+    ]
 
 pub returns : goal.returns
 returns c = lowest-all _ _ _ _ _ _ _ c.loop-k.invariant c.requires (omega arith)

@@ -1,9 +1,6 @@
 -- Of the blocks looked at the least number is known; those that are left begin at the end or behind it, or are looked at next.
 use Prim.Native.Nat.{◌-◌}
-use mathlib.Core.Logic.{⊎_elim}
-use Rattle.block_index.proofs.MetLaws.{Lowest, lowest-none, lowest-kept, lowest-new, lowest-all, lowest-next}
-use borrow.Author.Rules.{rules}
-use native.Mathlib.Omega.{arith}
+use Rattle.block_index.proofs.MetLaws.{Lowest}
 use Rattle.block_index.proofs.met.least_met.Given as goal
 
 abbrev pub invariant-loop-k : goal.invariant-loop-k

@@ -1,27 +1,9 @@
 -- The blocks before `low` end at the byte or before it, those from `high` on behind it; each test halves what is between them.
-use Prim.Native.Nat.{◌+◌, ◌-◌, ◌*◌, ◌/◌, ◌^◌, ◌<◌}
+use Prim.Native.Nat.{◌-◌}
 use native.Mathlib.Omega.{arith}
-use lib.ListN.{length}
-use Rattle.block_index.specs.Index.{behind_of}
-use Rattle.block_index.specs.Search.{number_at}
-use Rattle.block_index.proofs.SearchLaws.{Between, between-all, words_inside, behind-small, middle-in, middle-low, middle-high, between_none}
-use Rattle.block_index.proofs.SearchLaws.{Halved, halved_none, halved-more, tests-few}
-use Rattle.block_index.proofs.search.halve.Reads as reads
-use Rattle.block_index.proofs.search.halve.Lts as lts
+use Rattle.block_index.proofs.SearchLaws.{between-all, words_inside, behind-small, middle-in, middle-low, middle-high, between_none}
+use Rattle.block_index.proofs.SearchLaws.{halved_none, halved-more, tests-few}
 use Rattle.block_index.proofs.search.halve.Goals as goal
-
--- the block in the middle is one of the run, its words are in the list, and the byte behind it has a number of 64 bits
-module _ (c : lts.In-loop reads.Pre reads.Post invariant-loop decreases-loop) where
-  inside : c.loop-low.low + (c.loop-low.high - c.loop-low.low) / 2 < c.args.run.count
-  inside = middle-in _ _ _ _ _ c.requires c.loop-low.invariant.0 c.loop-low-test.true
-
-  word : 4 * number_at c.args.blocks.now c.args.run
-      (c.loop-low.low + (c.loop-low.high - c.loop-low.low) / 2) + 1 < length c.args.blocks.now
-  word = words_inside _ _ c.requires _ inside
-
-  behind : behind_of c.args.blocks.now (number_at c.args.blocks.now c.args.run
-      (c.loop-low.low + (c.loop-low.high - c.loop-low.low) / 2)) < 2 ^ 64
-  behind = behind-small _ _ c.requires _ inside
 
 pub loop-low-init : goal.loop-low-init
 loop-low-init c = (between-all _ _ _, halved_none _)
@@ -30,51 +12,51 @@ pub overflow_sub-middle : goal.overflow_sub-middle
 overflow_sub-middle c = omega (arith, c.loop-low.invariant.0.ordered)
 
 pub overflow_add-middle : goal.overflow_add-middle
-overflow_add-middle c = omega (arith, inside c, c.requires.inside)
+overflow_add-middle c = omega (arith, middle-in _ _ _ _ _ c.requires c.loop-low.invariant.0 c.loop-low-test.true, c.requires.inside)
 
 pub overflow_add-b : goal.overflow_add-b
-overflow_add-b c = omega (arith, inside c, c.requires.inside)
+overflow_add-b c = omega (arith, middle-in _ _ _ _ _ c.requires c.loop-low.invariant.0 c.loop-low-test.true, c.requires.inside)
 
 pub offset_bounds-blocks-run : goal.offset_bounds-blocks-run
-offset_bounds-blocks-run c = omega (arith, inside c, c.requires.inside)
+offset_bounds-blocks-run c = omega (arith, middle-in _ _ _ _ _ c.requires c.loop-low.invariant.0 c.loop-low-test.true, c.requires.inside)
 
 pub bounds-blocks-run : goal.bounds-blocks-run
-bounds-blocks-run c = omega (arith, inside c, c.requires.inside)
+bounds-blocks-run c = omega (arith, middle-in _ _ _ _ _ c.requires c.loop-low.invariant.0 c.loop-low-test.true, c.requires.inside)
 
 pub overflow_add-b-in-loop-low : goal.overflow_add-b-in-loop-low
-overflow_add-b-in-loop-low c = omega (arith, word c)
+overflow_add-b-in-loop-low c = omega (arith, words_inside _ _ c.requires _ (middle-in _ _ _ _ _ c.requires c.loop-low.invariant.0 c.loop-low-test.true))
 
 pub overflow_add-tests : goal.overflow_add-tests
 overflow_add-tests c = omega (arith, (c.loop-low.invariant.1 64 (omega arith)).0)
 
 pub overflow_mul-b : goal.overflow_mul-b
-overflow_mul-b c = omega (arith, word c)
+overflow_mul-b c = omega (arith, words_inside _ _ c.requires _ (middle-in _ _ _ _ _ c.requires c.loop-low.invariant.0 c.loop-low-test.true))
 
 pub offset_bounds-blocks-b : goal.offset_bounds-blocks-b
-offset_bounds-blocks-b c = omega (arith, word c)
+offset_bounds-blocks-b c = omega (arith, words_inside _ _ c.requires _ (middle-in _ _ _ _ _ c.requires c.loop-low.invariant.0 c.loop-low-test.true))
 
 pub bounds-blocks-b : goal.bounds-blocks-b
-bounds-blocks-b c = omega (arith, word c)
+bounds-blocks-b c = omega (arith, words_inside _ _ c.requires _ (middle-in _ _ _ _ _ c.requires c.loop-low.invariant.0 c.loop-low-test.true))
 
 pub overflow_mul-b-in-loop-low : goal.overflow_mul-b-in-loop-low
-overflow_mul-b-in-loop-low c = omega (arith, word c)
+overflow_mul-b-in-loop-low c = omega (arith, words_inside _ _ c.requires _ (middle-in _ _ _ _ _ c.requires c.loop-low.invariant.0 c.loop-low-test.true))
 
 pub overflow_add-b-in-loop-low-2 : goal.overflow_add-b-in-loop-low-2
-overflow_add-b-in-loop-low-2 c = omega (arith, word c)
+overflow_add-b-in-loop-low-2 c = omega (arith, words_inside _ _ c.requires _ (middle-in _ _ _ _ _ c.requires c.loop-low.invariant.0 c.loop-low-test.true))
 
 pub offset_bounds-blocks-b-in-loop-low : goal.offset_bounds-blocks-b-in-loop-low
-offset_bounds-blocks-b-in-loop-low c = omega (arith, word c)
+offset_bounds-blocks-b-in-loop-low c = omega (arith, words_inside _ _ c.requires _ (middle-in _ _ _ _ _ c.requires c.loop-low.invariant.0 c.loop-low-test.true))
 
 pub bounds-blocks-b-in-loop-low : goal.bounds-blocks-b-in-loop-low
-bounds-blocks-b-in-loop-low c = omega (arith, word c)
+bounds-blocks-b-in-loop-low c = omega (arith, words_inside _ _ c.requires _ (middle-in _ _ _ _ _ c.requires c.loop-low.invariant.0 c.loop-low-test.true))
 
 pub overflow_add-blocks : goal.overflow_add-blocks
-overflow_add-blocks c = omega (arith, behind c)
+overflow_add-blocks c = omega (arith, behind-small _ _ c.requires _ (middle-in _ _ _ _ _ c.requires c.loop-low.invariant.0 c.loop-low-test.true))
 
 pub overflow_add-low : goal.overflow_add-low
 overflow_add-low c =
     let i = c in
-    omega (arith, inside i, i.requires.inside)
+    omega (arith, middle-in _ _ _ _ _ c.requires c.loop-low.invariant.0 c.loop-low-test.true, c.requires.inside)
 
 pub loop-low-smaller-then-blocks-b : goal.loop-low-smaller-then-blocks-b
 loop-low-smaller-then-blocks-b c =

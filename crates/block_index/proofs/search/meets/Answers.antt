@@ -1,19 +1,7 @@
 -- The block in the place decides.
 use native.Mathlib.Omega.{arith}
-use borrow.Author.Rules.{rules}
-use Prim.Native.Nat.{◌+◌, ◌*◌, ◌<◌}
-use lib.ListN.{length}
-use Rattle.block_index.specs.Search.{number_at}
 use Rattle.block_index.proofs.SearchLaws.{never_met, place-last, words_inside, place-hit, place-apart}
-use Rattle.block_index.proofs.search.meets.Reads as reads
-use Rattle.block_index.proofs.search.meets.Lts as lts
 use Rattle.block_index.proofs.search.meets.Goals as goal
-
--- the words of the block in the place are in the list
-word : (c : lts.Else1 reads.Pre reads.Post) →
-    4 * number_at c.args.blocks.now c.args.run c.args.place + 1 <
-    length c.args.blocks.now
-word c = words_inside _ _ c.requires _ (omega (arith, c.if-run-place.false))
 
 pub returns-then-run-place : goal.returns-then-run-place
 returns-then-run-place c =
@@ -23,16 +11,16 @@ returns-then-run-place c =
     }
 
 pub overflow_add-b-2 : goal.overflow_add-b-2
-overflow_add-b-2 c = omega (arith, word c)
+overflow_add-b-2 c = omega (arith, words_inside _ _ c.requires c.args.place (omega (arith, c.if-run-place.false)))
 
 pub overflow_mul-result : goal.overflow_mul-result
-overflow_mul-result c = omega (arith, word c)
+overflow_mul-result c = omega (arith, words_inside _ _ c.requires c.args.place (omega (arith, c.if-run-place.false)))
 
 pub offset_bounds-blocks-b : goal.offset_bounds-blocks-b
-offset_bounds-blocks-b c = omega (arith, word c)
+offset_bounds-blocks-b c = omega (arith, words_inside _ _ c.requires c.args.place (omega (arith, c.if-run-place.false)))
 
 pub bounds-blocks-b : goal.bounds-blocks-b
-bounds-blocks-b c = omega (arith, word c)
+bounds-blocks-b c = omega (arith, words_inside _ _ c.requires c.args.place (omega (arith, c.if-run-place.false)))
 
 pub returns : goal.returns
 returns c =

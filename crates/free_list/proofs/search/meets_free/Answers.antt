@@ -5,5 +5,4 @@ use Rattle.free_list.proofs.search.meets_free.Goals as goal
 
 pub returns : goal.returns
 returns c =
-    let start = c in
-    c.meets.ensures start.args.segment.now _ (start.requires.0.mapped (omega arith)) start.requires.1.1
+    c.meets.ensures c.args.segment.now _ (c.requires.held.mapped (omega arith)) c.requires.size_in_bounds

@@ -7,15 +7,13 @@ use Rattle.free_list.proofs.span.meets_block.Goals as goal
 
 pub returns-then-span-off : goal.returns-then-span-off
 returns-then-span-off c =
-    let start = c in
-    let a = start.args in
-    sym (spanned-behind a.span.low a.span.high a.off a.size (omega arith) _ start.requires.1.0)
+    let a = c.args in
+    sym (spanned-behind a.span.low a.span.high a.off a.size (omega arith) _ c.requires.spanned)
 
 pub returns-then-off-size : goal.returns-then-off-size
 returns-then-off-size c =
-    let start = c in
-    let a = start.args in
-    sym (spanned-before a.span.low a.span.high a.off a.size (omega arith) _ start.requires.1.0)
+    let a = c.args in
+    sym (spanned-before a.span.low a.span.high a.off a.size (omega arith) _ c.requires.spanned)
 
 pub returns : goal.returns
 returns c = c.meets_free.ensures

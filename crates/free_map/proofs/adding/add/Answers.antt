@@ -8,32 +8,26 @@ use Rattle.free_map.proofs.adding.add.Goals as goal
 
 pub returns-then-rest-eq0 : goal.returns-then-rest-eq0
 returns-then-rest-eq0 c =
-    let at-whole = c in
-    let at-end = at-whole.before.before.before.before in
-    let start = at-end.before.before.before in
-    let a = start.args in
+    let a = c.args in
     let m = a.map.now in
-    let e = at-end.free_at_end.ensures in
-    let f = at-whole.free_whole.ensures in record {
-      map_len_unchanged = filled-long m a.off a.size start.requires.0 (omega arith) e f;
-      by_index = λ seg bs i l o. map-added a.off a.size (written-whole m a.off a.size start.requires.0 (omega arith) e f (omega arith)) start.requires.0 i l o;
+    let e = c.free_at_end.ensures in
+    let f = c.free_whole.ensures in record {
+      map_len_unchanged = filled-long m a.off a.size c.requires.le_size (omega arith) e f;
+      by_index = λ seg bs i l o.
+          map-added a.off a.size (written-whole m a.off a.size c.requires.le_size (omega arith) e f (omega arith)) c.requires.le_size i l o;
     }
 
 pub returns : goal.returns
 returns c =
-    let at-start = c in
-    let at-whole = at-start.before.before.before.before.before in
-    let at-end = at-whole.before.before.before.before in
-    let start = at-end.before.before.before in
-    let a = start.args in
+    let a = c.args in
     let m = a.map.now in
-    let e = at-end.free_at_end.ensures in
-    let f = at-whole.free_whole.ensures in
-    let g = at-start.free_at_start.ensures in
-    let n = filled-long m a.off a.size start.requires.0 (omega arith) e f in record {
+    let e = c.free_at_end.ensures in
+    let f = c.free_whole.ensures in
+    let g = c.free_at_start.ensures in
+    let n = filled-long m a.off a.size c.requires.le_size (omega arith) e f in record {
       map_len_unchanged = rw g (simp length-set n);
       by_index = λ seg bs i l o.
           map-added a.off a.size
-          (written_last m a.off a.size start.requires.0 (omega arith) e f g (omega arith) (omega arith))
-          start.requires.0 i l o;
+          (written_last m a.off a.size c.requires.le_size (omega arith) e f g (omega arith) (omega arith))
+          c.requires.le_size i l o;
     }

@@ -9,28 +9,15 @@ use Rattle.group.proofs.GroupLaws.{list-refused, tree-ended, same-segment, sound
 use native.Mathlib.Omega.{arith}
 use borrow.Author.Rules.{rules}
 use Rattle.group.proofs.contents.read_with.Goals as goal
-use Rattle.group.proofs.contents.read_with.Goals.{Start}
-
--- the slice is the heap's segment
-slice : (s : Start) →
-    let h = s.args.heap in
-    part s.args.image.now h.segment (h.segment + h.size - h.segment) ≡ segment_of s.args.image.now h
-slice s = part-between s.args.image.now s.args.heap.segment s.args.heap.size
 
 pub read-requires : goal.read-requires
-read-requires c =
-    let s = c in
-    rw (slice c.before.before.before.before.before.before.before.before.before.before) s.requires.1.1.1
+read-requires c = rw (part-between c.args.image.now c.args.heap.segment c.args.heap.size) c.requires.sized
 
 pub tree-requires : goal.tree-requires
 tree-requires c =
-    let free = c in
-    let read = free in
-    let s = read in
-    let settings = s.pre.0 in
-    let ready = s.pre.1.0 in
-    let segment = same-segment refl free.in-Sound.is read.read.ensures in record {
-      fixed = record { file = settings.file; small = settings.small; leaf = settings.leaf; internal = settings.internal; known = segment.known };
+    let settings = c.requires.settings in
+    let ready = c.requires.ready in record {
+      fixed = record { file = settings.file; small = settings.small; leaf = settings.leaf; internal = settings.internal; known = c.in-Sound.ensures.known };
       sound = record {
         lent = ready.lent;
         last = empty-inside _;
@@ -43,26 +30,21 @@ tree-requires c =
 
 pub returns-in-Unsound : goal.returns-in-Unsound
 returns-in-Unsound c =
-    let read = c in
-    let s = read in
     record {
       walked =
-          list-refused s.args.image.now _ _ s.args.list.now _ s.pre.1.0.lent _ _ _ (open_heap s.args.image.now s.args.heap) _ _
-          (same-segment (slice s) c.in-Unsound.is read.read.ensures).value;
+          list-refused c.args.image.now _ _ c.args.list.now _ c.requires.ready.lent _ _ _ (open_heap c.args.image.now c.args.heap) _ _
+          (same-segment (part-between c.args.image.now c.args.heap.segment c.args.heap.size) refl c.in-Unsound.ensures).value;
       ready = tt;
     }
 
 pub returns-in-Sound : goal.returns-in-Sound
 returns-in-Sound c =
-    let tree = c in
-    let free = tree in
-    let read = free in
-    let s = read in
+    let slice = part-between c.args.image.now c.args.heap.segment c.args.heap.size in
     record {
       walked =
-          tree-ended s.args.image.now _ _ s.args.list.now _ s.pre.1.0.lent _ _ _ _ s.args.wanted.now
-          s.args.addresses.now s.args.counts.now _ s.args.heap free.in-Sound.free free.in-Sound.ended
-          (same-segment (slice s) free.in-Sound.is read.read.ensures).value _ _ _ tree.tree.result tree.tree.auto.1.1.1.1.0
-          (rw (slice s) at tree.tree.ensures.walked);
-      ready = sound-ready _ _ _ _ _ tree.tree.result tree.tree.ensures.sound;
+          tree-ended c.args.image.now _ _ c.args.list.now _ c.requires.ready.lent _ _ _ _ c.args.wanted.now
+          c.args.addresses.now c.args.counts.now _ c.args.heap c.in-Sound.free c.in-Sound.ended
+          (same-segment slice refl c.in-Sound.ensures).value _ _ _ c.tree.result c.tree.auto.list
+          (rw slice at c.tree.ensures.walked);
+      ready = sound-ready _ _ _ _ _ c.tree.result c.tree.ensures.sound;
     }

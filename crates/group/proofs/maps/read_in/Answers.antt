@@ -11,37 +11,31 @@ read_plain-requires c =
 pub read_few-requires : goal.read_few-requires
 unfolding few_cells
 read_few-requires c =
-    let few = c in
-    let p = few.requires in
     record {
-      settings = p.0;
-      ready = p.1.0;
-      segment_inside = p.1.1;
-      size_bound = omega (arith, few.if-heap-lt-FEW_CELLS.true);
+      settings = c.requires.settings;
+      ready = c.requires.ready;
+      segment_inside = c.requires.segment_inside;
+      size_bound = omega (arith, c.if-heap-lt-FEW_CELLS.true);
     }
 
 pub read_many-requires : goal.read_many-requires
 unfolding many_cells
 read_many-requires c =
-    let many = c in
-    let p = many.requires in
     record {
-      settings = p.0;
-      ready = p.1.0;
-      segment_inside = p.1.1;
-      size_bound = omega (arith, many.if-heap-lt-MANY_CELLS.true);
+      settings = c.requires.settings;
+      ready = c.requires.ready;
+      segment_inside = c.requires.segment_inside;
+      size_bound = omega (arith, c.if-heap-lt-MANY_CELLS.true);
     }
 
 pub read_most-requires : goal.read_most-requires
 unfolding most_cells
 read_most-requires c =
-    let most = c in
-    let p = most.requires in
     record {
-      settings = p.0;
-      ready = p.1.0;
-      segment_inside = p.1.1;
-      size_bound = omega (arith, most.if-heap-lt-MOST_CELLS.true);
+      settings = c.requires.settings;
+      ready = c.requires.ready;
+      segment_inside = c.requires.segment_inside;
+      size_bound = omega (arith, c.if-heap-lt-MOST_CELLS.true);
     }
 
 pub read_plain-requires-2 : goal.read_plain-requires-2

@@ -8,22 +8,19 @@ use Rattle.group.proofs.maps.read_many.Goals as goal
 
 pub slice_bounds-map-end : goal.slice_bounds-map-end
 unfolding many_cells
-slice_bounds-map-end c = c.requires.1.1.1
+slice_bounds-map-end c = c.requires.size_bound
 
 pub slice_bounds-read_with-end : goal.slice_bounds-read_with-end
 unfolding many_cells
 slice_bounds-read_with-end c =
-    let start = c in
-    sym (cells-taken _ _ start.requires.1.1.1)
+    sym (cells-taken _ _ c.requires.size_bound)
 
 pub read_with-requires : goal.read_with-requires
 unfolding many_cells
 read_with-requires c =
-    let start = c in
-    let inside = start.requires.1.1.0 in
     record {
-      settings = start.requires.0;
-      ready = start.requires.1.0;
-      segment_inside = inside;
-      sized = sized start.args.image.now _ start.args.heap inside _ _ refl start.requires.1.1.1;
+      settings = c.requires.settings;
+      ready = c.requires.ready;
+      segment_inside = c.requires.segment_inside;
+      sized = sized c.args.image.now _ c.args.heap c.requires.segment_inside _ _ refl c.requires.size_bound;
     }

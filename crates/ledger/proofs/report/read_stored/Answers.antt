@@ -6,22 +6,15 @@ use Rattle.ledger.proofs.ReportLaws.{stored-none, stored_more, stored-all}
 use borrow.Author.Rules.{rules}
 use native.Mathlib.Omega.{arith}
 use Rattle.ledger.proofs.report.read_stored.Goals as goal
-use Rattle.ledger.proofs.report.read_stored.Goals.{After-shared_slice_known-in-loop-i-1}
-
--- the count of the ith object lies inside the image
-inside : (c : After-shared_slice_known-in-loop-i-1) →
-    get_or c.args.addresses.now c.loop-i.i 0 + 8
-    ≤ length c.args.image.now
-inside c = c.requires.0.inside c.loop-i.i c.loop-i-test.true
 
 pub loop-i-init : goal.loop-i-init
 loop-i-init c = (omega arith, stored-none _ _ _)
 
 pub overflow_add-at : goal.overflow_add-at
-overflow_add-at c = omega (arith, inside c)
+overflow_add-at c = omega (arith, c.requires.readable.inside c.loop-i.i c.loop-i-test.true)
 
 pub u32_at-requires : goal.u32_at-requires
-u32_at-requires c = omega (arith, inside c)
+u32_at-requires c = omega (arith, c.requires.readable.inside c.loop-i.i c.loop-i-test.true)
 
 pub loop-i-preserved : goal.loop-i-preserved
 loop-i-preserved c =

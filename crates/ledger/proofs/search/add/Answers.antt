@@ -13,17 +13,6 @@ insert-requires c =
       place_le_count = d.placed.most;
     }
 
-pub shape_of-addresses : goal.shape_of-addresses
-shape_of-addresses c =
-    let insert = c in
-    omega (
-      arith,
-      c.remember.auto.0,
-      insert.insert.auto.0,
-      length-set insert.args.addresses.now
-          insert.args.objects insert.args.address,
-    )
-
 pub returns : goal.returns
 returns c =
     let insert = c in

@@ -6,15 +6,6 @@ use Rattle.ledger.proofs.SearchLaws.{from_sorted, order-object, sought-there, so
 use native.Mathlib.Omega.{arith}
 use borrow.Author.Rules.{rules}
 use Rattle.ledger.proofs.search.find_in_order.Goals as goal
-use Rattle.ledger.proofs.search.find_in_order.Goals.{Then-order-objects}
-
--- the object in the place has an address in the list
-object : (c : Then-order-objects) →
-    words_from c.args.addresses.now c.the_limits-from.result.objects_most
-    c.halve-found.result.place < length c.args.addresses.now
-object c =
-    let limits = c in
-    order-object _ _ limits.args.address limits.requires _ limits.the_limits-from.ensures.objects_most_equal _ c.if-order-objects.true
 
 pub halve-found-requires : goal.halve-found-requires
 halve-found-requires c = from_sorted _ _ c.args.address c.requires _ c.the_limits-from.ensures.objects_most_equal
@@ -32,10 +23,10 @@ pub bounds-addresses-from : goal.bounds-addresses-from
 bounds-addresses-from c = omega arith
 
 pub offset_bounds-addresses-place : goal.offset_bounds-addresses-place
-offset_bounds-addresses-place c = omega (arith, object c)
+offset_bounds-addresses-place c = omega (arith, order-object _ _ c.args.address c.requires _ c.the_limits-from.ensures.objects_most_equal _ c.if-order-objects.true)
 
 pub bounds-addresses-place : goal.bounds-addresses-place
-bounds-addresses-place c = omega (arith, object c)
+bounds-addresses-place c = omega (arith, order-object _ _ c.args.address c.requires _ c.the_limits-from.ensures.objects_most_equal _ c.if-order-objects.true)
 
 pub returns-then-addresses-place : goal.returns-then-addresses-place
 returns-then-addresses-place c =

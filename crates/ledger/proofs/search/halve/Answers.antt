@@ -5,18 +5,7 @@ use Rattle.ordering.specs.Order.{words_from}
 use Rattle.block_index.proofs.SearchLaws.{Halved, halved_none, halved-more, tests-few}
 use Rattle.ledger.proofs.SearchLaws.{Between, between-all, middle-in, middle-object, middle-low, middle-high, between_none}
 use native.Mathlib.Omega.{arith}
-use Rattle.ledger.proofs.search.halve.Reads as reads
-use Rattle.ledger.proofs.search.halve.Lts as lts
 use Rattle.ledger.proofs.search.halve.Goals as goal
-
--- the object in the middle is one of the order, and has an address in the list
-module _ (c : lts.In-loop reads.Pre reads.Post invariant-loop decreases-loop) where
-  inside : c.loop-low.low + (c.loop-low.high - c.loop-low.low) / 2 < c.args.objects
-  inside = middle-in _ _ _ _ _ _ c.requires c.loop-low.invariant.0 c.loop-low-test.true
-
-  object : words_from c.args.addresses.now c.args.from
-      (c.loop-low.low + (c.loop-low.high - c.loop-low.low) / 2) < length c.args.addresses.now
-  object = middle-object _ _ _ _ _ _ c.requires c.loop-low.invariant.0 c.loop-low-test.true
 
 pub loop-low-init : goal.loop-low-init
 loop-low-init c = (between-all _ _ _ _, halved_none _)
@@ -25,30 +14,30 @@ pub overflow_sub-middle : goal.overflow_sub-middle
 overflow_sub-middle c = omega (arith, c.loop-low.invariant.0.ordered)
 
 pub overflow_add-middle : goal.overflow_add-middle
-overflow_add-middle c = omega (arith, inside c, c.requires.inside)
+overflow_add-middle c = omega (arith, middle-in _ _ _ _ _ _ c.requires c.loop-low.invariant.0 c.loop-low-test.true, c.requires.inside)
 
 pub overflow_add-object : goal.overflow_add-object
-overflow_add-object c = omega (arith, inside c, c.requires.inside)
+overflow_add-object c = omega (arith, middle-in _ _ _ _ _ _ c.requires c.loop-low.invariant.0 c.loop-low-test.true, c.requires.inside)
 
 pub offset_bounds-addresses-from : goal.offset_bounds-addresses-from
-offset_bounds-addresses-from c = omega (arith, inside c, c.requires.inside)
+offset_bounds-addresses-from c = omega (arith, middle-in _ _ _ _ _ _ c.requires c.loop-low.invariant.0 c.loop-low-test.true, c.requires.inside)
 
 pub bounds-addresses-from : goal.bounds-addresses-from
-bounds-addresses-from c = omega (arith, inside c, c.requires.inside)
+bounds-addresses-from c = omega (arith, middle-in _ _ _ _ _ _ c.requires c.loop-low.invariant.0 c.loop-low-test.true, c.requires.inside)
 
 pub overflow_add-tests : goal.overflow_add-tests
 overflow_add-tests c = omega (arith, (c.loop-low.invariant.1 64 (omega arith)).0)
 
 pub offset_bounds-addresses-object : goal.offset_bounds-addresses-object
-offset_bounds-addresses-object c = omega (arith, object c)
+offset_bounds-addresses-object c = omega (arith, middle-object _ _ _ _ _ _ c.requires c.loop-low.invariant.0 c.loop-low-test.true)
 
 pub bounds-addresses-object : goal.bounds-addresses-object
-bounds-addresses-object c = omega (arith, object c)
+bounds-addresses-object c = omega (arith, middle-object _ _ _ _ _ _ c.requires c.loop-low.invariant.0 c.loop-low-test.true)
 
 pub overflow_add-low : goal.overflow_add-low
 overflow_add-low c =
     let i = c in
-    omega (arith, inside i, i.requires.inside)
+    omega (arith, middle-in _ _ _ _ _ _ i.requires i.loop-low.invariant.0 i.loop-low-test.true, i.requires.inside)
 
 pub loop-low-smaller-then-addresses-object : goal.loop-low-smaller-then-addresses-object
 loop-low-smaller-then-addresses-object c =

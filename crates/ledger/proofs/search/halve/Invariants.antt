@@ -5,8 +5,6 @@ use Rattle.ordering.specs.Order.{words_from}
 use Rattle.block_index.proofs.SearchLaws.{Halved, halved_none, halved-more, tests-few}
 use Rattle.ledger.proofs.SearchLaws.{Between, between-all, middle-in, middle-object, middle-low, middle-high, between_none}
 use native.Mathlib.Omega.{arith}
-use Rattle.ledger.proofs.search.halve.Reads as reads
-use Rattle.ledger.proofs.search.halve.Lts as lts
 use Rattle.ledger.proofs.search.halve.Given as goal
 
 abbrev pub invariant-loop-low : goal.invariant-loop-low

@@ -16,7 +16,7 @@ pub overflow_add-counts : goal.overflow_add-counts
 overflow_add-counts c =
     let s = c in
     let f : get_or s.args.counts.now s.args.found.place 0 + 1 < 2 ^ 32 =
-    discover-fits _ _ _ s.args.address _ s.requires.0 s.requires.1.1.found (2 ^ 32) c.if-place-objects.true s.requires.1.0 in
+    discover-fits _ _ _ s.args.address _ s.requires.table s.requires.sought.found (2 ^ 32) c.if-place-objects.true s.requires.counts_bound in
     omega arith
 
 pub offset_bounds-counts-place-then-place-objects : goal.offset_bounds-counts-place-then-place-objects
@@ -29,19 +29,19 @@ pub returns-then-place-objects : goal.returns-then-place-objects
 returns-then-place-objects c =
     let known = c in
     let s = known in
-    discover-known _ _ _ _ _ s.requires.0 s.requires.1.1.found _ _ c.remember.ensures known.if-place-objects.true
+    discover-known _ _ _ _ _ s.requires.table s.requires.sought.found _ _ c.remember.ensures known.if-place-objects.true
 
 pub returns-then-limits-objects : goal.returns-then-limits-objects
 returns-then-limits-objects c =
     let new = c in
     let s = new in
-    discover-full _ _ _ _ _ s.requires.0 s.requires.1.1.found new.if-place-objects.false (omega arith)
+    discover-full _ _ _ _ _ s.requires.table s.requires.sought.found new.if-place-objects.false (omega arith)
 
 pub add-requires : goal.add-requires
 add-requires c =
     let new = c in
     let s = new in
-    discover-addable _ _ _ _ _ s.requires.0 s.requires.1.1.found _ new.if-place-objects.false (omega arith) (s.requires.1.1.placed new.if-place-objects.false)
+    discover-addable _ _ _ _ _ s.requires.table s.requires.sought.found _ new.if-place-objects.false (omega arith) (s.requires.sought.placed new.if-place-objects.false)
 
 pub offset_bounds-counts-objects : goal.offset_bounds-counts-objects
 offset_bounds-counts-objects c = omega arith
@@ -56,4 +56,4 @@ pub returns : goal.returns
 returns c =
     let new = c in
     let s = new in
-    discover-new _ _ _ _ _ s.requires.0 s.requires.1.1.found _ new.if-place-objects.false (omega arith) c.add.ensures
+    discover-new _ _ _ _ _ s.requires.table s.requires.sought.found _ new.if-place-objects.false (omega arith) c.add.ensures

@@ -1,6 +1,5 @@
 -- By its mark: a sharing gave its address, or none did yet.
 use mathlib.Core.Path.{refl}
-use borrow.Author.Tests.{not-true, not-false}
 use Rattle.format.specs.Header.{group, dataset}
 use Rattle.object.proofs.ObjectLaws.{listed-marked, shared-before, not-shared}
 use native.Mathlib.Omega.{arith}
@@ -9,26 +8,17 @@ use Rattle.object.proofs.object.known_dataset.Goals as goal
 
 pub returns-then-not-not_committed : goal.returns-then-not-not_committed
 returns-then-not-not_committed c =
-    let at-not-committed = c in
-    let start = at-not-committed.before.before.before.before.before.before.before in
-    let known = rw (not-true at-not-committed.not_committed.result c.if-not-not_committed.true) at at-not-committed.not_committed.ensures in
-    shared-before _ _ _ _ _ _ _ _ _ start.requires.0 _ _ (dataset _ _ _) refl _ known
+    let known = rw c.if-not-not_committed.true at c.not_committed.ensures in
+    shared-before _ _ _ _ _ _ _ _ _ c.requires.listed _ _ (dataset _ _ _) refl _ known
 
 pub read_dataset-requires : goal.read_dataset-requires
 read_dataset-requires c =
-    let at-not-committed = c in
-    let start = at-not-committed.before.before.before.before.before.before.before in
-    let known = at-not-committed.not_committed.ensures in
     record {
-      listed = listed-marked start.requires.0 known.marks_same;
-      bodies_inside = start.requires.1.0;
+      listed = listed-marked c.requires.listed c.not_committed.ensures.marks_same;
+      bodies_inside = c.requires.bodies_inside;
     }
 
 pub returns : goal.returns
 returns c =
-    let at-read-dataset = c in
-    let at-if1 = at-read-dataset.before.before.before.before.before in
-    let at-not-committed = at-if1.before.before.before in
-    let start = at-not-committed.before.before.before.before.before.before.before in
-    let known = rw (not-false at-not-committed.not_committed.result at-if1.if1.false) at at-not-committed.not_committed.ensures in
-    not-shared _ _ _ _ _ _ _ _ _ start.requires.0 _ _ (dataset _ _ _) refl _ known _ _ _ _ _ at-read-dataset.read_dataset.ensures
+    let known = rw c.if-not-not_committed.false at c.not_committed.ensures in
+    not-shared _ _ _ _ _ _ _ _ _ c.requires.listed _ _ (dataset _ _ _) refl _ known _ _ _ _ _ c.read_dataset.ensures

@@ -9,67 +9,34 @@ use borrow.Author.Rules.{rules}
 use Rattle.object.proofs.object.read_dataset.Goals as goal
 
 pub share_type-requires : goal.share_type-requires
-share_type-requires c =
-    let start = c in
-    counting-tables true _ _ _ _ _ _ _ 1 (λ _. start.requires.0.counting) refl
+share_type-requires c = counting-tables true _ _ _ _ _ _ _ 1 (λ _. c.requires.listed.counting) refl
 
 pub read_storage-requires : goal.read_storage-requires
-read_storage-requires c =
-    let at-parts = c in
-    let at-read-parts = at-parts.before.before in
-    let start = at-read-parts.before.before.before.before.before.before in record {
-      lent = start.requires.0.lent;
-      storage_inside = record {
-        space_inside = start.requires.1.space_inside;
-        layout_inside = start.requires.1.layout_inside;
-        shaped = rw at-parts.parts.given.1 at at-read-parts.read_parts.ensures.1;
-      };
-    }
+read_storage-requires c = record {
+  lent = c.requires.listed.lent;
+  storage_inside = record {
+    space_inside = c.requires.bodies_inside.space_inside;
+    layout_inside = c.requires.bodies_inside.layout_inside;
+    shaped = c.in-Read.ensures.parts_shaped;
+  };
+}
 
 pub returns-in-Refused : goal.returns-in-Refused
-returns-in-Refused c =
-    let start = c in
-    parts-refused _ _ _ _ _ _ _ _ _ start.requires.0 _ _ _ _ (rw c.in-Refused.is at c.read_parts.ensures.0)
+returns-in-Refused c = parts-refused _ _ _ _ _ _ _ _ _ c.requires.listed _ _ _ _ c.in-Refused.ensures.result_value
 
 pub returns-in-Refused-share_type : goal.returns-in-Refused-share_type
 returns-in-Refused-share_type c =
-    let at-share-type = c in
-    let at-parts = at-share-type.before.before.before.before.before in
-    let at-read-parts = at-parts.before.before in
-    let start = at-read-parts.before.before.before.before.before.before in
     rw c.head_of.ensures
-    (sharing-refused _ _ _ _ _ _ _ _ _ start.requires.0 _ _ _ (parts_of (body_of start.args.image.now start.args.space)
-    at-parts.parts.given.0.0)
-    (rw at-parts.parts.given.1 at
-    at-read-parts.read_parts.ensures.0) _ _ _ _
-    (rw c.in-Refused-share_type.is at at-share-type.share_type.ensures.walk))
+    (sharing-refused _ _ _ _ _ _ _ _ _ c.requires.listed _ _ _ (parts_of (body_of c.args.image.now c.args.space) c.in-Read.parts)
+    c.in-Read.ensures.result_value _ _ _ _ c.in-Refused-share_type.ensures.walk)
 
 pub returns-in-Stopped : goal.returns-in-Stopped
 returns-in-Stopped c =
-    let at-read-storage = c in
-    let at-shared = at-read-storage.before.before.before in
-    let at-share-type = at-shared.before.before.before.before.before.before.before.before in
-    let at-parts = at-share-type.before.before.before.before.before in
-    let at-read-parts = at-parts.before.before in
-    let start = at-read-parts.before.before.before.before.before.before in
-    storage-stopped _ _ _ _ _ _ _ _ _ start.requires.0 _ _ _ (parts_of (body_of start.args.image.now start.args.space)
-    at-parts.parts.given.0.0) (rw at-parts.parts.given.1 at
-    at-read-parts.read_parts.ensures.0) _ _ _ _
-    (rw at-shared.shared.given.1 at at-share-type.share_type.ensures.walk) _ _
-    (rw c.in-Stopped.is at at-read-storage.read_storage.ensures.0)
+    storage-stopped _ _ _ _ _ _ _ _ _ c.requires.listed _ _ _ (parts_of (body_of c.args.image.now c.args.space) c.in-Read.parts)
+    c.in-Read.ensures.result_value _ _ _ _ c.in-Counted.ensures.walk _ _ c.in-Stopped.ensures.walked
 
 pub returns-in-Read-read_storage : goal.returns-in-Read-read_storage
 returns-in-Read-read_storage c =
-    let at-read-storage = c in
-    let at-shared = at-read-storage.before.before.before in
-    let at-share-type = at-shared.before.before.before.before.before.before.before.before in
-    let at-parts = at-share-type.before.before.before.before.before in
-    let at-read-parts = at-parts.before.before in
-    let start = at-read-parts.before.before.before.before.before.before in
-    storage-read _ _ _ _ _ _ _ _ _ start.requires.0 _ _ _ (parts_of (body_of start.args.image.now start.args.space)
-    at-parts.parts.given.0.0) (rw at-parts.parts.given.1 at
-    at-read-parts.read_parts.ensures.0) _ _ _ _
-    (rw at-shared.shared.given.1 at at-share-type.share_type.ensures.walk) _ _ _
-    at-read-storage.read_storage.auto.1.1.0
-    (rw c.in-Read-read_storage.is at at-read-storage.read_storage.ensures.0)
-    (rw at-shared.shared.given.1 at at-share-type.share_type.ensures.kept)
+    storage-read _ _ _ _ _ _ _ _ _ c.requires.listed _ _ _ (parts_of (body_of c.args.image.now c.args.space) c.in-Read.parts)
+    c.in-Read.ensures.result_value _ _ _ _ c.in-Counted.ensures.walk _ _ _ c.read_storage.auto.blocks
+    c.in-Read-read_storage.ensures.walked c.in-Counted.ensures.kept

@@ -7,18 +7,15 @@ use Rattle.object.proofs.object.read_group.Goals as goal
 
 pub read-requires : goal.read-requires
 read-requires c =
-    let s = c in
     record {
-      settings = s.requires.0;
-      ready = listed-ready s.requires.1.1;
+      settings = c.requires.opened;
+      ready = listed-ready c.requires.by_index.1;
     }
 
 pub returns-in-Stopped : goal.returns-in-Stopped
 returns-in-Stopped c marks y =
-    let read = c in
-    group-is _ _ _ _ _ _ _ _ _ y _ _ _ _ _ _ (steps.TheVariants.Stopped _) read.read.auto.1.1.0 (rw c.in-Stopped.is at read.read.ensures)
+    group-is _ _ _ _ _ _ _ _ _ y _ _ _ _ _ _ (steps.TheVariants.Stopped _) c.read.auto.list c.in-Stopped.ensures
 
 pub returns-in-Done : goal.returns-in-Done
 returns-in-Done c marks y =
-    let read = c in
-    group-is _ _ _ _ _ _ _ _ _ y _ _ _ _ _ _ (steps.TheVariants.Done _) read.read.auto.1.1.0 (rw c.in-Done.is at read.read.ensures)
+    group-is _ _ _ _ _ _ _ _ _ y _ _ _ _ _ _ (steps.TheVariants.Done _) c.read.auto.list c.in-Done.ensures

@@ -10,7 +10,7 @@ returns-then-kind-ne2 c = value_none _ _ _ _ _ c.if-kind-ne2.true
 
 pub value-requires : goal.value-requires
 value-requires c =
-    let known = c.requires.1 in
+    let known = c.requires.known in
     record {
       last_nul = known.last;
       held = known.held;
@@ -19,16 +19,14 @@ value-requires c =
 
 pub returns-in-Fault : goal.returns-in-Fault
 returns-in-Fault c =
-    let value = c in
-    let a = value.args in
+    let a = c.args in
     let two : a.kind ≡ 2 = omega arith in
-    value-refused _ _ _ _ _ two value.u32_at-off.result value.u32_at-off.ensures.value c.in-Fault.f _
-    c.fault_number.ensures (same-checked _ c.in-Fault.is value.value.ensures)
+    value-refused _ _ _ _ _ two c.u32_at-off.result c.u32_at-off.ensures.value c.in-Fault.f _
+    c.fault_number.ensures (same-checked _ c.in-Fault.is c.value.ensures)
 
 pub returns-in-Sound : goal.returns-in-Sound
 returns-in-Sound c =
-    let value = c in
-    let a = value.args in
+    let a = c.args in
     let two : a.kind ≡ 2 = omega arith in
-    let read = same-checked _ c.in-Sound.is value.value.ensures in
-    value_read _ _ _ _ _ two value.u32_at-off.result value.u32_at-off.ensures.value read.0 read.1
+    let read = same-checked _ c.in-Sound.is c.value.ensures in
+    value_read _ _ _ _ _ two c.u32_at-off.result c.u32_at-off.ensures.value read.0 read.1

@@ -9,52 +9,37 @@ use native.Mathlib.Omega.{arith}
 use Rattle.symbol.proofs.EntryLaws.{same_text, name-sound, name-refused}
 use borrow.Author.Rules.{rules}
 use Rattle.symbol.proofs.entry.one_entry.Goals as goal
-use Rattle.symbol.proofs.entry.one_entry.Goals.{In-Sound-2}
-
--- the string was read
-read : (c : In-Sound-2) →
-    let a = c.args in
-    let off = c.u64_at-off.result in
-    TextRead a.segment.now off (Sound c.in-Sound.n) (name_text (chained_heap a.segment.now a.group.head a.group.free) off)
-read c = let name = c in same_text c.in-Sound.is name.name.ensures
-
--- the entry's name
-named : (c : In-Sound-2) →
-    let a = c.args in
-    NameSound a.image.now a.segment.now a.group a.at
-    (name_at a.segment.now c.u64_at-off.result c.in-Sound.n)
-named c =
-    let name = c in
-    name-sound _ _ _ _ _ _ name.u64_at-off.ensures.value (read c)
 
 pub name-requires : goal.name-requires
-name-requires c = let known = c.requires.1.0.known in record {
-  last_nul = known.last;
-  held = known.held;
-}
+name-requires c =
+    let known = c.requires.ready.known in record {
+      last_nul = known.last;
+      held = known.held;
+    }
 
 pub first_number-requires : goal.first_number-requires
-first_number-requires c = let j = (read c).inside in omega (arith, j)
+first_number-requires c =
+    let read : let off = c.u64_at-off.result in TextRead c.args.segment.now off (Sound c.in-Sound.n) (name_text (chained_heap c.args.segment.now c.args.group.head c.args.group.free) off) = same_text c.in-Sound.is c.name.ensures in
+    let j = read.inside in omega (arith, j)
 
 pub second_number-requires : goal.second_number-requires
-second_number-requires c = let j = (read c).inside in omega (arith, j)
+second_number-requires c =
+    let read : let off = c.u64_at-off.result in TextRead c.args.segment.now off (Sound c.in-Sound.n) (name_text (chained_heap c.args.segment.now c.args.group.head c.args.group.free) off) = same_text c.in-Sound.is c.name.ensures in
+    let j = read.inside in omega (arith, j)
 
 pub named_entry-requires : goal.named_entry-requires
 named_entry-requires c =
-    let at_second = c in
-    let at_first = at_second in
-    let at_n = at_first in
-    let s = at_n in
+    let read : let off = c.u64_at-off.result in TextRead c.args.segment.now off (Sound c.in-Sound.n) (name_text (chained_heap c.args.segment.now c.args.group.head c.args.group.free) off) = same_text c.in-Sound.is c.name.ensures in
+    let named : NameSound c.args.image.now c.args.segment.now c.args.group c.args.at (name_at c.args.segment.now c.u64_at-off.result c.in-Sound.n) = name-sound _ _ _ _ _ _ c.u64_at-off.ensures.value read in
     record {
-      at_in_bounds = s.pre.0;
-      ready = s.pre.1.0;
-      counts_bound = s.pre.1.1.0;
-      floor = s.pre.1.1.1;
-      name_sound = rw (at_first.first_number.ensures, at_second.second_number.ensures) (named at_n);
+      at_in_bounds = c.requires.at_in_bounds;
+      ready = c.requires.ready;
+      counts_bound = c.requires.counts_bound;
+      floor = c.requires.floor;
+      name_sound = rw (c.first_number.ensures, c.second_number.ensures) named;
     }
 
 pub returns-in-Fault : goal.returns-in-Fault
 returns-in-Fault c =
-    let name = c in
-    name-refused _ _ _ _ _ _ _ _ _ _ _ name.u64_at-off.result name.u64_at-off.ensures.value c.in-Fault.f _
-    c.fault_number.ensures (same_text c.in-Fault.is name.name.ensures).value
+    name-refused _ _ _ _ _ _ _ _ _ _ _ c.u64_at-off.result c.u64_at-off.ensures.value c.in-Fault.f _
+    c.fault_number.ensures (same_text c.in-Fault.is c.name.ensures).value

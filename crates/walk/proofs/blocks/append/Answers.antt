@@ -1,7 +1,6 @@
 -- Four words behind those of the blocks; the last follows from the last of those.
 use lib.ListN.{length-set}
 use native.Mathlib.Omega.{arith}
-use borrow.Author.Rules.{rules}
 use Rattle.walk.proofs.blocks.append.Goals as goal
 
 pub bounds-blocks-first-2 : goal.bounds-blocks-first-2

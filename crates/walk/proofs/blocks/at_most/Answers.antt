@@ -1,6 +1,5 @@
 -- The limit is known by its name; either answer is the lesser of the two.
 use native.Mathlib.Omega.{arith}
-use borrow.Author.Rules.{rules}
 use Rattle.walk.proofs.blocks.at_most.Goals as goal
 
 pub returns-then-limits-places : goal.returns-then-limits-places

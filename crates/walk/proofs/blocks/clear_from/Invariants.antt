@@ -1,12 +1,8 @@
 -- The words before i are those that stay, then zeros; each turn makes one more.
-use Prim.Native.Nat.{◌+◌, ◌≤◌, ◌-◌}
-use mathlib.Core.List.{◌++◌, append-nil}
-use mathlib.Core.Path.{◌≡◌, refl, sym, ◌∙◌}
-use lib.ListN.{length, take, replicate, length-set}
-use lib.Seq.{take_all}
-use Rattle.walk.proofs.BlockList.{zeros-more}
-use borrow.Author.Rules.{rules}
-use native.Mathlib.Omega.{arith}
+use Prim.Native.Nat.{◌≤◌, ◌-◌}
+use mathlib.Core.List.{◌++◌}
+use mathlib.Core.Path.{◌≡◌}
+use lib.ListN.{length, take, replicate}
 use Rattle.walk.proofs.blocks.clear_from.Given as goal
 
 abbrev pub invariant-loop-i : goal.invariant-loop-i

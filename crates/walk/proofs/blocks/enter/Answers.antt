@@ -1,6 +1,6 @@
 -- Each return rewrites with the answer that the tests before it lead to.
 use Prim.Native.Nat.{◌+◌, ◌^◌, ◌≤◌, ◌<◌}
-use mathlib.Core.Path.{◌≡◌, refl, sym}
+use mathlib.Core.Path.{◌≡◌, sym}
 use mathlib.Core.Bool.{false}
 use lib.ListN.{length}
 use Rattle.format.specs.Blocks.{overlaps_any}
@@ -9,7 +9,6 @@ use Rattle.walk.proofs.BlockList.{length-blocks_of, entry_answer-outside, entry_
 use Rattle.walk.proofs.Entering.{addable, put}
 use Rattle.walk.proofs.Verdict.{all_apart, met-first}
 use native.Mathlib.Omega.{arith}
-use borrow.Author.Rules.{rules}
 use Rattle.walk.proofs.blocks.enter.Goals as goal
 use Rattle.walk.proofs.blocks.enter.Goals.{After-find-found, Else-found}
 
@@ -30,8 +29,8 @@ returns-then-end_of_file-at c =
     let a = c.args in
     let h : a.end_of_file < a.at + a.size = omega arith in
     record {
-      value = rw (entry_answer-outside, c.outside.ensures) (refl);
-      entered = rw (entry_answer-outside, c.outside.ensures) (refl);
+      value = rw (entry_answer-outside, c.outside.ensures);
+      entered = rw entry_answer-outside;
     }
 
 pub returns-then-end_of_file-at-2 : goal.returns-then-end_of_file-at-2
@@ -39,8 +38,8 @@ returns-then-end_of_file-at-2 c =
     let a = c.args in
     let h : a.end_of_file < a.at + a.size = omega arith in
     record {
-      value = rw (entry_answer-outside, c.outside-then-end_of_file-at-2.ensures) (refl);
-      entered = rw (entry_answer-outside, c.outside-then-end_of_file-at-2.ensures) (refl);
+      value = rw (entry_answer-outside, c.outside-then-end_of_file-at-2.ensures);
+      entered = rw entry_answer-outside;
     }
 
 pub first_met-b-requires : goal.first_met-b-requires
@@ -61,8 +60,8 @@ returns-then-found c =
     let h = inside c.before.before.before.before.before in
     let k = met-first a.at a.size a.count a.blocks.now _ met.first_met-b.ensures in
     record {
-      value = rw (entry_answer-overlap _ _ _ _ _ h (sym k.0), c.not_entered.ensures, k.1) (refl);
-      entered = rw (entry_answer-overlap _ _ _ _ _ h (sym k.0), c.not_entered.ensures, k.1) (refl);
+      value = rw (entry_answer-overlap _ _ _ _ _ h (sym k.0), c.not_entered.ensures, k.1);
+      entered = rw (entry_answer-overlap _ _ _ _ _ h (sym k.0));
     }
 
 pub returns-then-room-count : goal.returns-then-room-count
@@ -73,8 +72,8 @@ returns-then-room-count c =
     let k = apart c.before.before in
     let l : a.room ≤ length (blocks_of a.count a.blocks.now) = rw length-blocks_of (omega arith) in
     record {
-      value = rw (entry_answer-full, c.not_entered-then-room-count.ensures) (refl);
-      entered = rw (entry_answer-full, c.not_entered-then-room-count.ensures) (refl);
+      value = rw (entry_answer-full, c.not_entered-then-room-count.ensures);
+      entered = rw entry_answer-full;
     }
 
 pub add-requires : goal.add-requires
@@ -93,7 +92,7 @@ returns c =
     let k = apart c.before.before.before.before.before.before.before.before.before.before in
     let l : length (blocks_of a.count a.blocks.now) < a.room = rw length-blocks_of (omega arith) in
     record {
-      value = rw entry_answer-open (refl);
+      value = rw entry_answer-open;
       entered = rw entry_answer-open (put a.blocks.now a.count a.room a.kind a.at a.size none.requires (omega arith) _
           (rw c.append.ensures at c.add.ensures));
     }

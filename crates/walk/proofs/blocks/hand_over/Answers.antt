@@ -1,9 +1,8 @@
 -- The words before the i-th are copied.
-use Prim.Native.Nat.{◌*◌, ◌-◌, ◌≤◌}
+use Prim.Native.Nat.{◌*◌}
 use mathlib.Core.Path.{◌≡◌, refl, ◌∙◌}
-use lib.ListN.{length, length-set, take}
+use lib.ListN.{length-set}
 use Rattle.walk.proofs.Copied.{copied_more, copied_all}
-use borrow.Author.Rules.{rules}
 use native.Mathlib.Omega.{arith}
 use Rattle.walk.proofs.blocks.hand_over.Goals as goal
 

@@ -1,10 +1,7 @@
 -- The words before the i-th are copied.
-use Prim.Native.Nat.{◌*◌, ◌-◌, ◌≤◌}
-use mathlib.Core.Path.{◌≡◌, refl, ◌∙◌}
-use lib.ListN.{length, length-set, take}
-use Rattle.walk.proofs.Copied.{copied_more, copied_all}
-use borrow.Author.Rules.{rules}
-use native.Mathlib.Omega.{arith}
+use Prim.Native.Nat.{◌-◌, ◌≤◌}
+use mathlib.Core.Path.{◌≡◌}
+use lib.ListN.{length, take}
 use Rattle.walk.proofs.blocks.hand_over.Given as goal
 
 abbrev pub invariant-loop-i : goal.invariant-loop-i

@@ -1,6 +1,5 @@
 -- With 5 no block is met.
 use mathlib.Core.Path.{refl}
-use borrow.Author.Rules.{rules}
 use Rattle.walk.proofs.blocks.outside.Goals as goal
 
 pub returns : goal.returns

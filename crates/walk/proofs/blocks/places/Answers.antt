@@ -1,6 +1,5 @@
 -- The places that the index leaves.
 use Rattle.walk.proofs.BlockList.{places_is}
-use borrow.Author.Rules.{rules}
 use Rattle.walk.proofs.blocks.places.Goals as goal
 
 pub returns : goal.returns

@@ -1,6 +1,5 @@
 -- Four words a block.
 use Rattle.walk.proofs.BlockList.{room-is}
-use borrow.Author.Rules.{rules}
 use Rattle.walk.proofs.blocks.room.Goals as goal
 
 pub returns : goal.returns

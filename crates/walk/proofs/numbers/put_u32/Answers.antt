@@ -2,7 +2,6 @@
 use lib.ListN.{length-set}
 use Rattle.walk.proofs.Overwrite.{overwrite-four}
 use native.Mathlib.Omega.{arith}
-use borrow.Author.Rules.{rules}
 use Rattle.walk.proofs.numbers.put_u32.Goals as goal
 
 pub bounds-out-at-2 : goal.bounds-out-at-2

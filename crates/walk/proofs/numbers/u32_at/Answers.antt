@@ -1,7 +1,6 @@
 -- Two numbers of half the width, one behind the other.
 use Rattle.walk.proofs.LittleEndian.{number-add}
 use native.Mathlib.Omega.{arith}
-use borrow.Author.Rules.{rules}
 use Rattle.walk.proofs.numbers.u32_at.Goals as goal
 
 pub returns : goal.returns

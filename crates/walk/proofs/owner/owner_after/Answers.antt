@@ -2,7 +2,6 @@
 use mathlib.Core.Path.{sym}
 use Rattle.format.specs.Bytes.{undefined_address}
 use Rattle.walk.proofs.Owners.{owner-superblock, owner-same, owner-first, owner-next}
-use borrow.Author.Rules.{rules}
 use native.Mathlib.Omega.{arith}
 use Rattle.walk.proofs.owner.owner_after.Goals as goal
 
