@@ -11,7 +11,7 @@ use Rattle.format.specs.Limits.{rank_most}
 use Rattle.std.specs.Prelude.{if◌then◌else◌}
 use Rattle.format.specs.Bytes.{◌implies◌, u8, to_words}
 use Rattle.format.specs.Dataspace.{Dataspace, all_at_most, read_dataspace}
-use Rattle.format.specs.Result.{Result, value, answer, check, ◌>>=◌, ◌>>◌}
+use Rattle.format.specs.Result.{Result, value, answer, check, ◌>>◌}
 use Rattle.laws.proofs.Results.{passes, fails}
 use Rattle.dataspace.specs.declared.DataspaceRead.TheVariants.{Read, Refused}
 use Rattle.dataspace.specs.Dataspace.{space_of, SpaceRead}

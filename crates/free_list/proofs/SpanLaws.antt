@@ -1,6 +1,6 @@
 -- Laws of blocks between two offsets.
 use Prim.Native.Nat.{ℕ, ◌+◌, ◌≤◌, min, max}
-use mathlib.Core.Bool.{Bool, false, and-false}
+use mathlib.Core.Bool.{false, and-false}
 use mathlib.Core.List.{List, [], ◌∷◌, ◌++◌}
 use mathlib.Core.Path.{◌≡◌, refl}
 use native.Mathlib.Omega.{arith}

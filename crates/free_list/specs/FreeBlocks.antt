@@ -1,11 +1,10 @@
 -- The free blocks of a segment as the chain that code follows.
 use Rattle.std.specs.Prelude.{ℕ, zero, suc, ◌+◌, ◌*◌, ◌≤◌, ◌<◌, ◌≡◌, Bool, true, not, List, [], ◌∷◌, ◌++◌, leb, length, get_or}
-use Rattle.format.specs.Bytes.{all_hold, u64, undefined_address}
+use Rattle.format.specs.Bytes.{all_hold, u64}
 use Rattle.format.specs.Blocks.{Block, block, overlaps_any}
 use Rattle.format.specs.Result.{Result, value, answer}
 use Rattle.format.specs.FreeList.{free_list}
 use Rattle.free_map.specs.FreeMap.{MapOf}
-use Rattle.free_list.specs.Spanned.{Spanned}
 use Rattle.free_list.specs.declared.FreeList.{FreeList}
 use Rattle.free_list.specs.declared.FreeList.TheVariants.{Sound, Unsound}
 

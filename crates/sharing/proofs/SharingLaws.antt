@@ -9,7 +9,7 @@ use lib.Dec.{eqb}
 use lib.ListN.{length, get_or, set, length-set}
 use Rattle.format.specs.Result.{value}
 use Rattle.format.specs.Attribute.{read_attribute}
-use Rattle.format.specs.Sharing.{Found, place_of, share, share_each, discover_sharing, not_committed}
+use Rattle.format.specs.Sharing.{place_of, share, share_each, discover_sharing, not_committed}
 use Rattle.laws.proofs.Results.{passes, fails, gives, answers, bind-value}
 use Rattle.walk.proofs.Tests.{takes-then, takes-else}
 use Rattle.attribute.specs.Attribute.{attribute_result}

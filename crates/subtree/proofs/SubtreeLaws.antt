@@ -70,6 +70,18 @@ module _ (g : Rattle.format.specs.Entry.Group Both) (level : ℕ) (im : List ℕ
       let e : m - 16 * (i + 1) ≡ m - 16 * i - 16 = omega arith in
       rw (a, d, e) (children-next g.heap (subtree g level) (n - (i + 1)) im (from + 16 * i) (m - 16 * i) bounds s (omega arith))
 
+  -- a walk that has come to the ith child: that child's subtree at its address, then the other children
+  pub children-here : {eof room : ℕ} {w : Walk (GroupState Both)} {n₀ n₁ : ℕ} {ws₀ ws₁ : List ℕ} (i : ℕ) (s : GroupState Both) → i < n → 16 * n + 8 ≤ m →
+      (child : ℕ) → child ≡ u64 im (from + 16 * i + 8) →
+      Simulation im eof room w n₀ ws₀ (children_from g level im from m n i bounds s) n₁ ws₁ →
+      Simulation im eof room w n₀ ws₀ (subtree g level child (record {
+        low = string_at g.heap.segment (u64 im (from + 16 * i));
+        high = string_at g.heap.segment
+            (u64 im (from + 16 * i + 16));
+      } ∷ bounds) s
+      >>= λ t. children_from g level im from m n (i + 1) bounds t) n₁ ws₁
+  children-here i s h l child e u = rw e (same-walk _ (children-turn i s h l) u)
+
 -- A node was read: what is left are its children.
 module _ (im : List ℕ) (eof room : ℕ) (ws : List ℕ) (count : ℕ) (l : Lent ws count room) (g : Rattle.format.specs.Entry.Group Both) (k : ℕ)
     (kk : g.internal_k ≡ k) (height level at : ℕ)

@@ -1,16 +1,15 @@
 -- Laws of the superblock.
 use Prim.Native.Nat.{ℕ, ◌+◌, ◌≤◌, ◌<◌, ◌^◌}
-use mathlib.Core.Bool.{Bool, true, false, not}
-use mathlib.Core.List.{List, [], ◌∷◌}
-use mathlib.Core.Path.{◌≡◌, refl, sym}
+use mathlib.Core.Bool.{Bool, true, false}
+use mathlib.Core.List.{List, []}
+use mathlib.Core.Path.{◌≡◌, sym}
 use native.Mathlib.Omega.{arith}
 use borrow.Author.Tests.{leb-true}
-use lib.Dec.{eqb, leb, lit≤, lit<}
+use lib.Dec.{eqb, leb, lit≤}
 use lib.ListN.{length}
 use Rattle.format.specs.Limits.{image_least, image_most}
-use Rattle.std.specs.Prelude.{if◌then◌else◌}
-use Rattle.format.specs.Bytes.{all_hold, in_range, little_endian, part, u16, u32, u64}
-use Rattle.format.specs.Superblock.{Superblock, version_shift, Opening, opened, not_opened}
+use Rattle.format.specs.Bytes.{in_range, little_endian, part, u16, u32, u64}
+use Rattle.format.specs.Superblock.{Superblock, version_shift, opened, not_opened}
 use Rattle.format.specs.Superblock.{signature, superblock_read, superblock_sound, superblock_fields, open_image}
 use Rattle.walk.specs.Numbers.{Number}
 use Rattle.walk.proofs.Tests.{all_held, range-most}

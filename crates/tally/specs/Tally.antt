@@ -1,6 +1,6 @@
 -- What a tally says of a list of messages.
 use Rattle.std.specs.Prelude.{ℕ, ◌+◌, ◌-◌, ◌≤◌, ◌<◌, min, List, ◌≡◌, length}
-use Rattle.format.specs.Bytes.{part, little_endian, u8, u16}
+use Rattle.format.specs.Bytes.{part, u8, u16}
 use Rattle.format.specs.Message.{Message, of_type, the_message}
 use Rattle.tally.specs.declared.First.{First}
 use Rattle.tally.specs.declared.Tally.{Tally}

@@ -1,5 +1,5 @@
 -- The first check that fails decides; a place behind a check knows what is left of the reader.
-use Prim.Native.Nat.{ℕ, ◌+◌, ◌≤◌}
+use Prim.Native.Nat.{ℕ, ◌≤◌}
 use mathlib.Core.List.{List}
 use mathlib.Core.Path.{◌≡◌, refl, sym, ◌∙◌}
 use borrow.Author.Tests.{le-leb, lt-leb}
@@ -11,10 +11,9 @@ use Rattle.format.specs.Attribute.{read_attribute}
 use Rattle.format.specs.Result.{Result}
 use Rattle.walk.proofs.Tests.{range-below, range-above, range_inside, takes-else}
 use Rattle.laws.proofs.Results.{passes, fails}
-use Rattle.attribute.proofs.AttributeLaws.{name-most, after_parts, after_flags, after_version, after_length, first-check}
-use Rattle.attribute.proofs.AttributeLaws.{parts-leave, parts-inside, shared-inside, shared-part}
+use Rattle.attribute.proofs.AttributeLaws.{name-most, after_flags, after_version, after_length, first-check}
+use Rattle.attribute.proofs.AttributeLaws.{parts-leave, parts-inside, shared-part}
 use native.Mathlib.Omega.{arith}
-use borrow.Author.Rules.{rules}
 use Rattle.attribute.proofs.read.Goals as goal
 
 -- at each place behind a check, what is left of the reader

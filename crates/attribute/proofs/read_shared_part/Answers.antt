@@ -5,7 +5,6 @@ use borrow.Author.Tests.{le-leb, lt-leb}
 use Rattle.format.specs.Attribute.{read_shared_part}
 use Rattle.format.specs.Result.{value}
 use Rattle.laws.proofs.Results.{passes, fails}
-use borrow.Author.Rules.{rules}
 use Rattle.attribute.proofs.read_shared_part.Goals as goal
 
 pub returns-then-part-lt10 : goal.returns-then-part-lt10

@@ -1,6 +1,5 @@
 -- The size is a number of two bytes, so that padding cannot overflow.
 use Rattle.attribute.proofs.AttributeLaws.{taken-padded, taken-plain}
-use borrow.Author.Rules.{rules}
 use borrow.Author.Tests.{eq-eqb, ne_eqb}
 use Rattle.attribute.proofs.taken_at.Goals as goal
 

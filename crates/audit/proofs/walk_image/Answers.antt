@@ -12,36 +12,21 @@ enter_superblock-requires c = room-lent c.args.list.now _ c.places-room.ensures
 
 pub read-requires : goal.read-requires
 unfolding objects_most
-read-requires c =
-    let n = c in
-    let s = n in
-    let room = n.places-room.ensures in
-    let enter = n in
-    let one = rw n.in-Entered.is at enter.enter_superblock.ensures in record {
-      opened = opened s.args.image.now s.args.superblock _ (length s.args.list.now) room s.requires.0;
-      listed = root-listed s.args.image.now s.args.list.now s.args.superblock _ room enter.enter_superblock.new.1.0 _
-          enter.enter_superblock.auto.1.0 (one s.args.image.now) _ _ _ _ _
-          c.start.ensures refl s.requires.0.4 s.requires.0.3;
-    }
+read-requires c = record {
+  opened = opened c.args.image.now c.args.superblock _ (length c.args.list.now) c.places-room.ensures c.requires.bounded;
+  listed = root-listed c.args.image.now c.args.list.now c.args.superblock _ c.places-room.ensures c.enter_superblock.new.blocks _
+      c.enter_superblock.auto.blocks (c.in-Entered.ensures c.args.image.now) _ _ _ _ _
+      c.start.ensures refl c.requires.bounded.4 c.requires.bounded.3;
+}
 
 pub returns-in-Refused : goal.returns-in-Refused
 returns-in-Refused c =
-    let s = c in
-    let enter = c in
-    superblock-stopped s.args.image.now s.args.list.now s.args.superblock _
-    c.places-room.ensures enter.enter_superblock.new.1.0 _ _ _
-    ((rw c.in-Refused.is at enter.enter_superblock.ensures) s.args.image.now)
+    superblock-stopped c.args.image.now c.args.list.now c.args.superblock _
+    c.places-room.ensures c.enter_superblock.new.blocks _ _ _ (c.in-Refused.ensures c.args.image.now)
 
 pub returns-in-Entered : goal.returns-in-Entered
 unfolding objects_most
 returns-in-Entered c =
-    let n = c in
-    let s = n in
-    let room = n.places-room.ensures in
-    let enter = n in
-    let one = rw n.in-Entered.is at enter.enter_superblock.ensures in
-    objects-read s.args.image.now s.args.list.now s.args.superblock _ room enter.enter_superblock.last.1.0 _
-    enter.enter_superblock.kept.1.0 (one s.args.image.now) _ _ _ _ _
-    c.start.ensures
-    refl _ _ _ _ c.read.result
-    c.read.auto.1.0 c.read.ensures
+    objects-read c.args.image.now c.args.list.now c.args.superblock _ c.places-room.ensures c.enter_superblock.new.blocks _
+    c.enter_superblock.auto.blocks (c.in-Entered.ensures c.args.image.now) _ _ _ _ _
+    c.start.ensures refl _ _ _ _ c.read.result c.read.auto.list c.read.ensures

@@ -1,10 +1,5 @@
 -- What the whole comparison finds is what is found from the ith size on; each turn settles one.
-use Prim.Native.Nat.{◌-◌, ◌≤◌}
-use mathlib.Core.Path.{◌≡◌}
-use lib.ListN.{drop}
-use Rattle.format.specs.Bytes.{to_words}
-use Rattle.format.specs.Dataspace.{all_at_most}
-use Rattle.dataspace.proofs.DataspaceLaws.{words_from, words-start, maxima-end, maxima-below, maxima-next}
+use Rattle.dataspace.proofs.DataspaceLaws.{words-start, maxima-end, maxima-below, maxima-next}
 use native.Mathlib.Omega.{arith}
 use borrow.Author.Rules.{rules}
 use Rattle.dataspace.proofs.at_most.Goals as goal

@@ -4,9 +4,7 @@ use mathlib.Core.Path.{◌≡◌}
 use lib.ListN.{drop}
 use Rattle.format.specs.Bytes.{to_words}
 use Rattle.format.specs.Dataspace.{all_at_most}
-use Rattle.dataspace.proofs.DataspaceLaws.{words_from, words-start, maxima-end, maxima-below, maxima-next}
-use native.Mathlib.Omega.{arith}
-use borrow.Author.Rules.{rules}
+use Rattle.dataspace.proofs.DataspaceLaws.{words_from}
 use Rattle.dataspace.proofs.at_most.Given as goal
 
 abbrev pub invariant-loop-i : goal.invariant-loop-i

@@ -1,7 +1,6 @@
 -- With a size of 0 the product is 0; without one it is multiplied out.
 use mathlib.Core.Path.{sym, ◌∙◌}
 use Rattle.dataspace.proofs.DataspaceLaws.{fills-none}
-use borrow.Author.Rules.{rules}
 use Rattle.dataspace.proofs.fills.Goals as goal
 
 pub returns-then-has_zero : goal.returns-then-has_zero

@@ -1,9 +1,5 @@
 -- What the whole search finds is what is found from the ith size on; each turn settles one.
-use Prim.Native.Nat.{◌-◌, ◌≤◌}
-use mathlib.Core.Path.{◌≡◌}
-use lib.ListN.{drop}
-use Rattle.format.specs.Bytes.{to_words, contains}
-use Rattle.dataspace.proofs.DataspaceLaws.{words_from, words-start, zero-end, zero-here, zero-next}
+use Rattle.dataspace.proofs.DataspaceLaws.{words-start, zero-end, zero-here, zero-next}
 use native.Mathlib.Omega.{arith}
 use borrow.Author.Rules.{rules}
 use Rattle.dataspace.proofs.has_zero.Goals as goal

@@ -3,9 +3,7 @@ use Prim.Native.Nat.{◌-◌, ◌≤◌}
 use mathlib.Core.Path.{◌≡◌}
 use lib.ListN.{drop}
 use Rattle.format.specs.Bytes.{to_words, contains}
-use Rattle.dataspace.proofs.DataspaceLaws.{words_from, words-start, zero-end, zero-here, zero-next}
-use native.Mathlib.Omega.{arith}
-use borrow.Author.Rules.{rules}
+use Rattle.dataspace.proofs.DataspaceLaws.{words_from}
 use Rattle.dataspace.proofs.has_zero.Given as goal
 
 abbrev pub invariant-loop-i : goal.invariant-loop-i

@@ -2,13 +2,10 @@
 use Prim.Native.Nat.{◌*◌, ◌-◌, ◌≤◌}
 use mathlib.Core.Path.{◌≡◌}
 use mathlib.Core.Bool.{false}
-use native.Mathlib.Nat.{mul_comm}
 use lib.ListN.{drop}
 use Rattle.format.specs.Bytes.{to_words, contains}
 use Rattle.format.specs.Dataspace.{product}
-use Rattle.dataspace.proofs.DataspaceLaws.{words_from, words-start, fills-larger, Turn, product-end, product-turn}
-use native.Mathlib.Omega.{arith}
-use borrow.Author.Rules.{rules}
+use Rattle.dataspace.proofs.DataspaceLaws.{words_from}
 use Rattle.dataspace.proofs.multiplies_to.Given as goal
 
 abbrev pub invariant-loop-i : goal.invariant-loop-i

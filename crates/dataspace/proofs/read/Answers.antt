@@ -15,7 +15,6 @@ use Rattle.laws.proofs.Results.{passes, fails}
 use Rattle.dataspace.proofs.SpaceChecks.{after_sizes, after_flags, after_rank, after_version, after_length, first-check}
 use Rattle.dataspace.proofs.SpaceChecks.{none-stored, maxima-short, maxima-low, maxima-stored, refused-space, plain-space, stored-space}
 use native.Mathlib.Omega.{arith}
-use borrow.Author.Rules.{rules}
 use Rattle.dataspace.proofs.read.Goals as goal
 
 -- at each place behind a check, what is left of the walk

@@ -1,9 +1,6 @@
 -- The words read so far stand in front of zeros; each turn writes one more.
-use Prim.Native.Nat.{◌-◌, ◌≤◌}
 use mathlib.Core.Path.{◌≡◌, ap, ◌∙◌}
 use lib.ListN.{drop, set}
-use Rattle.format.specs.Limits.{rank_most}
-use Rattle.format.specs.Bytes.{to_words, padded}
 use Rattle.dataspace.proofs.DataspaceLaws.{rank-held, padded-start, padded-next}
 use native.Mathlib.Omega.{arith}
 use borrow.Author.Rules.{rules}

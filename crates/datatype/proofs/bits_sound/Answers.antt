@@ -1,6 +1,5 @@
 -- The precision first, then the sum.
 use Rattle.datatype.proofs.DatatypeLaws.{bits-unsound, bits-decide}
-use borrow.Author.Rules.{rules}
 use Rattle.datatype.proofs.bits_sound.Goals as goal
 
 pub returns-then-precision-lt1 : goal.returns-then-precision-lt1

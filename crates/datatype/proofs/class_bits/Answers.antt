@@ -1,7 +1,6 @@
 -- Two bytes and one behind them.
 use Rattle.walk.proofs.LittleEndian.{number-one, number-add}
 use native.Mathlib.Omega.{arith}
-use borrow.Author.Rules.{rules}
 use Rattle.datatype.proofs.class_bits.Goals as goal
 
 pub overflow_mul-result : goal.overflow_mul-result

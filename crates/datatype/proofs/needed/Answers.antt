@@ -1,7 +1,6 @@
 -- Each return by the class.
 use mathlib.Core.Path.{sym, ◌∙◌}
 use Rattle.datatype.proofs.DatatypeLaws.{extent-one, extent-bits, extent-plain}
-use borrow.Author.Rules.{rules}
 use Rattle.datatype.proofs.needed.Goals as goal
 
 pub returns-then-class-eq1 : goal.returns-then-class-eq1

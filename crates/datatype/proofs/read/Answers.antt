@@ -11,7 +11,6 @@ use Rattle.format.specs.Result.{Result}
 use Rattle.walk.proofs.Tests.{range-below, range-above, range_inside, field-most, field-above, field-least, field_below}
 use Rattle.laws.proofs.Results.{passes, fails}
 use Rattle.datatype.proofs.TypeChecks.{class_of, version_of, after_extent, after_size, after_class, after_version, after_length, first-check, unsound-bits, own_read}
-use borrow.Author.Rules.{rules}
 use Rattle.datatype.proofs.read.Goals as goal
 
 -- at each place behind a check, what is left of the walk

@@ -4,7 +4,6 @@ use borrow.Author.Tests.{le-leb, lt-leb}
 use Rattle.format.specs.Datatype.{shared_at, read_shared}
 use Rattle.format.specs.Result.{value}
 use Rattle.laws.proofs.Results.{passes, fails}
-use borrow.Author.Rules.{rules}
 use Rattle.datatype.proofs.read_shared.Goals as goal
 
 pub returns-then-body-lt8 : goal.returns-then-body-lt8

@@ -1,6 +1,5 @@
 -- Each return by the version, and by the type in version 3.
 use Rattle.datatype.proofs.DatatypeLaws.{shared-2, shared-other, shared-3}
-use borrow.Author.Rules.{rules}
 use Rattle.datatype.proofs.shared_read.Goals as goal
 
 pub returns-then-body-eq2 : goal.returns-then-body-eq2

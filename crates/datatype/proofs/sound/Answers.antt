@@ -2,7 +2,6 @@
 use lib.ListN.{length}
 use mathlib.Core.Path.{sym, ◌∙◌}
 use Rattle.datatype.proofs.DatatypeLaws.{extent-holds}
-use borrow.Author.Rules.{rules}
 use Rattle.datatype.proofs.sound.Goals as goal
 
 pub bits_sound-requires : goal.bits_sound-requires

@@ -6,4 +6,4 @@ use Rattle.describe.proofs.refused.Goals as goal
 
 pub returns : goal.returns
 unfolding rank_most
-returns c = λ lent ws bs. rw (c.number_of.ensures, c.Met-of.ensures, handed-none lent ws)
+returns c = λ lent ws bs. rw (c.number_of.ensures, c.met_of.ensures, handed-none lent ws)

@@ -56,7 +56,7 @@ loop-from-preserved c = (
       c.loop-from.from c.component_end-end.result c.loop-from.at (omega arith) c.component_end-end.ensures
       c.in-Object.a c.in-Object.ensures.found,
   lent_same c.loop-from.invariant.1 c.component.auto.list,
-  c.component.auto.list ∙ c.loop-from.invariant.2.0,
+  c.component.auto.list ∙ c.loop-from.invariant.2,
   omega (arith, c.component_end-end.ensures.inside),
 )
 

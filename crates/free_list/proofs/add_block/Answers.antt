@@ -3,7 +3,6 @@ use mathlib.Core.Bool.{not}
 use mathlib.Core.Path.{refl, sym, ap, ◌∙◌}
 use Rattle.free_list.proofs.BlockLaws.{fields-outside, too_small, block-outside, overlap-decides, not-added, was-added}
 use native.Mathlib.Omega.{arith}
-use borrow.Author.Rules.{rules}
 use Rattle.free_list.proofs.add_block.Goals as goal
 
 pub returns-then-segment-lt16 : goal.returns-then-segment-lt16

@@ -1,14 +1,10 @@
 -- The fuel of the definition is what is left of the segment's length; each turn is one block, which the map then has.
-use Prim.Native.Nat.{◌+◌, ◌*◌, ◌-◌, ◌≤◌}
-use mathlib.Core.Path.{◌≡◌, refl, sym, ◌∙◌}
-use borrow.Author.Tests.{eq-eqb, ne_eqb, not-true, not-false}
-use lib.ListN.{length}
-use Rattle.format.specs.Bytes.{u64, undefined_address}
+use mathlib.Core.Path.{refl, sym, ◌∙◌}
+use borrow.Author.Tests.{eq-eqb, ne_eqb}
+use Rattle.format.specs.Bytes.{undefined_address}
 use Rattle.free_list.specs.FreeBlocks.{chain}
-use Rattle.free_list.specs.Spanned.{Spanned}
-use Rattle.free_list.proofs.FreeLaws.{Following, none-held, free-none, free-undefined, free-start}
+use Rattle.free_list.proofs.FreeLaws.{none-held, free-none, free-undefined, free-start}
 use Rattle.free_list.proofs.FreeLaws.{block-unsound, block_inside, block_held, block-spanned, block_last, block_more, free-long}
-use borrow.Author.Rules.{rules}
 use native.Mathlib.Omega.{arith}
 use Rattle.free_list.proofs.free_list.Goals as goal
 

@@ -1,7 +1,6 @@
 -- A cell of the map, or 0 behind it, as the list has it.
 use mathlib.Core.Path.{sym}
 use lib.ListN.{get_or-eq_default}
-use borrow.Author.Rules.{rules}
 use native.Mathlib.Omega.{arith}
 use Rattle.free_map.proofs.cell.Goals as goal
 

@@ -1,6 +1,5 @@
 -- A cell without a free byte has none; else the bytes at the cell's start decide, or those at its end.
 use Rattle.free_map.proofs.SearchLaws.{empty-cell, start-decides, end-decides}
-use borrow.Author.Rules.{rules}
 use Rattle.free_map.proofs.cell_meets.Goals as goal
 
 pub returns-then-v-eq0 : goal.returns-then-v-eq0

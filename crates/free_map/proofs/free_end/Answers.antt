@@ -1,6 +1,5 @@
 -- The test settles the range that the number lies in.
 use mathlib.Core.Path.{sym}
-use borrow.Author.Rules.{rules}
 use native.Mathlib.Omega.{arith}
 use Rattle.free_map.proofs.CellLaws.{end_none, end-both}
 use Rattle.free_map.proofs.free_end.Goals as goal

@@ -1,10 +1,6 @@
 -- What the whole search finds is what it finds from this cell's byte on; each turn settles one cell.
-use Prim.Native.Nat.{◌+◌, ◌*◌, ◌-◌, ◌≤◌, ◌<◌}
-use mathlib.Core.Path.{◌≡◌, sym, ◌∙◌}
-use lib.ListN.{get_or}
-use Rattle.free_map.specs.Cells.{cell_meets}
-use Rattle.free_map.proofs.SearchLaws.{Left, left-first, turn-hit, turn-miss, turn_last}
-use borrow.Author.Rules.{rules}
+use mathlib.Core.Path.{sym, ◌∙◌}
+use Rattle.free_map.proofs.SearchLaws.{left-first, turn-hit, turn-miss, turn_last}
 use native.Mathlib.Omega.{arith}
 use Rattle.free_map.proofs.meets.Goals as goal
 

@@ -3,7 +3,6 @@ use Rattle.laws.proofs.Results.{passes, fails}
 use Rattle.walk.proofs.Tests.{takes-then, takes-else}
 use borrow.Author.Tests.{eq-eqb, ne_eqb, le-leb, lt-leb}
 use Rattle.format.specs.Layout.{read_layout}
-use borrow.Author.Rules.{rules}
 use Rattle.layout.proofs.read.Goals as goal
 
 pub returns-then-body-lt8 : goal.returns-then-body-lt8

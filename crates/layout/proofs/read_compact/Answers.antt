@@ -1,6 +1,5 @@
 -- The size decides.
 use Rattle.layout.proofs.LayoutLaws.{compact-short, compact-read}
-use borrow.Author.Rules.{rules}
 use Rattle.layout.proofs.read_compact.Goals as goal
 
 pub returns-then-body-size : goal.returns-then-body-size

@@ -3,7 +3,6 @@ use borrow.Author.Tests.{lt-leb}
 use Rattle.format.specs.Layout.{read_contiguous}
 use Rattle.laws.proofs.Results.{fails}
 use Rattle.layout.proofs.LayoutLaws.{contiguous-read}
-use borrow.Author.Rules.{rules}
 use Rattle.layout.proofs.read_contiguous.Goals as goal
 
 pub returns-then-body-lt18 : goal.returns-then-body-lt18

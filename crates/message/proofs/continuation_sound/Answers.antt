@@ -1,10 +1,7 @@
 -- Only a continuation has the field.
-use mathlib.Core.Path.{◌≡◌, refl, sym, ap, ◌∙◌}
+use mathlib.Core.Path.{ap}
 use borrow.Author.Tests.{eq-eqb, ne_eqb}
-use Prim.Native.Nat.{ℕ}
 use lib.Dec.{leb}
-use Rattle.format.specs.Bytes.{◌implies◌}
-use borrow.Author.Rules.{rules}
 use native.Mathlib.Omega.{arith}
 use Rattle.message.proofs.continuation_sound.Goals as goal
 

@@ -1,9 +1,5 @@
 -- By the range of the two types.
-use mathlib.Core.Path.{◌≡◌, refl, sym}
 use Rattle.walk.proofs.Tests.{range-below, range-above, range_inside}
-use Rattle.format.specs.Bytes.{◌implies◌}
-use borrow.Author.Rules.{rules}
-use native.Mathlib.Omega.{arith}
 use Rattle.message.proofs.fields_there.Goals as goal
 
 pub returns-then-kind-lt16 : goal.returns-then-kind-lt16

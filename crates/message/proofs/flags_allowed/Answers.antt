@@ -1,9 +1,5 @@
 -- By the shared flag.
-use mathlib.Core.Path.{◌≡◌, refl, sym}
 use borrow.Author.Tests.{eq-eqb, ne_eqb}
-use Rattle.format.specs.Bytes.{◌implies◌}
-use borrow.Author.Rules.{rules}
-use native.Mathlib.Omega.{arith}
 use Rattle.message.proofs.flags_allowed.Goals as goal
 
 pub returns-then-flags-ne1 : goal.returns-then-flags-ne1

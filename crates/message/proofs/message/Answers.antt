@@ -2,11 +2,9 @@
 use mathlib.Core.Logic.{inl, inr}
 use mathlib.Core.Path.{◌≡◌, refl, sym, ◌∙◌}
 use Prim.Native.Nat.{◌%◌, ◌≤◌}
-use borrow.Author.Tests.{leb-true}
 use Rattle.message.proofs.MessageLaws.{fields-long, too_short, type-refused, size-odd, size-long, flags-refused, fields-refused, continuation-refused}
 use Rattle.message.proofs.MessageLaws.{message-done}
 use native.Mathlib.Omega.{arith}
-use borrow.Author.Rules.{rules}
 use Rattle.message.proofs.message.Goals as goal
 
 pub returns-then-end-at-lt8 : goal.returns-then-end-at-lt8

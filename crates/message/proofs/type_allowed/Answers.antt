@@ -3,8 +3,6 @@ use mathlib.Core.Path.{ap, sym, ◌∙◌}
 use Rattle.format.specs.Message.{allowed}
 use Rattle.message.specs.Message.{treatment_of}
 use Rattle.message.specs.declared.Treatment.{Treatment}
-use native.Mathlib.Omega.{arith}
-use borrow.Author.Rules.{rules}
 use Rattle.message.proofs.type_allowed.Goals as goal
 
 pub returns-in-SteppedOver : goal.returns-in-SteppedOver

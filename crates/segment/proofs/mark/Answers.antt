@@ -1,7 +1,6 @@
 -- A map of no cells has none to be marked.
 use Rattle.segment.proofs.SegmentLaws.{marked-none}
 use native.Mathlib.Omega.{arith}
-use borrow.Author.Rules.{rules}
 use Rattle.segment.proofs.mark.Goals as goal
 
 pub returns-then-map-eq0 : goal.returns-then-map-eq0

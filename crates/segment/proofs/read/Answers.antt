@@ -1,5 +1,4 @@
 -- The free list, its map marked, and the last NUL.
-use mathlib.Core.Path.{◌∙◌, sym}
 use Rattle.segment.proofs.SegmentLaws.{list-unsound, list-sound}
 use native.Mathlib.Omega.{arith}
 use borrow.Author.Rules.{rules}

@@ -1,6 +1,5 @@
 -- By the mark of the place.
 use Rattle.sharing.proofs.SharingLaws.{kind-shared, kind-marked}
-use borrow.Author.Rules.{rules}
 use Rattle.sharing.proofs.not_committed.Goals as goal
 
 pub returns-then-marks-place-eq-SHARED : goal.returns-then-marks-place-eq-SHARED

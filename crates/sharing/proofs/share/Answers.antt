@@ -1,6 +1,5 @@
 -- The discovery where the search ended, then the mark of that place.
 use Rattle.sharing.proofs.SharingLaws.{marked-place, share-full, share_other, share-counted}
-use borrow.Author.Rules.{rules}
 use Rattle.sharing.proofs.share.Goals as goal
 
 pub bounds-marks-place : goal.bounds-marks-place

@@ -1,7 +1,5 @@
 -- By where the datatype stands.
 use Rattle.sharing.proofs.SharingLaws.{type-shared, type-own}
-use native.Mathlib.Omega.{arith}
-use borrow.Author.Rules.{rules}
 use Rattle.sharing.proofs.share_type.Goals as goal
 
 pub returns-in-Shared : goal.returns-in-Shared

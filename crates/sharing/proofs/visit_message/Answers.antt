@@ -1,6 +1,5 @@
 -- By what is done: a lookup or another message is passed by; an attribute is read, and what it shares is counted.
 use Rattle.sharing.proofs.SharingLaws.{lookup-message, other-message, own-type, bad-attribute, shared-type}
-use borrow.Author.Rules.{rules}
 use Rattle.sharing.proofs.visit_message.Goals as goal
 
 pub returns-then-not-auditing : goal.returns-then-not-auditing

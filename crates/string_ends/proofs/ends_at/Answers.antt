@@ -9,7 +9,6 @@ use Rattle.string_ends.proofs.NumberLaws.{end-most}
 use Rattle.string_ends.proofs.CellLaws.{cell-without}
 use Rattle.string_ends.proofs.ScanLaws.{same-cell, scan-free}
 use native.Mathlib.Omega.{arith}
-use borrow.Author.Rules.{rules}
 use Rattle.string_ends.proofs.ends_at.Goals as goal
 
 pub returns-then-whole-c : goal.returns-then-whole-c

@@ -4,7 +4,6 @@ use mathlib.Core.Path.{◌≡◌, sym, ◌∙◌}
 use Rattle.string_ends.proofs.CellLaws.{cell-marked}
 use Rattle.string_ends.proofs.MarkLaws.{cell-of}
 use native.Mathlib.Omega.{arith}
-use borrow.Author.Rules.{rules}
 use Rattle.string_ends.proofs.ends_outside.Goals as goal
 
 pub returns-then-v-eq-MARKED : goal.returns-then-v-eq-MARKED

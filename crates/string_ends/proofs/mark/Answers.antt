@@ -1,13 +1,9 @@
 -- The cells from c on are marked.
-use Prim.Native.Nat.{◌-◌, ◌≤◌}
-use mathlib.Core.List.{List}
+use Prim.Native.Nat.{◌-◌}
 use mathlib.Core.Path.{◌≡◌, refl, sym}
-use lib.ListN.{length, get_or, length-set, get_or-eq_default}
+use lib.ListN.{length, length-set, get_or-eq_default}
 use lib.Seq.{get_or-set_same}
-use Rattle.format.specs.Blocks.{Block}
-use Rattle.free_map.specs.FreeMap.{MapOf}
 use Rattle.string_ends.proofs.MarkLaws.{MarkedFrom, cell-of, marked-none, marked-before, marked_all}
-use borrow.Author.Rules.{rules}
 use native.Mathlib.Omega.{arith}
 use Rattle.string_ends.proofs.mark.Goals as goal
 

@@ -1,14 +1,11 @@
 -- The cells from c on are marked.
-use Prim.Native.Nat.{◌-◌, ◌≤◌}
+use Prim.Native.Nat.{◌≤◌}
 use mathlib.Core.List.{List}
-use mathlib.Core.Path.{◌≡◌, refl, sym}
-use lib.ListN.{length, get_or, length-set, get_or-eq_default}
-use lib.Seq.{get_or-set_same}
+use mathlib.Core.Path.{◌≡◌}
+use lib.ListN.{length, get_or}
 use Rattle.format.specs.Blocks.{Block}
 use Rattle.free_map.specs.FreeMap.{MapOf}
-use Rattle.string_ends.proofs.MarkLaws.{MarkedFrom, cell-of, marked-none, marked-before, marked_all}
-use borrow.Author.Rules.{rules}
-use native.Mathlib.Omega.{arith}
+use Rattle.string_ends.proofs.MarkLaws.{MarkedFrom}
 use Rattle.string_ends.proofs.mark.Given as goal
 
 abbrev pub invariant-loop-c : goal.invariant-loop-c

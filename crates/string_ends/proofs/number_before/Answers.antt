@@ -1,11 +1,10 @@
 -- A cell whose bytes are all free stays; before a marked cell without a free byte the string ends outside; else the cell decides.
 use Prim.Native.Nat.{◌+◌, ◌*◌}
-use mathlib.Core.Path.{◌≡◌, sym}
+use mathlib.Core.Path.{◌≡◌}
 use Rattle.free_map.proofs.CellLaws.{start_plain}
 use Rattle.string_ends.proofs.NumberLaws.{remarked-whole}
 use Rattle.string_ends.proofs.CellLaws.{cell-marked}
 use native.Mathlib.Omega.{arith}
-use borrow.Author.Rules.{rules}
 use Rattle.string_ends.proofs.number_before.Goals as goal
 
 pub returns-then-w-eq-FREE : goal.returns-then-w-eq-FREE

@@ -1,7 +1,6 @@
 -- A number that stays, or one that is made of the free bytes at the cell's start.
 use Rattle.string_ends.proofs.NumberLaws.{start-most, remarked-both, remarked-whole, remarked-true, remarked-false}
 use native.Mathlib.Omega.{arith}
-use borrow.Author.Rules.{rules}
 use Rattle.string_ends.proofs.remarked.Goals as goal
 
 pub returns-then-v-ge33 : goal.returns-then-v-ge33

@@ -1,13 +1,11 @@
 -- The first test that fails decides; where all but the last pass, the last does.
 use mathlib.Core.Path.{ap, sym, ◌∙◌}
-use Prim.Native.Nat.{ℕ, ◌+◌}
+use Prim.Native.Nat.{ℕ}
 use lib.Dec.{eqb}
 use Rattle.format.specs.Bytes.{undefined_address}
 use Rattle.format.specs.Superblock.{addresses_read}
 use Rattle.walk.proofs.Tests.{all-fails, all-passes, all-last, field-equal, field-unequal}
 use Rattle.superblock.proofs.SuperblockLaws.{shifted-field}
-use native.Mathlib.Omega.{arith}
-use borrow.Author.Rules.{rules}
 use Rattle.superblock.proofs.addresses_read.Goals as goal
 
 pub returns-then-u64_at-ne0 : goal.returns-then-u64_at-ne0

@@ -3,8 +3,6 @@ use Rattle.format.specs.Superblock.{superblock_walk}
 use Rattle.format.specs.Walk.{superblock_block}
 use Rattle.walk.specs.Lent.{blocks_of}
 use Rattle.laws.proofs.Simulation.{one_block}
-use native.Mathlib.Omega.{arith}
-use borrow.Author.Rules.{rules}
 use Rattle.superblock.proofs.enter_superblock.Goals as goal
 
 pub returns : goal.returns

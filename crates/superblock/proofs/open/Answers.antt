@@ -14,7 +14,6 @@ use Rattle.walk.proofs.Tests.{range-below, range-above, range_inside, field-equa
 use Rattle.superblock.proofs.SuperblockLaws.{superblock-fits, opening-1, opening-2, opening-3}
 use Rattle.superblock.proofs.SuperblockLaws.{opening-4, opening-done, end-inside, end-small, end-most, size-least}
 use native.Mathlib.Omega.{arith}
-use borrow.Author.Rules.{rules}
 use Rattle.superblock.proofs.open.Goals as goal
 
 -- the image's length is in range

@@ -2,8 +2,6 @@
 use borrow.Author.Tests.{eq-eqb, ne_eqb}
 use Rattle.format.specs.Superblock.{sizes_read}
 use Rattle.walk.proofs.Tests.{all-fails, all-passes, all-last}
-use native.Mathlib.Omega.{arith}
-use borrow.Author.Rules.{rules}
 use Rattle.superblock.proofs.sizes_read.Goals as goal
 
 pub returns-then-image-ne8 : goal.returns-then-image-ne8

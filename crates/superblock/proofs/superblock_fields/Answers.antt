@@ -1,10 +1,7 @@
 -- Each field by the number that was read for it.
-use mathlib.Core.Path.{◌≡◌, ap, sym, ◌∙◌, refl}
-use Prim.Native.Nat.{ℕ, ◌+◌}
+use mathlib.Core.Path.{sym}
 use Rattle.format.specs.Superblock.{superblock_fields}
 use Rattle.superblock.proofs.SuperblockLaws.{shifted-field, shifted_end}
-use native.Mathlib.Omega.{arith}
-use borrow.Author.Rules.{rules}
 use Rattle.superblock.proofs.superblock_fields.Goals as goal
 
 pub returns : goal.returns

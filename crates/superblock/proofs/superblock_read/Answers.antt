@@ -2,8 +2,6 @@
 use mathlib.Core.Path.{sym, ◌∙◌}
 use Rattle.format.specs.Superblock.{superblock_read}
 use Rattle.walk.proofs.Tests.{all-fails, all-passes, all-last}
-use native.Mathlib.Omega.{arith}
-use borrow.Author.Rules.{rules}
 use Rattle.superblock.proofs.superblock_read.Goals as goal
 
 pub returns-then-not-versions_read : goal.returns-then-not-versions_read

@@ -9,8 +9,6 @@ use lib.ListN.{length}
 use Rattle.format.specs.Superblock.{version_shift, superblock_sound}
 use Rattle.walk.proofs.Tests.{all-fails, all-passes, all-last, field-most, field-above, field-least, field_below}
 use Rattle.superblock.proofs.SuperblockLaws.{shifted-field, shifted_end}
-use native.Mathlib.Omega.{arith}
-use borrow.Author.Rules.{rules}
 use Rattle.superblock.proofs.superblock_sound.Goals as goal
 use Rattle.superblock.specs.Superblock.{Shifted}
 

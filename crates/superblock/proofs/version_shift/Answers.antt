@@ -1,9 +1,7 @@
 -- The version byte decides.
-use mathlib.Core.Path.{refl}
 use borrow.Author.Tests.{eq-eqb, ne_eqb}
 use Rattle.format.specs.Superblock.{version_shift}
 use native.Mathlib.Omega.{arith}
-use borrow.Author.Rules.{rules}
 use Rattle.superblock.proofs.version_shift.Goals as goal
 
 pub returns-then-image-eq1 : goal.returns-then-image-eq1

@@ -2,8 +2,6 @@
 use borrow.Author.Tests.{lt-leb, le-leb, eq-eqb, ne_eqb}
 use Rattle.format.specs.Superblock.{versions_read}
 use Rattle.walk.proofs.Tests.{all-fails, all-passes, all-last}
-use native.Mathlib.Omega.{arith}
-use borrow.Author.Rules.{rules}
 use Rattle.superblock.proofs.versions_read.Goals as goal
 
 pub returns-then-image-gt1 : goal.returns-then-image-gt1

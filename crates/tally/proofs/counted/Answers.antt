@@ -1,7 +1,6 @@
 -- The first of its own type by `one_more`, and those of other types as they were.
 use Rattle.tally.proofs.TallyLaws.{first-kept, total-more}
 use native.Mathlib.Omega.{arith}
-use borrow.Author.Rules.{rules}
 use Rattle.tally.proofs.counted.Goals as goal
 
 pub returns-in-1 : goal.returns-in-1

@@ -1,8 +1,5 @@
 -- Of each type there is none.
 use mathlib.Core.Path.{refl}
-use mathlib.Core.List.{[]}
-use native.Mathlib.Omega.{arith}
-use borrow.Author.Rules.{rules}
 use Rattle.tally.proofs.empty.Goals as goal
 
 pub returns : goal.returns

@@ -1,8 +1,6 @@
 -- No message is there.
 use mathlib.Core.Path.{refl}
-use mathlib.Core.List.{[]}
 use Rattle.format.specs.Message.{of_type}
-use borrow.Author.Rules.{rules}
 use native.Mathlib.Omega.{arith}
 use Rattle.tally.proofs.none.Goals as goal
 

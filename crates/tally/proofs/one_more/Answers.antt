@@ -1,7 +1,5 @@
 -- The new message is the first, or comes behind it.
 use Rattle.tally.proofs.TallyLaws.{first-new, first-again}
-use borrow.Author.Rules.{rules}
-use native.Mathlib.Omega.{arith}
 use Rattle.tally.proofs.one_more.Goals as goal
 
 pub returns-then-count-eq0 : goal.returns-then-count-eq0

@@ -1,10 +1,5 @@
 -- What the whole test finds is what is found from the ith entry on; each turn reads and settles one.
-use Prim.Native.Nat.{◌-◌, ◌≤◌}
-use mathlib.Core.Path.{◌≡◌, refl}
-use borrow.Author.Tests.{not-true, not-false}
-use lib.ListN.{drop}
-use Rattle.format.specs.Log.{changes}
-use Rattle.format.specs.Undo.{all_fit}
+use mathlib.Core.Path.{refl}
 use Rattle.undo.specs.Reply.{words_of}
 use Rattle.undo.proofs.UndoLaws.{all_end, all_here, all-next}
 use Rattle.undo.proofs.ByteLaws.{entry-fits}

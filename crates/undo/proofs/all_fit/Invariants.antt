@@ -1,15 +1,10 @@
 -- What the whole test finds is what is found from the ith entry on; each turn reads and settles one.
 use Prim.Native.Nat.{◌-◌, ◌≤◌}
-use mathlib.Core.Path.{◌≡◌, refl}
-use borrow.Author.Tests.{not-true, not-false}
+use mathlib.Core.Path.{◌≡◌}
 use lib.ListN.{drop}
 use Rattle.format.specs.Log.{changes}
 use Rattle.format.specs.Undo.{all_fit}
 use Rattle.undo.specs.Reply.{words_of}
-use Rattle.undo.proofs.UndoLaws.{all_end, all_here, all-next}
-use Rattle.undo.proofs.ByteLaws.{entry-fits}
-use borrow.Author.Rules.{rules}
-use native.Mathlib.Omega.{arith}
 use Rattle.undo.proofs.all_fit.Given as goal
 
 abbrev pub invariant-loop-i : goal.invariant-loop-i

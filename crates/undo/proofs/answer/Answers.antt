@@ -3,7 +3,6 @@ use Prim.Native.Nat.{ℕ, ◌*◌, ◌/◌, ◌≤◌}
 use mathlib.Core.Path.{◌≡◌, sym, ◌∙◌}
 use mathlib.Core.List.{List}
 use mathlib.Core.Bool.{true}
-use borrow.Author.Tests.{not-true, not-false}
 use lib.ListN.{length}
 use Rattle.format.specs.Limits.{image_least, image_most}
 use Rattle.format.specs.Bytes.{in_range}
@@ -12,7 +11,6 @@ use Rattle.undo.specs.Reply.{words_of}
 use Rattle.undo.proofs.UndoLaws.{field_fits, number-0, number-1, number-18, number-19}
 use Rattle.undo.proofs.ByteLaws.{length-words}
 use native.Mathlib.Omega.{arith}
-use borrow.Author.Rules.{rules}
 use Rattle.undo.proofs.answer.Goals as goal
 
 -- the image's length is in range

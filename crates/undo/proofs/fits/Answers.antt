@@ -1,7 +1,6 @@
 -- The field's place first, then the old count, then the new.
 use Rattle.undo.proofs.UndoLaws.{outside, holds-old, holds-new}
 use native.Mathlib.Omega.{arith}
-use borrow.Author.Rules.{rules}
 use Rattle.undo.proofs.fits.Goals as goal
 
 pub returns-then-image-field : goal.returns-then-image-field

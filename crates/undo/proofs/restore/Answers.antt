@@ -1,13 +1,10 @@
 -- The image holds the old counts from the ith entry on; each turn reads the entry before and writes its old count. Writing keeps the length,
 -- so that each field stays inside.
-use Prim.Native.Nat.{◌+◌, ◌-◌, ◌≤◌}
+use Prim.Native.Nat.{◌+◌, ◌-◌}
 use mathlib.Core.Path.{◌≡◌, refl, ◌∙◌}
-use lib.ListN.{length, drop}
-use Rattle.format.specs.Log.{changes, restored}
 use Rattle.undo.specs.Reply.{words_of}
 use Rattle.undo.proofs.UndoLaws.{field-inside, restored-none, restored-next}
 use Rattle.undo.proofs.ByteLaws.{field-read, old-put}
-use borrow.Author.Rules.{rules}
 use native.Mathlib.Omega.{arith}
 use Rattle.undo.proofs.restore.Goals as goal
 

@@ -6,7 +6,6 @@ use Rattle.undo.specs.Reply.{words_of}
 use Rattle.undo.proofs.UndoLaws.{number-zero, undo-refused, undo-done}
 use Rattle.undo.proofs.ByteLaws.{length-words}
 use native.Mathlib.Omega.{arith}
-use borrow.Author.Rules.{rules}
 use Rattle.undo.proofs.undo.Goals as goal
 
 pub returns-then-number-ne-DONE : goal.returns-then-number-ne-DONE

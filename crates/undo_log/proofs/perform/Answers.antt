@@ -1,9 +1,6 @@
 -- The first i entries are performed; each turn performs one more.
-use borrow.Author.Rules.{rules}
 use native.Mathlib.Omega.{arith}
-use Prim.Native.Nat.{◌-◌, ◌≤◌}
 use mathlib.Core.Path.{◌≡◌, refl, ◌∙◌}
-use lib.ListN.{length}
 use Rattle.format.specs.Log.{changes, written}
 use Rattle.undo_log.proofs.WrittenLaws.{perform-more}
 use Rattle.undo_log.proofs.perform.Goals as goal

@@ -1,11 +1,8 @@
 -- The first i entries are performed; each turn performs one more.
-use borrow.Author.Rules.{rules}
-use native.Mathlib.Omega.{arith}
 use Prim.Native.Nat.{◌-◌, ◌≤◌}
-use mathlib.Core.Path.{◌≡◌, refl, ◌∙◌}
+use mathlib.Core.Path.{◌≡◌}
 use lib.ListN.{length}
 use Rattle.format.specs.Log.{changes, written}
-use Rattle.undo_log.proofs.WrittenLaws.{perform-more}
 use Rattle.undo_log.proofs.perform.Given as goal
 
 abbrev pub invariant-loop-i : goal.invariant-loop-i

@@ -4,7 +4,6 @@ use Prim.Native.Nat.{◌+◌, ◌≤◌}
 use lib.ListN.{length}
 use lib.ListN.{length-set}
 use Rattle.undo_log.proofs.LogLaws.{entry-none, entry-room, entry-one}
-use borrow.Author.Rules.{rules}
 use Rattle.undo_log.proofs.put_entry.Goals as goal
 use Rattle.undo_log.proofs.put_entry.Goals.{Else-stored-true_count}
 

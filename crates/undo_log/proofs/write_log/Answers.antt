@@ -1,13 +1,12 @@
 -- The entries of the first i places are written; each turn writes that of one place more. Then the rest is cleared.
 use borrow.Author.Rules.{rules}
 use native.Mathlib.Omega.{arith}
-use Prim.Native.Nat.{◌+◌, ◌-◌, ◌≤◌, ◌<◌}
+use Prim.Native.Nat.{◌+◌, ◌≤◌, ◌<◌}
 use mathlib.Core.Path.{◌≡◌, refl}
-use lib.ListN.{length, take}
+use lib.ListN.{length}
 use Rattle.format.specs.Limits.{objects_most}
 use Rattle.format.specs.Log.{log_words}
-use Rattle.undo_log.proofs.LogLaws.{first_wrong, wrong-none, room-more, words_more, words-all, news-more, wrong-within}
-use Rattle.undo_log.specs.Entries.{NewsFit}
+use Rattle.undo_log.proofs.LogLaws.{wrong-none, room-more, words_more, words-all, news-more, wrong-within}
 use Rattle.undo_log.proofs.write_log.Goals as goal
 use Rattle.undo_log.proofs.write_log.Goals.{After-loop-i}
 

@@ -1,12 +1,8 @@
 -- The wrong counts among the first i places are counted; each turn takes one place more.
-use borrow.Author.Rules.{rules}
-use native.Mathlib.Omega.{arith}
 use Prim.Native.Nat.{◌-◌, ◌≤◌}
-use mathlib.Core.Path.{◌≡◌, ap, ◌∙◌}
-use mathlib.Core.Logic.{⊎_elim}
-use lib.ListN.{length, get_or}
-use Rattle.format.specs.Limits.{objects_most}
-use Rattle.undo_log.proofs.LogLaws.{first_wrong, wrong-none, length_more, correction-right, correction-wrong}
+use mathlib.Core.Path.{◌≡◌}
+use lib.ListN.{length}
+use Rattle.undo_log.proofs.LogLaws.{first_wrong}
 use Rattle.undo_log.proofs.wrong.Given as goal
 
 abbrev pub invariant-loop-i : goal.invariant-loop-i

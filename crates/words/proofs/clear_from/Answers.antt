@@ -1,11 +1,10 @@
 -- The bytes from `from` to i are zeros; each turn makes one more.
-use Prim.Native.Nat.{◌≤◌, ◌-◌, ◌+◌}
+use Prim.Native.Nat.{◌-◌, ◌+◌}
 use mathlib.Core.Path.{◌≡◌, refl, sym, ◌∙◌}
-use mathlib.Core.List.{◌++◌, append-nil}
-use lib.ListN.{length, take, replicate, length-set}
+use mathlib.Core.List.{append-nil}
+use lib.ListN.{length, take, length-set}
 use lib.Seq.{take_all}
 use Rattle.words.proofs.Words.{zeros-more}
-use borrow.Author.Rules.{rules}
 use native.Mathlib.Omega.{arith}
 use Rattle.words.proofs.clear_from.Goals as goal
 

@@ -1,6 +1,5 @@
 -- The two halves, written one after the other, are the bytes of the word.
 use Rattle.words.proofs.Words.{word_write}
-use borrow.Author.Rules.{rules}
 use Rattle.words.proofs.put_word.Goals as goal
 
 pub returns : goal.returns

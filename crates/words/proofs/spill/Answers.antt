@@ -1,8 +1,7 @@
 -- The bytes begin with the first i words; each turn writes one more.
-use Prim.Native.Nat.{◌≤◌, ◌-◌}
-use mathlib.Core.Path.{◌≡◌, ◌∙◌}
-use lib.ListN.{length, take}
-use Rattle.words.proofs.Words.{Begins, begins-none, begins-next, begins-all}
+use mathlib.Core.Path.{◌∙◌}
+use lib.ListN.{length}
+use Rattle.words.proofs.Words.{begins-none, begins-next, begins-all}
 use borrow.Author.Rules.{rules}
 use native.Mathlib.Omega.{arith}
 use Rattle.words.proofs.spill.Goals as goal

@@ -1,10 +1,8 @@
 -- The bytes begin with the first i words; each turn writes one more.
 use Prim.Native.Nat.{◌≤◌, ◌-◌}
-use mathlib.Core.Path.{◌≡◌, ◌∙◌}
+use mathlib.Core.Path.{◌≡◌}
 use lib.ListN.{length, take}
-use Rattle.words.proofs.Words.{Begins, begins-none, begins-next, begins-all}
-use borrow.Author.Rules.{rules}
-use native.Mathlib.Omega.{arith}
+use Rattle.words.proofs.Words.{Begins}
 use Rattle.words.proofs.spill.Given as goal
 
 abbrev pub invariant-loop-i : goal.invariant-loop-i

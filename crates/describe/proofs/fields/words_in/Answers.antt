@@ -9,11 +9,10 @@ use Rattle.describe.proofs.fields.words_in.Goals as goal
 
 pub words-requires : goal.words-requires
 words-requires c =
-    let s = c in
-    let a = s.args in
+    let a = c.args in
     record {
-      rank_in_bounds = subst (λ (b : List ℕ). a.from + 8 * a.rank ≤ length b) (sym (body-part a.image.now a.body.place a.body.size)) s.requires.1.0;
-      rank_le_rank_most = s.requires.1.1;
+      rank_in_bounds = subst (λ (b : List ℕ). a.from + 8 * a.rank ≤ length b) (sym (body-part a.image.now a.body.place a.body.size)) c.requires.rank_in_bounds;
+      rank_le_rank_most = c.requires.rank_le_rank_most;
     }
 
 pub returns : goal.returns

@@ -1,6 +1,5 @@
 -- By the list where the map has no cells, else by the map.
 use native.Mathlib.Omega.{arith}
-use borrow.Author.Rules.{rules}
 use Rattle.free_list.proofs.search.meets_free.Goals as goal
 
 pub returns : goal.returns

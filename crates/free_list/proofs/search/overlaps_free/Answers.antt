@@ -1,12 +1,6 @@
 -- What the whole search finds is what is found from the ith block on, which stands at `at`; each test settles one block.
-use Prim.Native.Nat.{◌+◌, ◌≤◌, ◌-◌}
 use native.Mathlib.Nat.{sub-zero}
-use lib.ListN.{length}
-use Rattle.format.specs.Bytes.{u64}
-use Rattle.format.specs.Blocks.{block, overlaps_any}
-use Rattle.free_list.specs.FreeBlocks.{chain, Chained}
 use Rattle.free_list.proofs.ChainLaws.{chained-here, chained-next, search-turn, search-hit, search-below, search-above, search-end}
-use borrow.Author.Rules.{rules}
 use native.Mathlib.Omega.{arith}
 use Rattle.free_list.proofs.search.overlaps_free.Goals as goal
 use Rattle.free_list.proofs.search.overlaps_free.Goals.{then-at-end+else-off-at+else-off-at-2, else-at-end}

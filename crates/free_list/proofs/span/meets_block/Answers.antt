@@ -2,7 +2,6 @@
 use mathlib.Core.Path.{sym}
 use Rattle.free_list.proofs.SpanLaws.{spanned-behind, spanned-before}
 use native.Mathlib.Omega.{arith}
-use borrow.Author.Rules.{rules}
 use Rattle.free_list.proofs.span.meets_block.Goals as goal
 
 pub returns-then-span-off : goal.returns-then-span-off

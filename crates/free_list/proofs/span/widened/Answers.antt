@@ -1,6 +1,5 @@
 -- The lesser start and the greater end.
 use Rattle.free_list.proofs.SpanLaws.{spanned-more}
-use borrow.Author.Rules.{rules}
 use Rattle.free_list.proofs.span.widened.Goals as goal
 
 pub returns : goal.returns

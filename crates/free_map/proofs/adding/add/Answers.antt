@@ -3,7 +3,6 @@ use lib.ListN.{length-set}
 use Rattle.free_map.proofs.AddLaws.{map-added}
 use Rattle.free_map.proofs.CellWrites.{filled-long, written-whole, written_last}
 use native.Mathlib.Omega.{arith}
-use borrow.Author.Rules.{rules}
 use Rattle.free_map.proofs.adding.add.Goals as goal
 
 pub returns-then-rest-eq0 : goal.returns-then-rest-eq0

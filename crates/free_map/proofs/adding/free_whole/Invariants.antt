@@ -1,10 +1,6 @@
 -- The cells from `from` up to this one are free; each turn makes one more.
 use Prim.Native.Nat.{◌-◌, ◌≤◌}
-use mathlib.Core.Path.{◌≡◌}
 use Rattle.free_map.specs.Cells.{Filled}
-use Rattle.free_map.proofs.CellWrites.{filled_none, filled_more}
-use borrow.Author.Rules.{rules}
-use native.Mathlib.Omega.{arith}
 use Rattle.free_map.proofs.adding.free_whole.Given as goal
 
 abbrev pub invariant-loop-c : goal.invariant-loop-c

@@ -2,7 +2,6 @@
 use mathlib.Core.Path.{sym}
 use Rattle.free_map.proofs.CellLaws.{joined-whole, joined-start, joined-both}
 use native.Mathlib.Omega.{arith}
-use borrow.Author.Rules.{rules}
 use Rattle.free_map.proofs.adding.joined.Goals as goal
 
 pub returns-then-start-end-ge16 : goal.returns-then-start-end-ge16
