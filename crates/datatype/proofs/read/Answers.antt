@@ -11,6 +11,7 @@ use Rattle.format.specs.Result.{Result}
 use Rattle.walk.proofs.Tests.{range-below, range-above, range_inside, field-most, field-above, field-least, field_below}
 use Rattle.laws.proofs.Results.{passes, fails}
 use Rattle.datatype.proofs.TypeChecks.{class_of, version_of, after_extent, after_size, after_class, after_version, after_length, first-check, unsound-bits, own_read}
+use native.Mathlib.Omega.{arith}
 use Rattle.datatype.proofs.read.Goals as goal
 
 -- at each place behind a check, what is left of the walk
@@ -53,15 +54,15 @@ pub returns-then-size-lt1 : goal.returns-then-size-lt1
 returns-then-size-lt1 c = classed _ (record { long_enough = c.if-body-lt8.false; version_least = c.if-version-lt1.false; version_most = c.if-version-gt3.false }) (sym c.class_read.ensures ∙ c.if-not-class_read.false) (fails _ _ (field_below (sym c.u32_at-size.ensures.value) c.if-size-lt1.true))
 
 pub returns-then-body-needed : goal.returns-then-body-needed
-returns-then-body-needed c = sized _ (record { long_enough = c.if-body-lt8.false; version_least = c.if-version-lt1.false; version_most = c.if-version-gt3.false }) (sym c.class_read.ensures ∙ c.if-not-class_read.false) _ c.u32_at-size.ensures.value c.if-size-lt1.false (fails _ _ (field-above (sym c.needed.ensures) c.if-body-needed.true))
+returns-then-body-needed c = sized _ (record { long_enough = c.if-body-lt8.false; version_least = c.if-version-lt1.false; version_most = c.if-version-gt3.false }) (sym c.class_read.ensures ∙ c.if-not-class_read.false) _ c.u32_at-size.ensures.value (omega arith) (fails _ _ (field-above (sym c.needed.ensures) c.if-body-needed.true))
 
 pub returns-then-not-sound : goal.returns-then-not-sound
 returns-then-not-sound c =
     let fifth = c in
-    held _ (record { long_enough = c.if-body-lt8.false; version_least = c.if-version-lt1.false; version_most = c.if-version-gt3.false }) (sym c.class_read.ensures ∙ c.if-not-class_read.false) _ c.u32_at-size.ensures.value c.if-size-lt1.false _ c.needed.ensures c.if-body-needed.false (unsound-bits _ fifth.u32_at-size.ensures c.sound.ensures c.if-not-sound.true)
+    held _ (record { long_enough = c.if-body-lt8.false; version_least = c.if-version-lt1.false; version_most = c.if-version-gt3.false }) (sym c.class_read.ensures ∙ c.if-not-class_read.false) _ c.u32_at-size.ensures.value (omega arith) _ c.needed.ensures c.if-body-needed.false (unsound-bits _ fifth.u32_at-size.ensures c.sound.ensures c.if-not-sound.true)
 
 pub returns : goal.returns
 returns c =
     let fifth = c in
-    held _ (record { long_enough = c.if-body-lt8.false; version_least = c.if-version-lt1.false; version_most = c.if-version-gt3.false }) (sym c.class_read.ensures ∙ c.if-not-class_read.false) _ c.u32_at-size.ensures.value c.if-size-lt1.false _ c.needed.ensures c.if-body-needed.false
+    held _ (record { long_enough = c.if-body-lt8.false; version_least = c.if-version-lt1.false; version_most = c.if-version-gt3.false }) (sym c.class_read.ensures ∙ c.if-not-class_read.false) _ c.u32_at-size.ensures.value (omega arith) _ c.needed.ensures c.if-body-needed.false
     (own_read _ fifth.u32_at-size.ensures c.sound.ensures c.class_bits.ensures c.if-not-sound.false)

@@ -14,10 +14,9 @@ overflow_add-rank c = omega (arith, c.requires.shaped.0)
 
 pub words_in-requires : goal.words_in-requires
 words_in-requires c =
-    let s = c in
-    let m = rw c.if-dataset.true at s.requires.shaped in
+    let m = rw c.if-dataset.true at c.requires.shaped in
     record {
-      inside = s.requires.inside;
+      inside = c.requires.inside;
       rank_in_bounds = omega (arith, m.2);
       rank_le_rank_most = m.0;
     }
