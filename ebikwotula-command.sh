@@ -46,10 +46,10 @@ status_of_refusal() {
 
 # current: the program is there, and nothing that it was built from is newer
 current() {
-    [ -x "$program" ] && [ -z "$(find "$root/crates" "$root/crates.txt" -newer "$program" -print -quit)" ]
+    [ -x "$program" ] && [ -z "$(find "$root/crates" "$root/crates.txt" -name out -prune -o -type f -newer "$program" -print -quit)" ]
 }
 
-# build: proves and compiles the program. What rt prints is shown only if it fails.
+# build: proves and compiles the program, and runs it once on no input. What rt prints is shown only if it fails.
 build() {
     if ! command -v rt > /dev/null; then
         echo "$name: rt, the command of the Rattle toolchain, is not on the path; the program has to be built with it once" >&2
@@ -58,15 +58,14 @@ build() {
     echo "$name: the program is proved and built, which takes some minutes the first time" >&2
     local log status
     log=$(mktemp) || return 1
-    (cd -- "$root" && rt check "$name") < /dev/null > "$log" 2>&1
+    (cd -- "$root/crates/$name" && rt run) < /dev/null > "$log" 2>&1
     status=$?
-    if [ "$status" -ne 0 ] || [ ! -x "$program" ]; then
+    if [ "$status" -ne 0 ] || [ ! -x "$root/crates/$name/out/$name" ]; then
         cat -- "$log" >&2
         echo "$name: the program could not be built" >&2
         status=1
     else
-        # rt leaves an unchanged program as it is; then it is as new as what it was built from
-        touch -- "$program"
+        mkdir -p -- "$root/target/bin" && cp -- "$root/crates/$name/out/$name" "$program" || status=1
     fi
     rm -f -- "$log"
     return "$status"

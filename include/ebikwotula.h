@@ -1,7 +1,7 @@
 /* Ebikwotula: the audit of hard links and sharings in an HDF5 file, mending and undo of their counts, path lookup, dataset
  * description and damage report, for C.
  *
- * Link with libebikwotula.a (rt staticlib ebikwotula).
+ * Link with libebikwotula.a (rt lib in crates/ebikwotula).
  *
  * Slices. Each slice of bytes is passed as a pointer to its first byte and its length in bytes. The slices of one call
  * must not overlap. A pointer must not be null, also where the length is 0.

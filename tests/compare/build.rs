@@ -10,7 +10,7 @@ fn main() {
     let archive = folder.join("libebikwotula.a");
     assert!(
         archive.exists(),
-        "run `rt staticlib ebikwotula` in the repository's root first"
+        "run `rt ci` and `python3 tools/build.py ebikwotula` in the repository's root first"
     );
     println!("cargo:rustc-link-search=native={}", folder.display());
     println!("cargo:rustc-link-lib=static=ebikwotula");

@@ -263,14 +263,14 @@ fn the_installed_command_needs_no_toolchain() {
 #[test]
 fn several_first_calls_build_once() {
     let folder = folder("several");
-    fs::create_dir_all(folder.join("crates")).expect("a new folder");
+    fs::create_dir_all(folder.join("crates/h5audit")).expect("a new folder");
     fs::create_dir_all(folder.join("tools")).expect("a new folder");
     fs::write(folder.join("crates.txt"), "").expect("a file");
     for name in ["h5audit", "ebikwotula-command.sh"] {
         fs::copy(root().join(name), folder.join(name)).expect("a copy");
     }
     let rt = format!(
-        "#!/bin/sh\necho built >> built\nsleep 1\nmkdir -p target/bin\ncp {} target/bin/h5audit\n",
+        "#!/bin/sh\necho built >> ../../built\nsleep 1\nmkdir -p out\ncp {} out/h5audit\n",
         program().display()
     );
     fs::write(folder.join("tools/rt"), rt).expect("a file");

@@ -24,7 +24,7 @@ pub fn built(name: &str) -> PathBuf {
     let program = root().join("target/bin").join(name);
     assert!(
         program.exists(),
-        "{} is missing: run `rt check {name}` in the repository's root first",
+        "{} is missing: run `rt ci` and `python3 tools/build.py {name}` in the repository's root first",
         program.display()
     );
     program
