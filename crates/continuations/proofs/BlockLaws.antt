@@ -1,12 +1,12 @@
 -- One continuation: it is entered as the last block of the list, and its messages are read.
-use Prim.Native.Nat.{ℕ, ◌+◌, ◌-◌, ◌≤◌, ◌<◌, ◌^◌}
+use Prim.Native.Nat.{ℕ, ◌+◌, ◌-◌, ◌≤◌}
 use mathlib.Core.Bool.{Bool}
-use mathlib.Core.List.{List, [], ◌∷◌, ◌++◌}
-use mathlib.Core.Path.{◌≡◌, refl, ap, sym, ◌∙◌}
+use mathlib.Core.List.{List, [], ◌∷◌}
+use mathlib.Core.Path.{◌≡◌, refl, ap, ◌∙◌}
 use native.Mathlib.Omega.{arith}
 use lib.ListN.{length}
 use Rattle.format.specs.Bytes.{part}
-use Rattle.format.specs.Blocks.{Block, block_of, entry_answer}
+use Rattle.format.specs.Blocks.{block_of, entry_answer}
 use Rattle.format.specs.declared.Refusal.{Refusal}
 use Rattle.format.specs.Result.{Result}
 use Rattle.format.specs.Walk.{Walk, ret, refuse, Kind, kind_number, shown, continuation_block, ◌>>=◌, run}
@@ -16,13 +16,10 @@ use Rattle.walk.specs.Lent.{blocks_of, length_sum, Lent, Walked, ended, stopped,
 use Rattle.walk.specs.declared.blocks.Entry.TheVariants.{Entered, Refused}
 use Rattle.walk.proofs.BlockList.{entered-zero, entry_answer-zero}
 use Rattle.walk.proofs.Parts.{part_length}
-use Rattle.laws.proofs.Bind.{ret-bind}
 use Rattle.laws.proofs.SumOfLengths.{lengths-append, lengths-inside, grown-apart, grown-inside}
 use Rattle.laws.proofs.Simulation.{Simulation, start, same-walk, returned, refusal, entered-blocks, entered-grown, block-entered, block_refused}
-use Rattle.ledger.specs.Links.{link_sum}
-use Rattle.ledger.specs.Table.{linked_of}
 use Rattle.sharing.specs.Sharing.{TablesIf, KeptIf}
-use Rattle.scan.specs.Scan.{MessagesAre, Holds}
+use Rattle.scan.specs.Scan.{MessagesAre}
 use Rattle.continuations.specs.Counting.{CountingIf}
 use Rattle.continuations.specs.Continuations.{block_walk, NewBlock}
 use Rattle.scan.proofs.ScanLaws.{messages-held}

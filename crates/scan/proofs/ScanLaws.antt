@@ -10,7 +10,7 @@ use lib.Dec.{eqb, leb}
 use lib.ListN.{length, drop}
 use Rattle.format.specs.Bytes.{◌implies◌, in_range, part, little_endian, u8, u16, u64}
 use Rattle.format.specs.Result.{Result, value, answer}
-use Rattle.format.specs.Walk.{Walk, ret, refuse, enter, fault, located, ◌>>=◌, ◌>>◌}
+use Rattle.format.specs.Walk.{Walk, ret, refuse, enter, fault, located, ◌>>=◌}
 use Rattle.format.specs.Header.{Gathered, messages, pass_over}
 use Rattle.format.specs.Message.{Message, treatment, allowed, is_shared, of_type, read_message}
 use Rattle.laws.proofs.Bind.{ret-bind, refuse-bind, bind-ret, bind_assoc}

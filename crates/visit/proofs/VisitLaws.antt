@@ -12,7 +12,7 @@ use Rattle.format.specs.Result.{value}
 use Rattle.format.specs.Entry.{Entry}
 use Rattle.format.specs.Lookup.{hard, soft, compare_name}
 use Rattle.laws.proofs.Results.{value-bind, answer-bind}
-use Rattle.ledger.specs.Table.{linked_of, Table, Discovered}
+use Rattle.ledger.specs.Table.{linked_of, Discovered}
 use Rattle.ledger.specs.declared.table.Discovery.{Discovery}
 use Rattle.ledger.specs.declared.table.Discovery.TheVariants.{Counted, Full as TableFull}
 use Rattle.ledger.proofs.LedgerLaws.{discover-hard, discover-other}

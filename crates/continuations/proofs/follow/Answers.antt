@@ -1,13 +1,10 @@
 -- Turn by turn, the walk has come to the continuations that wait at the cursor.
-use Prim.Native.Nat.{ℕ, ◌-◌, ◌+◌, ◌<◌, ◌≤◌}
-use mathlib.Core.List.{List}
-use mathlib.Core.Path.{◌≡◌, refl}
-use lib.ListN.{length}
+use Prim.Native.Nat.{◌+◌}
+use mathlib.Core.Path.{refl}
 use Rattle.format.specs.Limits.{blocks_most}
-use Rattle.format.specs.Bytes.{little_endian, u16}
 use Rattle.format.specs.Header.{continuations}
 use Rattle.laws.proofs.Simulation.{start}
-use Rattle.continuations.proofs.ContinuationLaws.{Loop, all_read, message-inside, not-read, block-lent, waits, followed}
+use Rattle.continuations.proofs.ContinuationLaws.{all_read, message-inside, not-read, block-lent, waits, followed}
 use native.Mathlib.Omega.{arith}
 use Rattle.continuations.proofs.follow.Goals as goal
 

@@ -1,15 +1,6 @@
 -- Turn by turn, the walk has come to the continuations that wait at the cursor.
-use Prim.Native.Nat.{ℕ, ◌-◌, ◌+◌, ◌<◌, ◌≤◌}
-use mathlib.Core.List.{List}
-use mathlib.Core.Path.{◌≡◌, refl}
-use lib.ListN.{length}
-use Rattle.format.specs.Limits.{blocks_most}
-use Rattle.format.specs.Bytes.{little_endian, u16}
-use Rattle.format.specs.Header.{continuations}
-use Rattle.laws.proofs.Simulation.{start}
-use Rattle.continuations.proofs.ContinuationLaws.{Loop, all_read, message-inside, not-read, block-lent, waits, followed}
-use borrow.Author.Rules.{rules}
-use native.Mathlib.Omega.{arith}
+use Prim.Native.Nat.{◌-◌}
+use Rattle.continuations.proofs.ContinuationLaws.{Loop}
 use Rattle.continuations.proofs.follow.Given as goal
 
 abbrev pub invariant-loop-c : goal.invariant-loop-c

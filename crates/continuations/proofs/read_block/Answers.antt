@@ -1,5 +1,5 @@
 -- The block is entered, then its messages are read.
-use Prim.Native.Nat.{ℕ, ◌+◌, ◌-◌, ◌≤◌}
+use Prim.Native.Nat.{◌+◌, ◌-◌}
 use mathlib.Core.Path.{◌≡◌}
 use Rattle.format.specs.Walk.{continuation_block}
 use Rattle.continuations.proofs.BlockLaws.{counting-entered, counting-tables, counting_kept, counting-less, not_entered, block_inside, not-scanned}

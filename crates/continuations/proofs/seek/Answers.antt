@@ -1,12 +1,5 @@
 -- Block by block, what waits from here on is what waited at the start.
-use mathlib.Core.List.{List}
-use mathlib.Core.Path.{◌≡◌}
-use Prim.Native.Nat.{ℕ, ◌-◌, ◌+◌, ◌*◌, ◌<◌}
-use lib.ListN.{get_or}
-use Rattle.format.specs.Message.{Message}
-use Rattle.continuations.specs.Continuations.{Waiting}
-use Rattle.continuations.proofs.ContinuationLaws.{cursor, Searched, searched, next-block, last_block, found_here}
-use borrow.Author.Rules.{rules}
+use Rattle.continuations.proofs.ContinuationLaws.{searched, next-block, last_block, found_here}
 use native.Mathlib.Omega.{arith}
 use Rattle.continuations.proofs.seek.Goals as goal
 

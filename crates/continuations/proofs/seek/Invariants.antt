@@ -1,13 +1,9 @@
 -- Block by block, what waits from here on is what waited at the start.
 use mathlib.Core.List.{List}
-use mathlib.Core.Path.{◌≡◌}
-use Prim.Native.Nat.{ℕ, ◌-◌, ◌+◌, ◌*◌, ◌<◌}
-use lib.ListN.{get_or}
+use Prim.Native.Nat.{◌-◌, ◌<◌}
 use Rattle.format.specs.Message.{Message}
 use Rattle.continuations.specs.Continuations.{Waiting}
-use Rattle.continuations.proofs.ContinuationLaws.{cursor, Searched, searched, next-block, last_block, found_here}
-use borrow.Author.Rules.{rules}
-use native.Mathlib.Omega.{arith}
+use Rattle.continuations.proofs.ContinuationLaws.{cursor, Searched}
 use Rattle.continuations.proofs.seek.Given as goal
 
 abbrev pub invariant-loop-block : goal.invariant-loop-block

@@ -11,27 +11,24 @@ use Rattle.free_list.proofs.free_list.Goals as goal
 pub returns-then-head-eq1 : goal.returns-then-head-eq1
 unfolding chain
 returns-then-head-eq1 c =
-    let start = c in
-    record { value = free-none _ _ (eq-eqb start.args.head 1 (omega arith)); held = none-held start.requires.zeros; long = refl }
+    record { value = free-none _ _ (eq-eqb c.args.head 1 (omega arith)); held = none-held c.requires.zeros; long = refl }
 
 pub returns-then-head-eq-UNDEFINED_ADDRESS : goal.returns-then-head-eq-UNDEFINED_ADDRESS
 unfolding chain undefined_address
 returns-then-head-eq-UNDEFINED_ADDRESS c =
-    let start = c in
-    let head = start.args.head in record {
+    let head = c.args.head in record {
       value = free-undefined _ _ (ne_eqb head 1 (λ e. omega arith)) (eq-eqb head undefined_address (omega arith));
-      held = none-held start.requires.zeros;
+      held = none-held c.requires.zeros;
       long = refl;
     }
 
 pub loop-met-init : goal.loop-met-init
 unfolding undefined_address chain
 loop-met-init c =
-    let start = c in
-    let a = start.args in (
+    let a = c.args in (
       omega arith,
       free-start a.segment.now a.map.now a.head (ne_eqb a.head 1 (λ e. omega arith)) (ne_eqb a.head undefined_address (λ e. omega arith))
-          start.requires.zeros,
+          c.requires.zeros,
       refl,
       tt,
     )
@@ -39,9 +36,8 @@ loop-met-init c =
 pub add_block-requires : goal.add_block-requires
 add_block-requires c =
     let l = c.loop-met in
-    let start = c in
     record {
-      segment_len_bound = λ h. omega (arith, l.invariant.2, start.requires.long (omega (arith, l.invariant.2)));
+      segment_len_bound = λ h. omega (arith, l.invariant.2, c.requires.long (omega (arith, l.invariant.2)));
       held = l.invariant.1.held;
       spanned = l.invariant.3;
     }

@@ -11,24 +11,21 @@ loop-c-init c =
 
 pub returns-then-cell_meets : goal.returns-then-cell_meets
 returns-then-cell_meets c =
-    let l = c in
-    let a = l.args in
-    turn-hit a.map.now a.off a.size l.loop-c.c l.loop-c.from l.loop-c.invariant.3 (omega arith) (omega arith) (sym (rw c.cell.ensures at c.cell_meets.ensures) ∙ c.if-cell_meets.true)
+    let a = c.args in
+    turn-hit a.map.now a.off a.size c.loop-c.c c.loop-c.from c.loop-c.invariant.3 (omega arith) (omega arith) (sym (rw c.cell.ensures at c.cell_meets.ensures) ∙ c.if-cell_meets.true)
 
 pub loop-c-preserved : goal.loop-c-preserved
 loop-c-preserved c =
-    let l = c in
-    let a = l.args in (
+    let a = c.args in (
       omega arith,
       omega arith,
       omega arith,
-      turn-miss a.map.now a.off a.size l.loop-c.c l.loop-c.from l.loop-c.invariant.3 (omega arith) (omega arith)
+      turn-miss a.map.now a.off a.size c.loop-c.c c.loop-c.from c.loop-c.invariant.3 (omega arith) (omega arith)
           (sym (rw c.cell.ensures at c.cell_meets.ensures) ∙ c.if-cell_meets.false),
     )
 
 pub returns : goal.returns
 returns c =
-    let l = c in
-    let a = l.args in
+    let a = c.args in
     rw (c.cell_meets-2.ensures, c.cell-2.ensures)
-    (turn_last a.map.now a.off a.size l.loop-c.c l.loop-c.from _ l.loop-c.invariant.3 (omega arith) (omega arith) (omega arith))
+    (turn_last a.map.now a.off a.size c.loop-c.c c.loop-c.from _ c.loop-c.invariant.3 (omega arith) (omega arith) (omega arith))

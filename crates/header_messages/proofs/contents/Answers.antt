@@ -1,8 +1,5 @@
 -- Version, messages, continuations and total, in the order of the walk.
-use Prim.Native.Nat.{◌+◌, ◌-◌}
 use mathlib.Core.List.{[]}
-use mathlib.Core.Path.{◌≡◌}
-use lib.ListN.{length}
 use Rattle.format.specs.Limits.{blocks_most}
 use Rattle.continuations.proofs.BlockLaws.{counting-tables, counting_kept, counting-less}
 use Rattle.header_messages.proofs.HeaderBlock.{first-waiting}

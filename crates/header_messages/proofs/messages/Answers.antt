@@ -1,6 +1,4 @@
 -- The block is entered before its contents are looked at.
-use Prim.Native.Nat.{◌+◌, ◌≤◌}
-use lib.ListN.{length}
 use Rattle.format.specs.Walk.{header_block}
 use Rattle.format.specs.Header.{pass_over}
 use Rattle.continuations.proofs.BlockLaws.{block_inside, counting-entered, counting-less}

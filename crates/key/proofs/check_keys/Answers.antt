@@ -1,7 +1,5 @@
 -- Turn by turn, the walk of the keys from here on.
-use Prim.Native.Nat.{◌-◌, ◌≤◌}
-use Rattle.key.proofs.KeyLaws.{KeysFrom, keys-start, keys-fault, keys-next, keys-end}
-use borrow.Author.Rules.{rules}
+use Rattle.key.proofs.KeyLaws.{keys-start, keys-fault, keys-next, keys-end}
 use native.Mathlib.Omega.{arith}
 use Rattle.key.proofs.check_keys.Goals as goal
 

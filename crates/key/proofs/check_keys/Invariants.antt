@@ -1,8 +1,6 @@
 -- Turn by turn, the walk of the keys from here on.
 use Prim.Native.Nat.{◌-◌, ◌≤◌}
-use Rattle.key.proofs.KeyLaws.{KeysFrom, keys-start, keys-fault, keys-next, keys-end}
-use borrow.Author.Rules.{rules}
-use native.Mathlib.Omega.{arith}
+use Rattle.key.proofs.KeyLaws.{KeysFrom}
 use Rattle.key.proofs.check_keys.Given as goal
 
 abbrev pub invariant-loop-i : goal.invariant-loop-i

@@ -1,6 +1,5 @@
 -- Every fault gives 9.
 use Rattle.key.proofs.KeyLaws.{fault-nine}
-use borrow.Author.Rules.{rules}
 use Rattle.key.proofs.fault_number.Goals as goal
 
 pub returns-in-Outside : goal.returns-in-Outside

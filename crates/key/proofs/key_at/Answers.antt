@@ -4,7 +4,6 @@ use Rattle.format.specs.Limits.{name_most}
 use Rattle.nul.specs.Nul.{NulWithin}
 use Rattle.key.proofs.KeyLaws.{key-starts, key-cut}
 use native.Mathlib.Omega.{arith}
-use borrow.Author.Rules.{rules}
 use Rattle.key.proofs.key_at.Goals as goal
 
 pub overflow_add-limits : goal.overflow_add-limits

@@ -1,6 +1,5 @@
 -- The length by the number that was read, the flags as they stand.
 use Rattle.kind.proofs.KindLaws.{body_is}
-use borrow.Author.Rules.{rules}
 use Rattle.kind.proofs.body_at.Goals as goal
 
 pub returns : goal.returns

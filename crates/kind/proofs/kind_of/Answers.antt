@@ -1,16 +1,10 @@
 -- Each answer by the counts that hold.
-use mathlib.Core.Bool.{true, false}
-use mathlib.Core.List.{List}
-use mathlib.Core.Path.{◌≡◌, refl, sym, ◌∙◌}
-use Rattle.format.specs.Message.{Message}
-use Rattle.format.specs.Header.{has_counts}
-use Rattle.tally.specs.Tally.{Tallied}
+use mathlib.Core.Path.{refl, sym, ◌∙◌}
 use Rattle.kind.proofs.KindLaws.{located, object-committed, object-shared, object-none}
 use Rattle.kind.proofs.KindLaws.{table-placed, known-group, space-placed, datatype-placed, layout-placed, known-dataset, committed-placed}
 use Rattle.kind.proofs.KindLaws.{committed-flags}
 use native.Mathlib.Omega.{arith}
 use borrow.Author.Tests.{eq-eqb, ne_eqb}
-use borrow.Author.Rules.{rules}
 use Rattle.kind.proofs.kind_of.Goals as goal
 
 pub u64_at-requires : goal.u64_at-requires

@@ -6,8 +6,7 @@ use Rattle.nul.proofs.last_near.Goals as goal
 pub loop-i-preserved : goal.loop-i-preserved
 loop-i-preserved c =
     let l = c.loop-i in
-    let start = c in
-    (omega arith, none-next start.args.segment.now l.i (omega arith) (omega arith) c.if-segment-i-eq0.false l.invariant.1)
+    (omega arith, none-next c.args.segment.now l.i (omega arith) (omega arith) c.if-segment-i-eq0.false l.invariant.1)
 
 pub returns : goal.returns
 returns c =

@@ -9,15 +9,12 @@ loop-i-init c = at-start _ _ _ c.requires
 
 pub returns-then-segment-i-eq0 : goal.returns-then-segment-i-eq0
 returns-then-segment-i-eq0 c =
-    let l = c in
-    within-nul _ _ _ l.loop-i.i l.loop-i.invariant (nul-here l.args.segment.now l.loop-i.i (omega arith) c.if-segment-i-eq0.true)
+    within-nul _ _ _ c.loop-i.i c.loop-i.invariant (nul-here c.args.segment.now c.loop-i.i (omega arith) c.if-segment-i-eq0.true)
 
 pub loop-i-preserved : goal.loop-i-preserved
 loop-i-preserved c =
-    let l = c in
-    at_next _ _ _ l.loop-i.i l.loop-i.invariant (omega arith) (omega arith) c.if-segment-i-eq0.false
+    at_next _ _ _ c.loop-i.i c.loop-i.invariant (omega arith) (omega arith) c.if-segment-i-eq0.false
 
 pub returns : goal.returns
 returns c =
-    let l = c in
-    within-nul _ _ _ l.loop-i.i l.loop-i.invariant (nul-none l.args.segment.now l.loop-i.i (omega arith))
+    within-nul _ _ _ c.loop-i.i c.loop-i.invariant (nul-none c.args.segment.now c.loop-i.i (omega arith))

@@ -5,12 +5,12 @@ use native.Mathlib.Omega.{arith}
 use Rattle.order.proofs.byte_or_zero.Goals as goal
 
 pub overflow_cast-result : goal.overflow_cast-result
-overflow_cast-result c = let a = c.args in omega (arith, (c.shared_slice_known-1.given (a.at + a.k)).fits)
+overflow_cast-result c = let a = c.args in omega (arith, (c.type_inv.s (a.at + a.k)).fits)
 
 pub returns-then-k-size : goal.returns-then-k-size
 returns-then-k-size c =
     let a = c.args in
-    (part-byte a.s.now a.at a.size a.k (omega arith), (c.shared_slice_known-1.given (a.at + a.k)).fits)
+    (part-byte a.s.now a.at a.size a.k (omega arith), (c.type_inv.s (a.at + a.k)).fits)
 
 pub returns : goal.returns
 returns c =

@@ -12,18 +12,15 @@ loop-i-init c = (omega arith, refl)
 
 pub returns-then-contains_16 : goal.returns-then-contains_16
 returns-then-contains_16 c =
-    let l = c in
-    let a = l.args in
-    contains-found a.x a.s.now l.loop-i.i _ l.loop-i.invariant.1 (sym c.if-contains_16.true ∙ c.contains_16.ensures)
+    let a = c.args in
+    contains-found a.x a.s.now c.loop-i.i _ c.loop-i.invariant.1 (sym c.if-contains_16.true ∙ c.contains_16.ensures)
 
 pub loop-i-preserved : goal.loop-i-preserved
 loop-i-preserved c =
-    let l = c in
-    let a = l.args in
-    (omega arith, contains-behind a.x a.s.now l.loop-i.i _ l.loop-i.invariant.1 (sym c.if-contains_16.false ∙ c.contains_16.ensures))
+    let a = c.args in
+    (omega arith, contains-behind a.x a.s.now c.loop-i.i _ c.loop-i.invariant.1 (sym c.if-contains_16.false ∙ c.contains_16.ensures))
 
 pub returns : goal.returns
 returns c =
-    let l = c in
-    let a = l.args in
-    c.contains_16-2.ensures ∙ contains-last a.x a.s.now l.loop-i.i (omega arith) (omega arith) l.loop-i.invariant.1
+    let a = c.args in
+    c.contains_16-2.ensures ∙ contains-last a.x a.s.now c.loop-i.i (omega arith) (omega arith) c.loop-i.invariant.1

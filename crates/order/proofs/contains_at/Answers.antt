@@ -12,12 +12,11 @@ loop-k-init c = (omega arith, refl)
 
 pub loop-k-preserved : goal.loop-k-preserved
 loop-k-preserved c =
-    let l = c in
-    let a = l.args in (
+    let a = c.args in (
       omega arith,
       elim c.if-x-s.branch [
-        | then-x-s w ↦ rw w.found-is (found_turn a.x a.s.now a.at l.loop-k.k (omega arith) w.if-x-s.true)
-        | else-x-s w ↦ rw w.found-is (missed-turn a.x a.s.now a.at l.loop-k.k (omega arith) l.loop-k.invariant.1 w.if-x-s.false)
+        | then-x-s w ↦ rw w.found-is (found_turn a.x a.s.now a.at c.loop-k.k (omega arith) w.if-x-s.true)
+        | else-x-s w ↦ rw w.found-is (missed-turn a.x a.s.now a.at c.loop-k.k (omega arith) c.loop-k.invariant.1 w.if-x-s.false)
       ],
     )
 

@@ -9,18 +9,15 @@ loop-i-init c = (omega arith, refl)
 
 pub returns-then-x-s : goal.returns-then-x-s
 returns-then-x-s c =
-    let l = c in
-    let a = l.args in
-    contains-here a.x a.s.now l.loop-i.i _ l.loop-i.invariant.1 (omega arith) (omega arith)
+    let a = c.args in
+    contains-here a.x a.s.now c.loop-i.i _ c.loop-i.invariant.1 (omega arith) (omega arith)
 
 pub loop-i-preserved : goal.loop-i-preserved
 loop-i-preserved c =
-    let l = c in
-    let a = l.args in
-    (omega arith, contains-next a.x a.s.now l.loop-i.i _ l.loop-i.invariant.1 (omega arith) (λ e. omega arith))
+    let a = c.args in
+    (omega arith, contains-next a.x a.s.now c.loop-i.i _ c.loop-i.invariant.1 (omega arith) (λ e. omega arith))
 
 pub returns : goal.returns
 returns c =
-    let l = c in
-    let a = l.args in
-    contains-end a.x a.s.now l.loop-i.i _ l.loop-i.invariant.1 (omega arith)
+    let a = c.args in
+    contains-end a.x a.s.now c.loop-i.i _ c.loop-i.invariant.1 (omega arith)

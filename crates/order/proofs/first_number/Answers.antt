@@ -13,6 +13,5 @@ returns-then-size-ge8 c =
 
 pub returns : goal.returns
 returns c =
-    let first = c in
-    let a = first.args in
-    read_short a.s.now a.at a.size c.eight_at-x.ensures (omega arith) (omega arith) (λ k. (first.shared_slice_known-1.given k).fits)
+    let a = c.args in
+    read_short a.s.now a.at a.size c.eight_at-x.ensures (omega arith) (omega arith) (λ k. (c.type_inv.s k).fits)

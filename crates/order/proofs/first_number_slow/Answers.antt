@@ -12,27 +12,23 @@ loop-k-init c = (omega arith, sym (first-none _))
 
 pub overflow_mul-x : goal.overflow_mul-x
 overflow_mul-x c =
-    let l = c in
-    let a = l.args in
-    let bytes = bytes-part a.s.now a.at a.size (λ k. (l.shared_slice_known-1.given k).fits) in
-    omega (arith, l.loop-k.invariant.1, first_fits l.loop-k.k (part a.s.now a.at a.size) bytes (omega arith))
+    let a = c.args in
+    let bytes = bytes-part a.s.now a.at a.size (λ k. (c.type_inv.s k).fits) in
+    omega (arith, c.loop-k.invariant.1, first_fits c.loop-k.k (part a.s.now a.at a.size) bytes (omega arith))
 
 pub overflow_add-x : goal.overflow_add-x
 overflow_add-x c =
-    let l = c in
-    let a = l.args in
-    let bytes = bytes-part a.s.now a.at a.size (λ k. (l.shared_slice_known-1.given k).fits) in
-    let fits = first_fits l.loop-k.k (part a.s.now a.at a.size) bytes (omega arith) in
-    omega (arith, l.loop-k.invariant.1, fits, c.byte_or_zero.ensures.1)
+    let a = c.args in
+    let bytes = bytes-part a.s.now a.at a.size (λ k. (c.type_inv.s k).fits) in
+    let fits = first_fits c.loop-k.k (part a.s.now a.at a.size) bytes (omega arith) in
+    omega (arith, c.loop-k.invariant.1, fits, c.byte_or_zero.ensures.1)
 
 pub loop-k-preserved : goal.loop-k-preserved
 loop-k-preserved c =
-    let l = c in
-    let a = l.args in
-    (omega arith, rw add-one (omega (arith, l.loop-k.invariant.1, c.byte_or_zero.ensures.0, first_more l.loop-k.k (part a.s.now a.at a.size))))
+    let a = c.args in
+    (omega arith, rw add-one (omega (arith, c.loop-k.invariant.1, c.byte_or_zero.ensures.0, first_more c.loop-k.k (part a.s.now a.at a.size))))
 
 pub returns : goal.returns
 returns c =
-    let l = c in
-    let k : l.loop-k.k ≡ 8 = omega arith in
-    rw k at l.loop-k.invariant.1
+    let k : c.loop-k.k ≡ 8 = omega arith in
+    rw k at c.loop-k.invariant.1

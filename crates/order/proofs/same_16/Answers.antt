@@ -12,13 +12,12 @@ loop-k-init c = (omega arith, refl)
 
 pub loop-k-preserved : goal.loop-k-preserved
 loop-k-preserved c =
-    let l = c in
-    let a = l.args in (
+    let a = c.args in (
       omega arith,
       elim c.if-a-at.branch [
-        | then-a-at w ↦ rw w.differ-is (differ-turn a.a.now a.b.now a.at l.loop-k.k (omega arith) (omega arith) w.if-a-at.true)
+        | then-a-at w ↦ rw w.differ-is (differ-turn a.a.now a.b.now a.at c.loop-k.k (omega arith) (omega arith) w.if-a-at.true)
         | else-a-at w ↦
-            rw w.differ-is (same_turn a.a.now a.b.now a.at l.loop-k.k (omega arith) (omega arith) l.loop-k.invariant.1 w.if-a-at.false)
+            rw w.differ-is (same_turn a.a.now a.b.now a.at c.loop-k.k (omega arith) (omega arith) c.loop-k.invariant.1 w.if-a-at.false)
       ],
     )
 

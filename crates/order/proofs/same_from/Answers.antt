@@ -9,18 +9,15 @@ loop-i-init c = (omega (arith, c.requires.same_start.first), same-behind _ _ _ c
 
 pub returns-then-a-i : goal.returns-then-a-i
 returns-then-a-i c =
-    let l = c in
-    let a = l.args in
-    same-differ a.a.now a.b.now l.loop-i.i _ l.loop-i.invariant.1 (omega arith) (omega arith) (λ e. omega arith)
+    let a = c.args in
+    same-differ a.a.now a.b.now c.loop-i.i _ c.loop-i.invariant.1 (omega arith) (omega arith) (λ e. omega arith)
 
 pub loop-i-preserved : goal.loop-i-preserved
 loop-i-preserved c =
-    let l = c in
-    let a = l.args in
-    (omega arith, same_next a.a.now a.b.now l.loop-i.i _ l.loop-i.invariant.1 (omega arith) (omega arith) (omega arith))
+    let a = c.args in
+    (omega arith, same_next a.a.now a.b.now c.loop-i.i _ c.loop-i.invariant.1 (omega arith) (omega arith) (omega arith))
 
 pub returns : goal.returns
 returns c =
-    let l = c in
-    let a = l.args in
-    same_end a.a.now a.b.now l.loop-i.i _ l.loop-i.invariant.1 (omega arith) (omega arith)
+    let a = c.args in
+    same_end a.a.now a.b.now c.loop-i.i _ c.loop-i.invariant.1 (omega arith) (omega arith)

@@ -2,7 +2,6 @@
 use borrow.Author.Tests.{not-true, not-false}
 use Rattle.range.specs.Range.{name_in}
 use Rattle.range.proofs.RangeLaws.{most-all, most-high}
-use borrow.Author.Rules.{rules}
 use Rattle.range.proofs.at_most.Goals as goal
 
 pub returns-then-not-range : goal.returns-then-not-range

@@ -1,7 +1,6 @@
 -- The two parts of the segment, compared.
 use mathlib.Core.Path.{◌∙◌}
 use Rattle.heap.proofs.SegmentLaws.{part-between}
-use borrow.Author.Rules.{rules}
 use Rattle.range.proofs.bytes_below.Goals as goal
 
 pub returns : goal.returns

@@ -1,7 +1,6 @@
 -- The last name where nothing bounds the next, and else the higher of it and the low key.
 use borrow.Author.Tests.{not-true, not-false}
 use Rattle.range.proofs.RangeLaws.{floor-last, floor-higher}
-use borrow.Author.Rules.{rules}
 use Rattle.range.proofs.floor.Goals as goal
 
 pub returns-then-not-range : goal.returns-then-not-range

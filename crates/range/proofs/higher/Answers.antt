@@ -1,7 +1,6 @@
 -- The comparison decides.
 use mathlib.Core.Path.{sym, ◌∙◌}
 use Rattle.range.proofs.RangeLaws.{higher-first, higher-second}
-use borrow.Author.Rules.{rules}
 use Rattle.range.proofs.higher.Goals as goal
 
 pub returns-then-bytes_below : goal.returns-then-bytes_below

@@ -1,6 +1,5 @@
 -- The numbers of the first bytes or of the next, where they differ, and else all bytes decide.
 use Rattle.range.proofs.FirstBytes.{first_below, second_below}
-use borrow.Author.Rules.{rules}
 use Rattle.range.proofs.name_below.Goals as goal
 
 pub returns-then-a-b : goal.returns-then-a-b

@@ -1,7 +1,6 @@
 -- The keys alone where nothing bounds the node, and else the higher and the lower ones.
 use borrow.Author.Tests.{not-true, not-false}
 use Rattle.range.proofs.RangeLaws.{narrowed-first, narrowed-more}
-use borrow.Author.Rules.{rules}
 use Rattle.range.proofs.narrowed.Goals as goal
 
 pub returns-then-not-range : goal.returns-then-not-range

@@ -1,10 +1,9 @@
 -- Turn by turn, the messages from here on have all the continuations that are left.
-use mathlib.Core.Path.{◌≡◌, refl, sym, ap, ◌∙◌, subst}
+use mathlib.Core.Path.{◌≡◌, sym, ◌∙◌, subst}
 use mathlib.Core.Logic.{inl, inr}
-use Prim.Native.Nat.{ℕ, ◌-◌, ◌+◌, ◌≤◌}
-use lib.ListN.{length}
+use Prim.Native.Nat.{ℕ, ◌+◌}
 use Rattle.scan.specs.Scan.{Readable}
-use Rattle.scan.proofs.ScanLaws.{Step, holds-step, Seeking, seek-start, seek-skip, seek_found, seek-end}
+use Rattle.scan.proofs.ScanLaws.{holds-step, Seeking, seek-start, seek-skip, seek_found, seek-end}
 use native.Mathlib.Omega.{arith}
 use Rattle.scan.proofs.next_continuation.Goals as goal
 

@@ -1,9 +1,8 @@
 -- Turn by turn, the messages from here on behind those that were read.
 use mathlib.Core.Path.{◌≡◌, refl}
-use Prim.Native.Nat.{ℕ, ◌+◌, ◌-◌}
-use lib.ListN.{length}
+use Prim.Native.Nat.{◌+◌, ◌-◌}
 use Rattle.scan.proofs.ScanLaws.{scanning-start, scanning-end, scanning-refused, scanning-visit-refused, scanning-read}
-use Rattle.scan.proofs.ScanTables.{Turning, kept-start, tables-now, kept_more, kept-end}
+use Rattle.scan.proofs.ScanTables.{kept-start, tables-now, kept_more, kept-end}
 use native.Mathlib.Omega.{arith}
 use Rattle.scan.proofs.scan_block.Goals as goal
 

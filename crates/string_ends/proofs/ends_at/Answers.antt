@@ -29,11 +29,9 @@ returns-then-contains_16 c = λ bs k. c.ends_in_cell-then-contains_16.ensures bs
 
 pub returns : goal.returns
 returns c =
-    let searched = c in
-    let first = searched in
-    let a = first.args in
-    let none = none_found 0 a.segment.now (16 * a.c) 16 (omega arith) (sym searched.contains_16.ensures ∙ c.if-contains_16.false) in
+    let a = c.args in
+    let none = none_found 0 a.segment.now (16 * a.c) 16 (omega arith) (sym c.contains_16.ensures ∙ c.if-contains_16.false) in
     let whole : 16 * a.c + 16 ≤ length a.segment.now = omega arith in
-    let start : free_start a.v ≡ 0 = omega (arith, first.free_start.ensures) in
+    let start : free_start a.v ≡ 0 = omega (arith, c.free_start.ensures) in
     let end = end-most a.v (omega arith) in
     λ bs k. c.is_marked.ensures ∙ cell-without k whole start none (omega (arith, end))

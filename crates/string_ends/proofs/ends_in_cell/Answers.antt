@@ -7,18 +7,15 @@ use Rattle.string_ends.proofs.ends_in_cell.Goals as goal
 
 pub returns-then-off-free_start : goal.returns-then-off-free_start
 returns-then-off-free_start c =
-    let start = c in
-    scan-free start.args.segment.now start.args.v start.args.off (omega (arith, c.free_start.ensures))
+    scan-free c.args.segment.now c.args.v c.args.off (omega (arith, c.free_start.ensures))
 
 pub overflow_sub-end : goal.overflow_sub-end
 overflow_sub-end c = omega (arith, c.free_end.ensures, end-most c.args.v (omega arith))
 
 pub loop-i-init : goal.loop-i-init
 loop-i-init c =
-    let known = c in
-    let start = known in
     let e = c.free_end.ensures in
-    rw e (scan-none start.args.segment.now start.args.v start.args.off (omega arith) (omega (arith, c.free_start.ensures)))
+    rw e (scan-none c.args.segment.now c.args.v c.args.off (omega arith) (omega (arith, c.free_start.ensures)))
 
 pub overflow_sub-i : goal.overflow_sub-i
 overflow_sub-i c = omega (arith, c.loop-i.invariant.behind, c.loop-i.invariant.first)

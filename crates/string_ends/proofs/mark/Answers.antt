@@ -9,9 +9,8 @@ use Rattle.string_ends.proofs.mark.Goals as goal
 
 pub loop-c-init : goal.loop-c-init
 loop-c-init c =
-    let start = c in
-    let map = start.args.map.now in
-    (refl, omega arith, sym (get_or-eq_default map 0 {n = length map} (omega arith)), λ bs m. marked-none _ start.args.segment.now bs start.requires m)
+    let map = c.args.map.now in
+    (refl, omega arith, sym (get_or-eq_default map 0 {n = length map} (omega arith)), λ bs m. marked-none _ c.args.segment.now bs c.requires m)
 
 pub loop-c-preserved : goal.loop-c-preserved
 loop-c-preserved c =
@@ -31,8 +30,7 @@ loop-c-preserved c =
 pub returns : goal.returns
 returns c =
     let l = c.loop-c in
-    let start = c in
     let none : l.c ≡ 0 = omega arith in
     λ bs m.
     let made = rw none at (l.invariant.3 bs m) in
-    (made.bytes, marked_all l.map start.args.segment.now bs (omega arith) made)
+    (made.bytes, marked_all l.map c.args.segment.now bs (omega arith) made)

@@ -12,10 +12,9 @@ returns-then-w-eq-FREE c = λ bs k. rw c.if-w-eq-FREE.true (remarked-whole 16 _ 
 
 pub returns-then-v-eq-MARKED : goal.returns-then-v-eq-MARKED
 returns-then-v-eq-MARKED c =
-    let at_test = c in
-    let a = at_test.args in
+    let a = c.args in
     let start : 16 * a.c + 0 ≡ 16 * a.c = omega arith in
-    λ bs k. rw (rw start at (cell-marked (rw at_test.if-v-eq-MARKED.true at k) 0 (omega arith))) c.remarked.ensures
+    λ bs k. rw (rw start at (cell-marked (rw c.if-v-eq-MARKED.true at k) 0 (omega arith))) c.remarked.ensures
 
 pub returns : goal.returns
 returns c = λ bs k. rw (c.ends_at.ensures bs k) at c.remarked-2.ensures

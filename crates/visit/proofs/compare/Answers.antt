@@ -1,9 +1,7 @@
 -- The tests decide.
 use mathlib.Core.Path.{sym, ◌∙◌}
-use borrow.Author.Tests.{not-true, not-false}
 use Rattle.visit.proofs.VisitLaws.{link-other, link-hard, link-soft}
 use native.Mathlib.Omega.{arith}
-use borrow.Author.Rules.{rules}
 use Rattle.visit.proofs.compare.Goals as goal
 
 pub returns-then-not-is_wanted : goal.returns-then-not-is_wanted

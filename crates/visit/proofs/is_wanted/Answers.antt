@@ -1,7 +1,6 @@
 -- Names of different lengths differ, so do names with different last bytes; else all bytes decide.
 use Rattle.order.proofs.Comparing.{same-lengths, same_at}
 use native.Mathlib.Omega.{arith}
-use borrow.Author.Rules.{rules}
 use Rattle.visit.proofs.is_wanted.Goals as goal
 
 pub returns-then-n-wanted : goal.returns-then-n-wanted

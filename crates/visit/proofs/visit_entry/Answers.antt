@@ -1,8 +1,6 @@
 -- By what is done: a name compared, an entry passed by, an object discovered or one too many.
-use borrow.Author.Tests.{not-true, not-false}
 use Rattle.visit.proofs.VisitLaws.{visit-compared, visit-passed, visit-full, visit-counted}
 use native.Mathlib.Omega.{arith}
-use borrow.Author.Rules.{rules}
 use Rattle.visit.proofs.visit_entry.Goals as goal
 
 pub returns-then-not-auditing : goal.returns-then-not-auditing

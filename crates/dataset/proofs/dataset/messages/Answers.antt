@@ -1,5 +1,5 @@
 -- The layout's reader stands for its walk; the product comes last.
-use mathlib.Core.Path.{◌≡◌, refl, ap, sym, ◌∙◌}
+use mathlib.Core.Path.{refl, ap, sym, ◌∙◌}
 use Rattle.format.specs.Walk.{located}
 use Rattle.laws.proofs.Checks.{passes, fails, gives, refuses}
 use Rattle.dataset.specs.Dataset.{layout_walk}

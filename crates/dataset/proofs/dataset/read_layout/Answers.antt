@@ -2,7 +2,6 @@
 use mathlib.Core.Path.{ap, ◌∙◌}
 use Rattle.format.specs.Layout.{read_layout}
 use Rattle.dataset.proofs.DatasetLaws.{body-part}
-use borrow.Author.Rules.{rules}
 use Rattle.dataset.proofs.dataset.read_layout.Goals as goal
 
 pub returns : goal.returns

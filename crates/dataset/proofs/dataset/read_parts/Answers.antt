@@ -1,5 +1,5 @@
 -- Each message's reader stands for its walk.
-use mathlib.Core.Path.{◌≡◌, refl, ap}
+use mathlib.Core.Path.{refl, ap}
 use Rattle.format.specs.Walk.{located}
 use Rattle.laws.proofs.Checks.{gives, refuses}
 use Rattle.dataset.specs.Dataset.{parts_walk}

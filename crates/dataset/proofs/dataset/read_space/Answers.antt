@@ -4,7 +4,6 @@ use mathlib.Core.List.{List}
 use Prim.Native.Nat.{ℕ}
 use Rattle.dataspace.specs.Dataspace.{SpaceRead}
 use Rattle.dataset.proofs.DatasetLaws.{body-part}
-use borrow.Author.Rules.{rules}
 use Rattle.dataset.proofs.dataset.read_space.Goals as goal
 
 pub returns : goal.returns

@@ -5,7 +5,6 @@ use Rattle.format.specs.Datatype.{read_datatype, read_shared}
 use Rattle.format.specs.Dataset.{read_type}
 use Rattle.walk.proofs.Tests.{takes-then, takes-else}
 use Rattle.dataset.proofs.DatasetLaws.{body-part}
-use borrow.Author.Rules.{rules}
 use Rattle.dataset.proofs.dataset.read_type.Goals as goal
 
 pub returns-then-body-eq1 : goal.returns-then-body-eq1

@@ -12,7 +12,7 @@ joined-requires c =
     let a = c.args in
     record {
       start_bound = search rules;
-      end_bound = rw c.free_end.ensures (end-most (get_or a.map.now a.c 0) (omega (arith, c.slice_known-2-1.given a.c)));
+      end_bound = rw c.free_end.ensures (end-most (get_or a.map.now a.c 0) (omega (arith, c.type_inv.map a.c)));
     }
 
 pub returns : goal.returns

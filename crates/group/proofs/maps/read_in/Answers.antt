@@ -15,7 +15,7 @@ read_few-requires c =
       settings = c.requires.settings;
       ready = c.requires.ready;
       segment_inside = c.requires.segment_inside;
-      size_bound = omega (arith, c.if-heap-lt-FEW_CELLS.true);
+      size_bound = omega arith;
     }
 
 pub read_many-requires : goal.read_many-requires
@@ -25,7 +25,7 @@ read_many-requires c =
       settings = c.requires.settings;
       ready = c.requires.ready;
       segment_inside = c.requires.segment_inside;
-      size_bound = omega (arith, c.if-heap-lt-MANY_CELLS.true);
+      size_bound = omega arith;
     }
 
 pub read_most-requires : goal.read_most-requires
@@ -35,7 +35,7 @@ read_most-requires c =
       settings = c.requires.settings;
       ready = c.requires.ready;
       segment_inside = c.requires.segment_inside;
-      size_bound = omega (arith, c.if-heap-lt-MOST_CELLS.true);
+      size_bound = omega arith;
     }
 
 pub read_plain-requires-2 : goal.read_plain-requires-2

@@ -1,8 +1,5 @@
 -- The addresses before i are copied; each turn copies one more.
-use Prim.Native.Nat.{◌-◌, ◌≤◌}
-use Rattle.ledger.specs.Report.{Copied}
 use Rattle.ledger.proofs.ReportLaws.{copied_none, copied_more, copied_all}
-use borrow.Author.Rules.{rules}
 use native.Mathlib.Omega.{arith}
 use Rattle.ledger.proofs.report.copy_addresses.Goals as goal
 

@@ -1,9 +1,5 @@
 -- The counts before i are read; each turn reads one more.
-use Prim.Native.Nat.{◌+◌, ◌-◌, ◌≤◌}
-use lib.ListN.{length, get_or}
-use Rattle.ledger.specs.Report.{StoredRead}
 use Rattle.ledger.proofs.ReportLaws.{stored-none, stored_more, stored-all}
-use borrow.Author.Rules.{rules}
 use native.Mathlib.Omega.{arith}
 use Rattle.ledger.proofs.report.read_stored.Goals as goal
 

@@ -1,10 +1,6 @@
 -- The counts before i are read; each turn reads one more.
-use Prim.Native.Nat.{◌+◌, ◌-◌, ◌≤◌}
-use lib.ListN.{length, get_or}
+use Prim.Native.Nat.{◌-◌, ◌≤◌}
 use Rattle.ledger.specs.Report.{StoredRead}
-use Rattle.ledger.proofs.ReportLaws.{stored-none, stored_more, stored-all}
-use borrow.Author.Rules.{rules}
-use native.Mathlib.Omega.{arith}
 use Rattle.ledger.proofs.report.read_stored.Given as goal
 
 abbrev pub invariant-loop-i : goal.invariant-loop-i

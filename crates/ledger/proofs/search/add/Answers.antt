@@ -2,7 +2,6 @@
 use lib.ListN.{length-set}
 use Rattle.ledger.proofs.AddLaws.{added}
 use native.Mathlib.Omega.{arith}
-use borrow.Author.Rules.{rules}
 use Rattle.ledger.proofs.search.add.Goals as goal
 
 pub insert-requires : goal.insert-requires

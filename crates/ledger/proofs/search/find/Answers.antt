@@ -1,7 +1,6 @@
 -- The guess is the object, or the order is searched.
 use Rattle.ledger.proofs.SearchLaws.{sought-guess, sought-more}
 use native.Mathlib.Omega.{arith}
-use borrow.Author.Rules.{rules}
 use Rattle.ledger.proofs.search.find.Goals as goal
 
 pub returns-then-place-objects : goal.returns-then-place-objects

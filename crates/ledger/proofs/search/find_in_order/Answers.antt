@@ -1,10 +1,6 @@
 -- The halving ends at the only object that can have the address.
-use Prim.Native.Nat.{◌<◌}
-use lib.ListN.{length}
-use Rattle.ordering.specs.Order.{words_from}
 use Rattle.ledger.proofs.SearchLaws.{from_sorted, order-object, sought-there, sought-none}
 use native.Mathlib.Omega.{arith}
-use borrow.Author.Rules.{rules}
 use Rattle.ledger.proofs.search.find_in_order.Goals as goal
 
 pub halve-found-requires : goal.halve-found-requires

@@ -2,7 +2,6 @@
 use Rattle.format.specs.Limits.{objects_most}
 use Rattle.ledger.specs.Index.{guess_at}
 use native.Mathlib.Omega.{arith}
-use borrow.Author.Rules.{rules}
 use Rattle.ledger.proofs.search.guess_at.Goals as goal
 
 pub returns : goal.returns

@@ -1,9 +1,7 @@
 -- The objects before `low` have lower addresses, those from `high` on have not; each test halves what is between them.
-use Prim.Native.Nat.{◌+◌, ◌-◌, ◌/◌, ◌<◌}
-use lib.ListN.{length}
-use Rattle.ordering.specs.Order.{words_from}
-use Rattle.block_index.proofs.SearchLaws.{Halved, halved_none, halved-more, tests-few}
-use Rattle.ledger.proofs.SearchLaws.{Between, between-all, middle-in, middle-object, middle-low, middle-high, between_none}
+use Prim.Native.Nat.{◌-◌}
+use Rattle.block_index.proofs.SearchLaws.{halved_none, halved-more, tests-few}
+use Rattle.ledger.proofs.SearchLaws.{between-all, middle-in, middle-object, middle-low, middle-high, between_none}
 use native.Mathlib.Omega.{arith}
 use Rattle.ledger.proofs.search.halve.Goals as goal
 

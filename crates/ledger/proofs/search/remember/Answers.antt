@@ -3,7 +3,6 @@ use Rattle.format.specs.Limits.{objects_most}
 use Rattle.ledger.proofs.SearchLaws.{guess-in}
 use Rattle.ledger.proofs.AddLaws.{guess-written, no-guesses}
 use native.Mathlib.Omega.{arith}
-use borrow.Author.Rules.{rules}
 use Rattle.ledger.proofs.search.remember.Goals as goal
 
 pub returns-then-addresses-lt-TABLE_WORDS : goal.returns-then-addresses-lt-TABLE_WORDS

@@ -3,7 +3,6 @@ use Prim.Native.Nat.{◌+◌, ◌^◌, ◌<◌}
 use lib.ListN.{get_or}
 use Rattle.ledger.proofs.TableLaws.{discover-fits, discover-known, discover-full, discover-addable, discover-new}
 use native.Mathlib.Omega.{arith}
-use borrow.Author.Rules.{rules}
 use Rattle.ledger.proofs.table.count_at.Goals as goal
 
 pub offset_bounds-counts-place : goal.offset_bounds-counts-place

@@ -1,7 +1,6 @@
 -- The root is added to a table of no object.
 use native.Mathlib.Omega.{arith}
 use Rattle.ledger.proofs.TableLaws.{start-addable, start-law}
-use borrow.Author.Rules.{rules}
 use Rattle.ledger.proofs.table.start.Goals as goal
 
 pub add-requires : goal.add-requires
