@@ -23,7 +23,6 @@ use Rattle.laws.proofs.Simulation.{passed, failed, chosen-then, Simulation, star
 use Rattle.range.specs.Range.{Tight}
 use Rattle.range.specs.declared.Range.{Range}
 use Rattle.visit.specs.Visit.{Both}
-use Rattle.symbol.specs.declared.entry.Group.{Group}
 
 -- two walks that enter the same block and go on alike with its bytes run alike
 run-enter-same : (im : List ℕ) (eof room : ℕ) (bs : List Block) {A : Type 0} (v : Kind) (a n : ℕ) (f f' : List ℕ → Walk A) →

@@ -1,6 +1,5 @@
 -- Both are cleared from their first byte on.
 use Rattle.front.proofs.Reply.{all-zero}
-use borrow.Author.Rules.{rules}
 use Rattle.front.proofs.clear_both.Goals as goal
 
 pub returns : goal.returns

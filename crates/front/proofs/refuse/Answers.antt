@@ -5,31 +5,24 @@ use borrow.Author.Tests.{eq-eqb, ne_eqb}
 use Rattle.words.proofs.Words.{padded-zeros}
 use Rattle.front.proofs.Reply.{all-zero}
 use native.Mathlib.Omega.{arith}
-use borrow.Author.Rules.{rules}
 use Rattle.front.proofs.refuse.Goals as goal
 
 pub returns-then-number-ne-OVERLAP : goal.returns-then-number-ne-OVERLAP
 returns-then-number-ne-OVERLAP c =
-    let at-clear-both = c in
-    let at-if1 = at-clear-both.before.before.before in
-    let a = at-if1.before.before.before.args in
-    let cleared = at-clear-both.Clear-both.ensures in
-    let six = ne_eqb a.number 6 at-if1.if1.true in
+    let a = c.args in
+    let six = ne_eqb a.number 6 c.if-number-ne-OVERLAP.true in
     record {
       value = refl;
-      blocks_after = cleared.0;
-      reply_after = cleared.1 ∙ simp six (sym (padded-zeros (length a.reply.now) 0 (omega arith)));
+      blocks_after = c.clear_both.ensures.blocks_after;
+      reply_after = c.clear_both.ensures.reply_after ∙ simp six (sym (padded-zeros (length a.reply.now) 0 (omega arith)));
     }
 
 pub returns : goal.returns
 returns c =
-    let at-spill = c in
-    let at-clear-from = at-spill.before.before.before.before.before in
-    let at-if1 = at-clear-from.before.before in
-    let a = at-if1.before.before.before.args in
-    let six = eq-eqb a.number 6 at-if1.if1.false in
+    let a = c.args in
+    let six = eq-eqb a.number 6 c.if-number-ne-OVERLAP.false in
     record {
       value = refl;
-      blocks_after = all-zero a.blocks.now _ at-clear-from.clear_from.ensures;
-      reply_after = at-spill.spill.ensures ∙ simp six;
+      blocks_after = all-zero a.blocks.now _ c.clear_from.ensures;
+      reply_after = c.spill.ensures ∙ simp six;
     }

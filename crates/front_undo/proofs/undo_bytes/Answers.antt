@@ -3,7 +3,6 @@ use lib.ListN.{length}
 use Rattle.front.proofs.Reply.{all-zero}
 use Rattle.front_undo.proofs.Undone.{short-reply, done-reply, refused-reply}
 use native.Mathlib.Omega.{arith}
-use borrow.Author.Rules.{rules}
 use Rattle.front_undo.proofs.undo_bytes.Goals as goal
 
 pub returns-then-reply-lt-REPLY_WORDS : goal.returns-then-reply-lt-REPLY_WORDS

@@ -1,53 +1,47 @@
 -- The working list has the caller's room, and its blocks are handed over.
-use Prim.Native.Nat.{ℕ}
-use mathlib.Core.Path.{sym, ◌∙◌}
-use lib.ListN.{length}
+use Prim.Native.Nat.{ℕ, ◌≤◌}
+use mathlib.Core.List.{List}
+use mathlib.Core.Path.{◌≡◌, sym, ◌∙◌}
+use lib.ListN.{length, take}
 use Rattle.format.specs.Limits.{blocks_most}
-use Rattle.walk.proofs.BlockList.{room-is}
-use Rattle.walk.proofs.Handed.{work, Working, working, HandedOver, handed-over}
+use Rattle.format.specs.Blocks.{room_of}
+use Rattle.walk.specs.Lent.{places_of, work_words}
+use Rattle.walk.proofs.BlockList.{room_most}
+use Rattle.walk.proofs.Handed.{work, working, HandedOver, handed-over}
 use native.Mathlib.Omega.{arith}
-use borrow.Author.Rules.{rules}
 use Rattle.mend.proofs.mend.Goals as goal
-use Rattle.mend.proofs.mend.Goals.{After-mend_in-r, After-work_words-n}
 
-abbrev lent : After-work_words-n → ℕ
-lent c = length c.args.list.now
-
-lends : (c : After-work_words-n) → Working (lent c) c.work_words-n.result work
-lends c = working (lent c) _ _ c.room.ensures c.work_words-n.ensures
-
-over : (c : After-mend_in-r) →
-    HandedOver (lent c) c.work_words-n.result work c.mend_in-r.new.1.0 c.mend_in-r.result.block_count
-unfolding blocks_most
-over c = handed-over _ _ work _ _ (lends c) c.mend_in-r.auto.1.0 c.mend_in-r.ensures.0
+-- what came back of a working list with the caller's room
+over : (lent room n : ℕ) (ys : List ℕ) (count : ℕ) → room ≡ room_of lent → n ≡ work_words room → length ys ≡ length (take n work) →
+    count ≤ places_of (length (take n work)) → HandedOver lent n work ys count
+over lent room n ys count is words back counted = handed-over lent n work ys count (working lent room n is words) back counted
 
 pub work_words-n-requires : goal.work_words-n-requires
-work_words-n-requires c =
-    let start = c in
-    omega (arith, c.room.ensures, room-is (length start.args.list.now), start.well-formed.1.0.0)
+unfolding blocks_most
+work_words-n-requires c = omega (arith, c.room.ensures, room_most (length c.args.list.now))
 
 pub slice_bounds-work-end : goal.slice_bounds-work-end
 unfolding blocks_most
-slice_bounds-work-end c = (lends c).there
+slice_bounds-work-end c = (working (length c.args.list.now) _ _ c.room.ensures c.work_words-n.ensures).there
 
 pub slice_bounds-mend_in-end : goal.slice_bounds-mend_in-end
 unfolding blocks_most
-slice_bounds-mend_in-end c = sym (lends c).long
+slice_bounds-mend_in-end c = sym (working (length c.args.list.now) _ _ c.room.ensures c.work_words-n.ensures).long
 
 pub slice_bounds-hand_over-end : goal.slice_bounds-hand_over-end
 unfolding blocks_most
-slice_bounds-hand_over-end c = sym (over c).whole
+slice_bounds-hand_over-end c =
+    sym (over (length c.args.list.now) _ _ _ _ c.room.ensures c.work_words-n.ensures c.mend_in-r.auto.list c.mend_in-r.ensures.block_count_bound).whole
 
 pub hand_over-requires : goal.hand_over-requires
 unfolding blocks_most
-hand_over-requires c = let o = over c in record {
-  count_in_bounds = o.fits;
-  count_in_bounds_2 = o.there;
-}
+hand_over-requires c =
+    let o = over (length c.args.list.now) _ _ _ _ c.room.ensures c.work_words-n.ensures c.mend_in-r.auto.list c.mend_in-r.ensures.block_count_bound in
+    record { count_in_bounds = o.fits; count_in_bounds_2 = o.there }
 
 pub returns : goal.returns
 unfolding blocks_most
 returns c =
-    let hand = c in
-    let d = hand in
-    rw (hand.hand_over.ensures ∙ (over d).same) (d.mend_in-r.ensures.1 (lent d) (lends d).fit)
+    let o = over (length c.args.list.now) _ _ _ _ c.room.ensures c.work_words-n.ensures c.mend_in-r.auto.list c.mend_in-r.ensures.block_count_bound in
+    rw (c.hand_over.ensures ∙ o.same)
+    (c.mend_in-r.ensures.by_index (length c.args.list.now) (working (length c.args.list.now) _ _ c.room.ensures c.work_words-n.ensures).fit)

@@ -2,7 +2,6 @@
 use mathlib.Core.Path.{sym, ◌∙◌}
 use Rattle.names.proofs.StartLaws.{passed_none, passed-more}
 use native.Mathlib.Omega.{arith}
-use borrow.Author.Rules.{rules}
 use Rattle.names.proofs.eight_passed.Goals as goal
 
 pub returns-then-contains_8 : goal.returns-then-contains_8

@@ -1,10 +1,8 @@
 -- None among sixteen is none among fewer; else these are searched.
 use Prim.Native.Nat.{◌+◌, ◌-◌}
 use mathlib.Core.Path.{◌≡◌, sym, ◌∙◌}
-use borrow.Author.Tests.{not-true}
 use Rattle.names.proofs.StartLaws.{fewer}
 use native.Mathlib.Omega.{arith}
-use borrow.Author.Rules.{rules}
 use Rattle.names.proofs.has_slash.Goals as goal
 
 pub returns-then-not-contains_16 : goal.returns-then-not-contains_16

@@ -8,7 +8,6 @@ use Rattle.names.proofs.NameLaws.{same_check, key-inside, name-fault}
 use Rattle.names.proofs.FormLaws.{name-formless, name-inside, name-alone, name-hit, name-missed}
 use Rattle.names.proofs.ValueLaws.{none-followed}
 use native.Mathlib.Omega.{arith}
-use borrow.Author.Rules.{rules}
 use Rattle.names.proofs.name.Goals as goal
 
 pub name_size-size-requires : goal.name_size-size-requires

@@ -1,12 +1,10 @@
 -- By the first sixteen bytes, if the segment has so many.
 use mathlib.Core.Bool.{true, false}
 use mathlib.Core.Path.{◌≡◌, sym, ◌∙◌}
-use borrow.Author.Tests.{not-true, not-false}
 use Rattle.format.specs.Bytes.{part, contains}
 use Rattle.names.proofs.StartLaws.{plain-none, ends-within, ends-plain, goes_on, slash-first}
 use Rattle.names.proofs.SizeLaws.{size-slashed, size-slashed-short}
 use native.Mathlib.Omega.{arith}
-use borrow.Author.Rules.{rules}
 use Rattle.names.proofs.name_size.Goals as goal
 
 pub size_behind-requires : goal.size_behind-requires

@@ -6,7 +6,6 @@ use Rattle.nul.specs.Nul.{NulWithin}
 use Rattle.names.proofs.StartLaws.{sixteen, name-bound}
 use Rattle.names.proofs.SizeLaws.{size_above, size-slash, size-plain}
 use native.Mathlib.Omega.{arith}
-use borrow.Author.Rules.{rules}
 use Rattle.names.proofs.size_behind.Goals as goal
 
 pub overflow_add-limits : goal.overflow_add-limits

@@ -1,7 +1,6 @@
 -- A string of no byte or of two and more is all that was read; one byte may be ".".
 use Rattle.names.proofs.SizeLaws.{size-other, size-dot, size-one}
 use native.Mathlib.Omega.{arith}
-use borrow.Author.Rules.{rules}
 use Rattle.names.proofs.size_unless_dot.Goals as goal
 
 pub returns-then-n-ne1 : goal.returns-then-n-ne1

@@ -1,10 +1,7 @@
 -- No byte before the kth is a NUL; the string's NUL is met before the segment's end.
-use Prim.Native.Nat.{◌+◌, ◌-◌}
+use Prim.Native.Nat.{◌+◌}
 use mathlib.Core.Path.{◌≡◌}
-use lib.ListN.{length, drop}
-use Rattle.format.specs.Names.{before_nul}
 use Rattle.nul.proofs.NulLaws.{nul-here, nul-later}
-use borrow.Author.Rules.{rules}
 use native.Mathlib.Omega.{arith}
 use Rattle.names.proofs.string_size.Goals as goal
 

@@ -3,9 +3,6 @@ use Prim.Native.Nat.{◌+◌, ◌-◌}
 use mathlib.Core.Path.{◌≡◌}
 use lib.ListN.{length, drop}
 use Rattle.format.specs.Names.{before_nul}
-use Rattle.nul.proofs.NulLaws.{nul-here, nul-later}
-use borrow.Author.Rules.{rules}
-use native.Mathlib.Omega.{arith}
 use Rattle.names.proofs.string_size.Given as goal
 
 abbrev pub invariant-loop-k : goal.invariant-loop-k

@@ -6,8 +6,6 @@ use Rattle.format.specs.Names.{string_at}
 use Rattle.nul.proofs.NulLaws.{ends}
 use Rattle.names.proofs.NameLaws.{same_check, key-inside, value-fault}
 use Rattle.names.proofs.ValueLaws.{value-alone, none-followed, value-sound, value-in-free}
-use native.Mathlib.Omega.{arith}
-use borrow.Author.Rules.{rules}
 use Rattle.names.proofs.value.Goals as goal
 
 pub returns-then-free-eq0 : goal.returns-then-free-eq0

@@ -1,12 +1,11 @@
 -- Each test against its place in the walk of a node.
-use mathlib.Core.Path.{◌≡◌, refl, sym, ◌∙◌}
+use mathlib.Core.Path.{◌≡◌, refl}
 use Prim.Native.Nat.{ℕ, ◌+◌, ◌*◌, ◌≤◌}
 use lib.ListN.{length}
 use Rattle.format.specs.Bytes.{little_endian}
 use Rattle.format.specs.Tree.{TREE}
 use Rattle.node.proofs.NodeLaws.{node-refused, node-inside, node-counted, signature-wrong, type-wrong, level-wrong, entries-wrong, node-read}
 use native.Mathlib.Omega.{arith}
-use borrow.Author.Rules.{rules}
 use Rattle.node.proofs.read_node.Goals as goal
 
 -- the signature is the number of these four bytes

@@ -35,13 +35,13 @@ loop-i-preserved c =
       omega arith,
       omega arith,
       rw (c.put_object.ensures, l.invariant.1, l.invariant.3)
-          (line-written a.out.now a.at l.i a.t3.addresses a.t3.stored a.t3.true_counts),
+          (line-written a.out.now a.at l.i a.ledger.addresses a.ledger.stored a.ledger.true_counts),
     )
 
 pub returns : goal.returns
 returns c =
     let l = c.loop-i in
-    let e : l.i ≡ c.args.t3.objects = omega arith in
+    let e : l.i ≡ c.args.ledger.objects = omega arith in
     record {
       value = omega arith;
       out_after = l.invariant.3 ∙ rw e;

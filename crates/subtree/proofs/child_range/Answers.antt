@@ -1,7 +1,6 @@
 -- The keys on both sides narrow the range.
 use mathlib.Core.Path.{sym, ◌∙◌}
 use Rattle.subtree.proofs.SubtreeLaws.{within-alike}
-use borrow.Author.Rules.{rules}
 use Rattle.subtree.proofs.child_range.Goals as goal
 
 pub returns : goal.returns

@@ -1,11 +1,10 @@
 -- Each test against its place in the walk of a symbol table node, then its entries.
-use mathlib.Core.List.{List, []}
-use mathlib.Core.Path.{◌≡◌, refl, sym, ◌∙◌}
+use mathlib.Core.List.{[]}
+use mathlib.Core.Path.{◌≡◌, refl}
 use Prim.Native.Nat.{ℕ, ◌+◌, ◌*◌, ◌≤◌}
 use lib.ListN.{length}
 use Rattle.format.specs.Bytes.{little_endian}
 use Rattle.format.specs.Symbols.{SNOD}
-use Rattle.format.specs.Blocks.{Block}
 use Rattle.walk.specs.Lent.{blocks_of, length_sum, Lent}
 use Rattle.laws.specs.Blocks.{Fresh, Inside}
 use Rattle.laws.proofs.Growth.{Grown}
@@ -17,7 +16,6 @@ use Rattle.symbol.specs.declared.entry.State.{State}
 use Rattle.symbol_node.proofs.SymbolLaws.{symbols-refused, symbols-inside, symbols-lent, symbols-grown, symbols-lengths, signature-wrong}
 use Rattle.symbol_node.proofs.SymbolLaws.{version-wrong, count_low, count-high, symbols-end, links-small, sound-after, kept-count}
 use native.Mathlib.Omega.{arith}
-use borrow.Author.Rules.{rules}
 use Rattle.symbol_node.proofs.symbol_node.Goals as goal
 
 -- the signature is the number of these four bytes

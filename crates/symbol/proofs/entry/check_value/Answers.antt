@@ -2,7 +2,6 @@
 use mathlib.Core.Path.{◌≡◌}
 use Rattle.symbol.proofs.EntryLaws.{same-checked, value_none, value-refused, value_read}
 use native.Mathlib.Omega.{arith}
-use borrow.Author.Rules.{rules}
 use Rattle.symbol.proofs.entry.check_value.Goals as goal
 
 pub returns-then-kind-ne2 : goal.returns-then-kind-ne2

@@ -1,9 +1,6 @@
 -- Turn by turn, the entries that are left to read.
-use Prim.Native.Nat.{◌-◌}
-use Rattle.range.specs.Range.{name_in, Floor}
 use mathlib.Core.Path.{◌∙◌}
-use Rattle.symbol.proofs.EntryLaws.{same-entry, Reading, reading-start, reading-end, reading-refused, reading-again, links-fit}
-use borrow.Author.Rules.{rules}
+use Rattle.symbol.proofs.EntryLaws.{same-entry, reading-start, reading-end, reading-refused, reading-again, links-fit}
 use native.Mathlib.Omega.{arith}
 use Rattle.symbol.proofs.entry.entries.Goals as goal
 

@@ -1,10 +1,7 @@
 -- Turn by turn, the entries that are left to read.
 use Prim.Native.Nat.{◌-◌}
 use Rattle.range.specs.Range.{name_in, Floor}
-use mathlib.Core.Path.{◌∙◌}
-use Rattle.symbol.proofs.EntryLaws.{same-entry, Reading, reading-start, reading-end, reading-refused, reading-again, links-fit}
-use borrow.Author.Rules.{rules}
-use native.Mathlib.Omega.{arith}
+use Rattle.symbol.proofs.EntryLaws.{Reading}
 use Rattle.symbol.proofs.entry.entries.Given as goal
 
 abbrev pub invariant-loop-i : goal.invariant-loop-i

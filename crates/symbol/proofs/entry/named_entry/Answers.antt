@@ -1,13 +1,11 @@
 -- The tests in their order, then the visit.
 use mathlib.Core.Bool.{true}
 use mathlib.Core.Path.{◌≡◌, sym, ◌∙◌}
-use borrow.Author.Tests.{not-true, not-false}
 use Rattle.format.specs.Names.{below}
 use Rattle.heap.proofs.SegmentLaws.{part-between}
 use Rattle.range.specs.Range.{name_in, range_holds}
 use Rattle.range.proofs.RangeLaws.{floor-passed, floor-refused, high-refused}
 use Rattle.symbol.proofs.EntryLaws.{same-value, same-visit, place-refused, type-refused, link-refused, visit-refused, visited}
-use borrow.Author.Rules.{rules}
 use native.Mathlib.Omega.{arith}
 use Rattle.symbol.proofs.entry.named_entry.Goals as goal
 

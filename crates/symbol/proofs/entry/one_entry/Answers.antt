@@ -7,7 +7,6 @@ use Rattle.range.proofs.FirstBytes.{name_at}
 use Rattle.symbol.specs.Entry.{NameSound}
 use native.Mathlib.Omega.{arith}
 use Rattle.symbol.proofs.EntryLaws.{same_text, name-sound, name-refused}
-use borrow.Author.Rules.{rules}
 use Rattle.symbol.proofs.entry.one_entry.Goals as goal
 
 pub name-requires : goal.name-requires
