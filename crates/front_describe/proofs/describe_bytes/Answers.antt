@@ -5,12 +5,7 @@ use Rattle.format.specs.Limits.{rank_most}
 use Rattle.front.proofs.Lent.{room_fits}
 use Rattle.front_describe.proofs.Described.{short-reply, whole-reply}
 use native.Mathlib.Omega.{arith}
-use borrow.Author.Rules.{rules}
 use Rattle.front_describe.proofs.describe_bytes.Goals as goal
-use Rattle.front_describe.proofs.describe_bytes.Goals.{After-room-room}
-
-reply-long : (c : After-room-room) → 10 + 2 * rank_most ≤ length c.args.reply.now / 8
-reply-long c = omega (arith, c.if-reply-limits.false, c.the_limits-limits.ensures.rank_most_equal)
 
 pub overflow_mul-limits : goal.overflow_mul-limits
 unfolding rank_most
@@ -22,28 +17,22 @@ overflow_add-limits c = record { fits = omega (arith, c.the_limits-limits.ensure
 
 pub returns-then-reply-limits : goal.returns-then-reply-limits
 returns-then-reply-limits c =
-    let at-clear-both = c in
-    let at-if1 = at-clear-both.before.before.before in
-    let at-the-limits = at-if1.before.before in
-    let a = at-the-limits.before.before.before.before.before.args in
-    let t = at-clear-both.Clear-both.ensures in
+    let a = c.args in
     short-reply a.image.now a.path.now (length a.blocks.now) (length a.reply.now) _ _
-    (omega (arith, at-if1.if1.true, at-the-limits.the_limits.ensures.rank_most_equal)) t.0 t.1
+    (omega (arith, c.if-reply-limits.true, c.the_limits-limits.ensures.rank_most_equal)) c.clear_both.ensures.blocks_after c.clear_both.ensures.reply_after
 
 pub describe_in-requires : goal.describe_in-requires
 describe_in-requires c =
-    let at_room = c in
-    let fits = room_fits _ _ at_room.room-room.ensures in
+    let fits = room_fits _ _ c.room-room.ensures in
     record {
       room_le_blocks_most = fits.0;
       room_in_bounds = fits.1;
-      rank_most_in_bounds = reply-long at_room;
+      rank_most_in_bounds = omega (arith, c.if-reply-limits.false, c.the_limits-limits.ensures.rank_most_equal);
     }
 
 pub returns : goal.returns
 returns c =
-    let at_in = c in
-    let at_room = at_in in
-    let a = at_room.args in
-    whole-reply a.image.now a.path.now (length a.blocks.now) (length a.reply.now) (reply-long at_room) _ _ at_in.describe_in.ensures
-    at_room.room-room.ensures
+    let a = c.args in
+    let long : 10 + 2 * rank_most ≤ length a.reply.now / 8 = omega (arith, c.if-reply-limits.false, c.the_limits-limits.ensures.rank_most_equal) in
+    whole-reply a.image.now a.path.now (length a.blocks.now) (length a.reply.now) long _ _ c.describe_in.ensures
+    c.room-room.ensures

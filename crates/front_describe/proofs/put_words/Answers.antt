@@ -1,11 +1,8 @@
--- The first i words are written; each turn writes one more.
-use Prim.Native.Nat.{◌≤◌, ◌-◌}
-use mathlib.Core.Path.{◌≡◌, refl, ◌∙◌}
-use lib.ListN.{length, take}
+-- Where the loop begins, at each turn, and behind it.
+use mathlib.Core.Path.{refl, ◌∙◌}
 use Rattle.format.specs.Bytes.{overwrite}
 use Rattle.format.specs.Front.{word_bytes}
 use Rattle.front.proofs.Reply.{put-more, put_all}
-use borrow.Author.Rules.{rules}
 use native.Mathlib.Omega.{arith}
 use Rattle.front_describe.proofs.put_words.Goals as goal
 
@@ -17,11 +14,14 @@ pub loop-i-preserved : goal.loop-i-preserved
 loop-i-preserved c =
     let l = c.loop-i in
     let a = c.args in
-    let w = c.put_word in
-    (omega arith, w.auto.0 ∙ l.invariant.1, put-more a.reply.now l.reply _ a.words.now a.at l.i l.invariant.2 (omega arith) w.ensures)
+    let w = c.put_word in (
+      omega (arith, c.loop-i-test.true),
+      w.auto.out ∙ l.invariant.1,
+      put-more a.reply.now l.reply _ a.words.now a.at l.i l.invariant.2 c.loop-i-test.true w.ensures,
+    )
 
 pub returns : goal.returns
 returns c =
     let l = c.loop-i in
     let a = c.args in
-    put_all a.reply.now l.reply a.words.now a.at l.i l.invariant.2 (omega arith)
+    put_all a.reply.now l.reply a.words.now a.at l.i l.invariant.2 c.loop-i-test.false

@@ -1,12 +1,9 @@
 -- The first i words are written; each turn writes one more.
 use Prim.Native.Nat.{◌≤◌, ◌-◌}
-use mathlib.Core.Path.{◌≡◌, refl, ◌∙◌}
+use mathlib.Core.Path.{◌≡◌}
 use lib.ListN.{length, take}
 use Rattle.format.specs.Bytes.{overwrite}
 use Rattle.format.specs.Front.{word_bytes}
-use Rattle.front.proofs.Reply.{put-more, put_all}
-use borrow.Author.Rules.{rules}
-use native.Mathlib.Omega.{arith}
 use Rattle.front_describe.proofs.put_words.Given as goal
 
 abbrev pub invariant-loop-i : goal.invariant-loop-i

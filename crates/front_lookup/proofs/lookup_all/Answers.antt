@@ -1,8 +1,8 @@
 -- The list has the words of all blocks.
 use Rattle.format.specs.Limits.{blocks_most}
-use borrow.Author.Rules.{rules}
+use native.Mathlib.Omega.{arith}
 use Rattle.front_lookup.proofs.lookup_all.Goals as goal
 
-pub lookup_with-requires : goal.lookup_with-requires
+pub lookup_with-requires-clause-room_in_bounds : goal.lookup_with-requires-clause-room_in_bounds
 unfolding blocks_most
-lookup_with-requires c = search rules
+lookup_with-requires-clause-room_in_bounds c = omega (arith, c.requires.room_le_blocks_most)

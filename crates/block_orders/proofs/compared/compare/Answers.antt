@@ -1,20 +1,10 @@
 -- The list stays indexed, and each search compares few blocks.
-use Prim.Native.Nat.{◌+◌, ◌-◌}
-use mathlib.Core.Path.{◌≡◌, refl, sym, ◌∙◌}
-use lib.ListN.{length}
-use Rattle.walk.specs.Lent.{Lent, places_of}
+use Prim.Native.Nat.{◌+◌}
+use mathlib.Core.Path.{refl, sym, ◌∙◌}
 use Rattle.walk.proofs.BlockList.{lent_none}
-use Rattle.block_orders.proofs.Counted.{Few, entered-lent, few-less}
-use borrow.Author.Rules.{rules}
+use Rattle.block_orders.proofs.Counted.{entered-lent, few-less}
 use native.Mathlib.Omega.{arith}
 use Rattle.block_orders.proofs.compared.compare.Goals as goal
-use Rattle.block_orders.proofs.compared.compare.Goals.{In-Entered-2}
-
-lent : (c : In-Entered-2) →
-    Lent c.enter.new.1.0 c.in-Entered.n c.places-room.result × (c.in-Entered.n ≡ c.loop-count.count + 1)
-lent c =
-    let e = c.enter.ensures in
-    entered-lent _ _ _ _ _ _ c.loop-count.work _ _ c.loop-count.invariant.0 e.1 (sym c.in-Entered.is ∙ e.0)
 
 pub loop-count-init : goal.loop-count-init
 loop-count-init c =
@@ -42,18 +32,19 @@ returns-in-Refused c =
 
 pub loop-count-smaller : goal.loop-count-smaller
 loop-count-smaller c =
-    let l = lent c in
+    let e = c.enter.ensures in
+    let l = entered-lent _ _ _ _ _ _ c.loop-count.work c.enter.new.blocks c.in-Entered.n c.loop-count.invariant.0 e.entered (sym c.in-Entered.is ∙ e.value) in
     omega (arith, l.1, l.0.counted)
 
 pub loop-count-preserved : goal.loop-count-preserved
 loop-count-preserved c =
-    let n = c in
-    let t = n.loop-count in
-    let found = n.find-found.ensures in (
-      (lent n).0,
-      t.inv.1,
-      n.enter.auto.1.0 ∙ t.inv.2,
-      λ m h. c.larger-most.ensures.2 (m + 10) (t.inv.3 m h) (few-less _ t.count _ t.inv.0.counted found.tests m h),
+    let e = c.enter.ensures in
+    let l = entered-lent _ _ _ _ _ _ c.loop-count.work c.enter.new.blocks c.in-Entered.n c.loop-count.invariant.0 e.entered (sym c.in-Entered.is ∙ e.value) in
+    let t = c.loop-count in (
+      l.0,
+      t.invariant.1,
+      c.enter.auto.blocks ∙ t.invariant.2,
+      λ m h. c.larger-most.ensures.2 (m + 10) (t.invariant.3 m h) (few-less _ t.count _ t.invariant.0.counted c.find-found.ensures.tests m h),
     )
 
 pub returns : goal.returns

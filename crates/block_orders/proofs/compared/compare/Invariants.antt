@@ -1,12 +1,9 @@
 -- The list stays indexed, and each search compares few blocks.
-use Prim.Native.Nat.{◌+◌, ◌-◌}
-use mathlib.Core.Path.{◌≡◌, refl, sym, ◌∙◌}
+use Prim.Native.Nat.{◌-◌}
+use mathlib.Core.Path.{◌≡◌}
 use lib.ListN.{length}
 use Rattle.walk.specs.Lent.{Lent, places_of}
-use Rattle.walk.proofs.BlockList.{lent_none}
-use Rattle.block_orders.proofs.Counted.{Few, entered-lent, few-less}
-use borrow.Author.Rules.{rules}
-use native.Mathlib.Omega.{arith}
+use Rattle.block_orders.proofs.Counted.{Few}
 use Rattle.block_orders.proofs.compared.compare.Given as goal
 
 abbrev pub invariant-loop-count : goal.invariant-loop-count

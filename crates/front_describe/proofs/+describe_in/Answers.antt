@@ -1,0 +1,22 @@
+-- What the call with less room gives is the reply, unless it is for want of room.
+use Rattle.format.specs.Answers.{describe}
+use Rattle.format.specs.Front.{c_describe_end}
+use lib.ListN.{length}
+use Prim.Native.Nat.{ℕ, ◌*◌}
+use Rattle.front.proofs.Call.{of-slices}
+use Rattle.front_describe.proofs.Described.{few-reply}
+use native.Mathlib.Omega.{arith}
+use Rattle.front_describe.proofs.+describe_in.Goals as goal
+
+pub returns-then-number-ne-NO_ROOM : goal.returns-then-number-ne-NO_ROOM
+returns-then-number-ne-NO_ROOM t c =
+    let a = c.args in
+    few-reply a.image.now a.path.now (length a.blocks.now) (length a.reply.now) c.few_room.result a.room _
+    c.describe_in-number.ensures (omega (arith, c.few_room.ensures, c.if-room-le-FEW_BLOCKS.false)) c.requires.room_in_bounds
+    c.if-number-ne-NO_ROOM.true
+
+pub returns : goal.returns
+returns t c =
+    let a = c.args in
+    let k = c.if-image-le-SMALL_IMAGE.auto in
+    of-slices (λ (l r : ℕ). c_describe_end l r (describe a.image.now a.path.now (4 * a.room))) _ _ _ _ _ k.blocks k.reply c.describe_all.ensures

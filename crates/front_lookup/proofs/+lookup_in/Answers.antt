@@ -1,0 +1,22 @@
+-- What the call with less room gives is the reply, unless it is for want of room.
+use Rattle.format.specs.Answers.{lookup}
+use Rattle.format.specs.Front.{c_lookup_end}
+use lib.ListN.{length}
+use Prim.Native.Nat.{ℕ, ◌*◌}
+use Rattle.front.proofs.Call.{of-slices}
+use Rattle.front_lookup.proofs.Located.{few-reply}
+use native.Mathlib.Omega.{arith}
+use Rattle.front_lookup.proofs.+lookup_in.Goals as goal
+
+pub returns-then-number-ne-NO_ROOM : goal.returns-then-number-ne-NO_ROOM
+returns-then-number-ne-NO_ROOM t c =
+    let a = c.args in
+    few-reply a.image.now a.path.now (length a.blocks.now) (length a.reply.now) c.few_room.result a.room _
+    c.lookup_in-number.ensures (omega (arith, c.few_room.ensures, c.if-room-le-FEW_BLOCKS.false)) c.requires.room_in_bounds
+    c.if-number-ne-NO_ROOM.true
+
+pub returns : goal.returns
+returns t c =
+    let a = c.args in
+    let k = c.if-few_first.auto in
+    of-slices (λ (l r : ℕ). c_lookup_end l r (lookup a.image.now a.path.now (4 * a.room))) _ _ _ _ _ k.blocks k.reply c.lookup_all.ensures
