@@ -1,7 +1,6 @@
 -- The constant is the definition's.
 use Rattle.format.specs.Limits.{objects_most}
 use native.Mathlib.Omega.{arith}
-use borrow.Author.Rules.{rules}
 use Rattle.front_mend.proofs.log_room.Goals as goal
 
 pub returns-then-words-most : goal.returns-then-words-most

@@ -4,36 +4,26 @@ use lib.ListN.{length}
 use Rattle.front.proofs.Lent.{room_fits}
 use Rattle.front_mend.proofs.Mended.{short-reply, whole-reply}
 use native.Mathlib.Omega.{arith}
-use borrow.Author.Rules.{rules}
 use Rattle.front_mend.proofs.mend_bytes.Goals as goal
-use Rattle.front_mend.proofs.mend_bytes.Goals.{After-room-room}
-
-reply-long : (c : After-room-room) → 3 ≤ length c.args.reply.now / 8
-reply-long c = omega (arith, c.if-reply-lt-REPLY_WORDS.false)
 
 pub returns-then-reply-lt-REPLY_WORDS : goal.returns-then-reply-lt-REPLY_WORDS
 returns-then-reply-lt-REPLY_WORDS c =
-    let at-clear-all = c in
-    let at-if1 = at-clear-all.before.before.before.before in
-    let a = at-if1.before.before.before.before.before.args in
-    let t = at-clear-all.clear_all.ensures in
+    let a = c.args in
     short-reply a.image.now (length a.blocks.now) (length a.log.now) (length a.reply.now) a.limit _ _ _
-    (omega (arith, at-if1.if1.true)) t.0 t.1.0 t.1.1
+    (omega (arith, c.if-reply-lt-REPLY_WORDS.true)) c.clear_all.ensures.blocks_after c.clear_all.ensures.log_after c.clear_all.ensures.reply_after
 
 pub mend_in-requires : goal.mend_in-requires
 mend_in-requires c =
-    let at_room = c in
-    let fits = room_fits _ _ at_room.room-room.ensures in
+    let fits = room_fits _ _ c.room-room.ensures in
     record {
       room_le_blocks_most = fits.0;
       room_in_bounds = fits.1;
-      in_bounds = reply-long at_room;
+      in_bounds = omega (arith, c.if-reply-lt-REPLY_WORDS.false);
     }
 
 pub returns : goal.returns
 returns c =
-    let at_in = c in
-    let at_room = at_in in
-    let a = at_room.args in
-    whole-reply a.image.now (length a.blocks.now) (length a.log.now) (length a.reply.now) a.limit (reply-long at_room) _ _
-    at_in.mend_in.ensures at_room.room-room.ensures
+    let a = c.args in
+    let long : 3 ≤ length a.reply.now / 8 = omega (arith, c.if-reply-lt-REPLY_WORDS.false) in
+    whole-reply a.image.now (length a.blocks.now) (length a.log.now) (length a.reply.now) a.limit long _ _ c.mend_in.ensures
+    c.room-room.ensures

@@ -3,11 +3,13 @@ use Rattle.format.specs.Limits.{blocks_most, objects_most}
 use Rattle.ledger.specs.Index.{table_words}
 use Rattle.audit.proofs.ReplyLaws.{empty-table}
 use native.Mathlib.Omega.{arith}
-use borrow.Author.Rules.{rules}
 use Rattle.front_report.proofs.report_all.Goals as goal
 
 pub report_with-requires : goal.report_with-requires
 unfolding blocks_most objects_most
-report_with-requires c =
-    let s = c in
-    (omega (arith, s.requires.0), (empty-table table_words (omega arith), s.requires.1))
+report_with-requires c = record {
+  room_in_bounds = omega (arith, c.requires.room_le_blocks_most);
+  empty_table = empty-table table_words (omega arith);
+  room_in_bounds_2 = c.requires.room_in_bounds;
+  in_bounds = c.requires.in_bounds;
+}

@@ -5,4 +5,4 @@ use Rattle.report_command.proofs.run.Goals as goal
 
 pub answer-requires : goal.answer-requires
 unfolding input_most
-answer-requires c = search rules
+answer-requires g c = search rules

@@ -1,0 +1,22 @@
+-- What the call with less room gives is the reply, unless it is for want of room.
+use Rattle.format.specs.Report.{report}
+use Rattle.front_report.specs.With.{written}
+use lib.ListN.{length}
+use Prim.Native.Nat.{ℕ, ◌*◌}
+use Rattle.front.proofs.Call.{of-slices}
+use Rattle.front_report.proofs.Reported.{few-reply}
+use native.Mathlib.Omega.{arith}
+use Rattle.front_report.proofs.+report_in.Goals as goal
+
+pub returns-then-answer-ne-NO_ROOM : goal.returns-then-answer-ne-NO_ROOM
+returns-then-answer-ne-NO_ROOM t c =
+    let a = c.args in
+    few-reply a.image.now (length a.blocks.now) (length a.reply.now) c.few_room.result a.room _
+    c.report_in-answer.ensures (omega (arith, c.few_room.ensures, c.if-room-le-FEW_BLOCKS.false)) c.requires.room_in_bounds
+    c.if-answer-ne-NO_ROOM.true
+
+pub returns : goal.returns
+returns t c =
+    let a = c.args in
+    let k = c.if-image-le-SMALL_IMAGE.auto in
+    of-slices (λ (l r : ℕ). written l r (report a.image.now (4 * a.room))) _ _ _ _ _ k.blocks k.reply c.report_all.ensures
