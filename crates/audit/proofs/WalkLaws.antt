@@ -7,7 +7,7 @@ use lib.ListN.{length, replicate, length-replicate}
 use Rattle.format.specs.Limits.{objects_most}
 use Rattle.format.specs.Blocks.{Block, block_of, entry_answer}
 use Rattle.format.specs.declared.Refusal.{Refusal}
-use Rattle.format.specs.Walk.{Walk, ret, ◌>>=◌, ◌>>◌, Outcome, done, refused, if_entered, run}
+use Rattle.format.specs.Walk.{Walk, ret, ◌>>=◌, Outcome, done, refused, if_entered, run}
 use Rattle.format.specs.Superblock.{superblock_walk}
 use Rattle.format.specs.Ledger.{Linked}
 use Rattle.format.specs.Audit.{objects_walk, root_found, audit_walk}

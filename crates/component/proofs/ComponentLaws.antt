@@ -7,7 +7,7 @@ use native.Mathlib.Omega.{arith}
 use lib.ListN.{length}
 use Rattle.format.specs.Blocks.{Block}
 use Rattle.format.specs.declared.Refusal.{Refusal}
-use Rattle.format.specs.Walk.{Walk, refuse, fault, ◌>>=◌, ◌>>◌, Outcome, done, refused, run, and_then}
+use Rattle.format.specs.Walk.{Walk, refuse, fault, ◌>>=◌, Outcome, done, refused, run, and_then}
 use Rattle.format.specs.Superblock.{superblock_walk}
 use Rattle.format.specs.Message.{Message}
 use Rattle.format.specs.Header as headers

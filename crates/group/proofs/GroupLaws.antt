@@ -7,9 +7,9 @@ use mathlib.Core.Bool.{Bool}
 use Rattle.format.specs.Blocks.{Block}
 use Rattle.format.specs.declared.Refusal.{Refusal}
 use Rattle.format.specs.Result.{Result, value, answer}
-use Rattle.format.specs.Walk.{Walk, ret, refuse, fault, located, ◌>>=◌, run}
+use Rattle.format.specs.Walk.{Walk, ret, fault, located, ◌>>=◌, run}
 use Rattle.format.specs.FreeList.{free_list}
-use Rattle.format.specs.Heap.{Heap, heap_walk}
+use Rattle.format.specs.Heap.{Heap}
 use Rattle.format.specs.Entry.{Entry, Group, GroupState}
 use Rattle.format.specs.Tree.{tree_walk, group_walk}
 use Rattle.walk.specs.Lent.{blocks_of, Lent, Walked, Ended, ended, stopped}
@@ -29,7 +29,7 @@ use Rattle.symbol.specs.declared.entry.Step.TheVariants.{Done, Stopped}
 use Rattle.symbol_node.specs.Tree.{step_end, SoundIf}
 use Rattle.group.specs.Group.{group_end, ReadyIf, contents_walk}
 use Rattle.laws.proofs.Bind.{bind_assoc, ret-bind, bind-ret}
-use Rattle.laws.proofs.Simulation.{Simulation, start, same-walk, returned, refusal, callee-done, callee-stopped, callee-value, callee-refusal}
+use Rattle.laws.proofs.Simulation.{Simulation, start, same-walk, returned, callee-done, callee-stopped, callee-value, callee-refusal}
 
 -- a group is its heap, entered, then what stands behind it
 group-opened : {S : Type 0} (leaf_k internal_k tree heap : ℕ) (visit : Entry → S → Result S) (found : S) →

@@ -1,7 +1,7 @@
 -- What reading the last object's header returns.
 use Rattle.std.specs.Prelude.{ℕ, List, [], ◌≡◌}
 use Rattle.format.specs.Blocks.{Block}
-use Rattle.format.specs.Walk.{Outcome, done, refused, run, ◌>>=◌, ◌>>◌}
+use Rattle.format.specs.Walk.{Outcome, done, refused, run, ◌>>◌}
 use Rattle.format.specs.Superblock.{superblock_walk}
 use Rattle.format.specs.Lookup.{Located, locate_walk}
 use Rattle.superblock.specs.Superblock.{superblock_of}

@@ -1,16 +1,15 @@
 -- The steps of the code that walks an object against the steps of its walk.
-use Prim.Native.Nat.{ℕ, ◌+◌, ◌≤◌, ◌<◌}
+use Prim.Native.Nat.{ℕ, ◌≤◌}
 use mathlib.Core.Bool.{true, false}
 use mathlib.Core.List.{List}
 use mathlib.Core.Path.{◌≡◌, refl, ap, sym, ◌∙◌}
 use native.Mathlib.Omega.{arith}
 use lib.ListN.{length}
 use Rattle.format.specs.declared.Refusal.{Refusal}
-use Rattle.format.specs.Result.{Result, value, answer}
+use Rattle.format.specs.Result.{value, answer}
 use Rattle.format.specs.Walk.{Walk, ret, refuse, fault, located, ◌>>=◌, ◌>>◌, Outcome, done, refused, run}
 use Rattle.format.specs.Message.{Message}
 use Rattle.format.specs.Header.{Object, group, dataset, committed, Headed, header_with}
-use Rattle.format.specs.Datatype.{Datatype}
 use Rattle.format.specs.Dataset.{head_at, storage_walk}
 use Rattle.format.specs.Tree.{group_walk}
 use Rattle.format.specs.Ledger.{Linked, discover}
@@ -28,14 +27,13 @@ use Rattle.visit.specs.Visit.{Both, both_of}
 use Rattle.symbol.specs.declared.entry.Step as steps
 use Rattle.sharing.specs.Sharing.{found_of, visit_message, Kept, KindKnown}
 use Rattle.continuations.specs.Counting.{Counting}
-use Rattle.dataset.specs.Dataset.{SpaceAndType, parts_walk, dataset_end}
-use Rattle.dataset.specs.declared.dataset.DatasetRead as datasets
+use Rattle.dataset.specs.Dataset.{SpaceAndType, parts_walk}
 use Rattle.dataset.proofs.DatasetLaws.{parts-split}
 use Rattle.group.specs.Group.{Ready, group_end, GroupIs}
 use Rattle.group.proofs.Entries.{audit-part}
 use Rattle.superblock.specs.Superblock.{superblock_of}
 use Rattle.superblock.specs.declared.Superblock as superblocks
-use Rattle.object.specs.Object.{Opened, Bounded, Listed, object_end, ListedIf, FoundWalked, behind_header}
+use Rattle.object.specs.Object.{Opened, Bounded, Listed, FoundWalked, behind_header}
 use Rattle.object.specs.declared.object.ObjectRead.{ObjectRead}
 use Rattle.object.specs.declared.object.ObjectRead.TheVariants.{Done, Stopped}
 

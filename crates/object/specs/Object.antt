@@ -1,5 +1,5 @@
 -- What walking an object of the audit returns and leaves.
-use Rattle.std.specs.Prelude.{ℕ, true, List}
+use Rattle.std.specs.Prelude.{ℕ, List}
 use Rattle.format.specs.Walk.{Walk, run, located, ◌>>=◌}
 use Rattle.format.specs.Header.{Object}
 use Rattle.format.specs.Object.{content_walk}

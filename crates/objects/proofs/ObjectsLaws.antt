@@ -13,7 +13,7 @@ use Rattle.format.specs.Object.{object_walk}
 use Rattle.format.specs.Audit.{objects_walk}
 use Rattle.walk.specs.Lent.{blocks_of, Walked, ended, stopped}
 use Rattle.laws.proofs.Simulation.{Simulation, same-walk, returned, callee-done, callee-stopped}
-use Rattle.ledger.specs.Table.{linked_of, Table}
+use Rattle.ledger.specs.Table.{Table}
 use Rattle.sharing.specs.Sharing.{found_of}
 use Rattle.ledger.proofs.TableLaws.{drop-linked_of, drop_past}
 use Rattle.superblock.specs.Superblock.{superblock_of}

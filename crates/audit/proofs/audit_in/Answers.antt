@@ -12,7 +12,6 @@ use Rattle.walk.proofs.BlockList.{places-most, room-fours}
 use Rattle.ledger.specs.Index.{table_words}
 use Rattle.audit.proofs.ReplyLaws.{empty-table, empty-reply, full-reply}
 use native.Mathlib.Omega.{arith}
-use borrow.Author.Rules.{rules}
 use Rattle.audit.proofs.audit_in.Goals as goal
 
 -- the objects have places

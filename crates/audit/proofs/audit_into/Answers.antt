@@ -1,6 +1,5 @@
 -- Opening, walking and reading the stored counts, each against its part of the definition.
 use native.Mathlib.Omega.{arith}
-use borrow.Author.Rules.{rules}
 use mathlib.Core.Path.{refl}
 use Rattle.audit.proofs.ReplyLaws.{not-opened-is, stopped-is, readable, count_fits, done-is, lists-table, stored-room}
 use Rattle.audit.proofs.audit_into.Goals as goal

@@ -1,5 +1,4 @@
 -- The number is the answer.
-use borrow.Author.Rules.{rules}
 use mathlib.Core.Path.{refl}
 use Rattle.audit.proofs.refused.Goals as goal
 

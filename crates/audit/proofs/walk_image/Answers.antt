@@ -4,7 +4,6 @@ use lib.ListN.{length}
 use Rattle.format.specs.Limits.{objects_most}
 use Rattle.object.proofs.ObjectLaws.{opened, room-lent}
 use Rattle.audit.proofs.WalkLaws.{superblock-stopped, root-listed, objects-read}
-use borrow.Author.Rules.{rules}
 use Rattle.audit.proofs.walk_image.Goals as goal
 
 pub enter_superblock-requires : goal.enter_superblock-requires

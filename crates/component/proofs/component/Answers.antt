@@ -1,5 +1,4 @@
 -- The superblock, the header, then the group; the block list begins anew.
-use borrow.Author.Rules.{rules}
 use Rattle.component.proofs.ComponentLaws.{superblock-stopped, at-header, header-stopped, committed-found, dataset-found, group-ready, group-is}
 use Rattle.component.proofs.component.Goals as goal
 

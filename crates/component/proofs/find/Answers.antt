@@ -1,6 +1,5 @@
 -- The code's visit ends as the lookup's own.
 use Rattle.component.proofs.ComponentLaws.{group-stopped, group-found}
-use borrow.Author.Rules.{rules}
 use Rattle.component.proofs.find.Goals as goal
 
 pub read-requires : goal.read-requires

@@ -2,7 +2,6 @@
 use mathlib.Core.Path.{sym}
 use borrow.Author.Tests.{eq-eqb, ne_eqb}
 use Rattle.format.specs.Lookup.{target_walk}
-use borrow.Author.Rules.{rules}
 use Rattle.component.proofs.target_of.Goals as goal
 
 pub returns-then-found-eq-ABSENT : goal.returns-then-found-eq-ABSENT

@@ -9,7 +9,6 @@ use Rattle.walk.specs.Lent.{places_of, work_words}
 use Rattle.walk.proofs.BlockList.{room_most}
 use Rattle.walk.proofs.Handed.{work, working, HandedOver, handed-over}
 use native.Mathlib.Omega.{arith}
-use borrow.Author.Rules.{rules}
 use Rattle.describe.proofs.describe.Goals as goal
 
 -- what came back of a working list with the caller's room

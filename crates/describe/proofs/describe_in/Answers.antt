@@ -1,5 +1,4 @@
 -- The path's form, the superblock, then the path.
-use borrow.Author.Rules.{rules}
 use Rattle.format.specs.Walk.{fault}
 use Rattle.superblock.specs.Superblock.{superblock_of}
 use Rattle.describe.proofs.ReplyLaws.{none_within, bad-is, not-opened-is, opened-is}

@@ -1,5 +1,4 @@
 -- The dataset's walk, on a working list, becomes the reply.
-use borrow.Author.Rules.{rules}
 use lib.ListN.{length}
 use Rattle.superblock.specs.Superblock.{superblock_of}
 use Rattle.object.proofs.ObjectLaws.{opened, room-lent}

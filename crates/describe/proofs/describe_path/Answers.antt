@@ -1,5 +1,4 @@
 -- Where the path leads, then the description of what is there.
-use borrow.Author.Rules.{rules}
 use mathlib.Core.Path.{ap}
 use Rattle.format.specs.Walk.{fault}
 use Rattle.superblock.specs.Superblock.{superblock_of}

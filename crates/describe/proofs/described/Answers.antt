@@ -1,5 +1,4 @@
 -- Each field is the one that its reader gave.
-use borrow.Author.Rules.{rules}
 use Rattle.dataset.specs.Dataset.{body_of}
 use Rattle.describe.proofs.ReplyLaws.{fields-are}
 use Rattle.describe.proofs.described.Goals as goal

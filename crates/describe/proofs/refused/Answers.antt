@@ -1,5 +1,4 @@
 -- The number is the answer, no block is handed over, and the zeros are as many as the limit says.
-use borrow.Author.Rules.{rules}
 use Rattle.format.specs.Limits.{rank_most}
 use Rattle.walk.proofs.Handed.{handed-none}
 use Rattle.describe.proofs.refused.Goals as goal

@@ -1,7 +1,6 @@
 -- The whole list is lent, with no block entered.
 use lib.ListN.{length}
 use Rattle.object.proofs.ObjectLaws.{opened, room-lent}
-use borrow.Author.Rules.{rules}
 use Rattle.follow.proofs.find_object.Goals as goal
 
 pub follow-requires : goal.follow-requires

@@ -1,15 +1,11 @@
 -- What is left of the path begins at `from`, and leads on from the object at `at`.
-use borrow.Author.Rules.{rules}
 use native.Mathlib.Omega.{arith}
-use Prim.Native.Nat.{ℕ, ◌+◌, ◌-◌, ◌≤◌}
+use Prim.Native.Nat.{ℕ}
 use mathlib.Core.List.{List}
-use mathlib.Core.Path.{◌≡◌, refl, ap, sym, subst, ◌∙◌}
-use lib.ListN.{length}
-use Rattle.walk.specs.Lent.{Lent}
+use mathlib.Core.Path.{refl, ap, sym, subst, ◌∙◌}
 use Rattle.superblock.specs.Superblock.{superblock_of}
-use Rattle.path.specs.Form.{components_of}
 use Rattle.component.specs.Component.{EndsAs}
-use Rattle.follow.specs.Follow.{target_run, rest_of}
+use Rattle.follow.specs.Follow.{target_run}
 use Rattle.component.specs.declared.Target.TheVariants.{Object, Symbolic, Stopped}
 use Rattle.follow.proofs.FollowLaws.{rest-first, object-next, symbolic-next, stopped-next, none_left, root-alone, lent_same}
 use Rattle.follow.proofs.follow.Goals as goal

@@ -1,5 +1,4 @@
 -- The superblock, then the header; its kind has a number.
-use borrow.Author.Rules.{rules}
 use Rattle.format.specs.Header.{group, dataset, committed}
 use Rattle.last_object.proofs.LastLaws.{superblock-stopped, at-header, header-stopped, header-known}
 use Rattle.last_object.proofs.kind_at.Goals as goal

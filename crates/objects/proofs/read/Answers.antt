@@ -1,10 +1,8 @@
 -- The lists stay sound, and what is left of the walk begins at the i-th object.
-use Prim.Native.Nat.{◌-◌}
-use mathlib.Core.Path.{◌≡◌, refl}
+use mathlib.Core.Path.{refl}
 use Rattle.format.specs.Limits.{objects_most}
 use Rattle.laws.proofs.Simulation.{start}
-use Rattle.objects.proofs.ObjectsLaws.{Loop, objects-done, object-stopped, object-done}
-use borrow.Author.Rules.{rules}
+use Rattle.objects.proofs.ObjectsLaws.{objects-done, object-stopped, object-done}
 use native.Mathlib.Omega.{arith}
 use Rattle.objects.proofs.read.Goals as goal
 

@@ -1,11 +1,7 @@
 -- The lists stay sound, and what is left of the walk begins at the i-th object.
 use Prim.Native.Nat.{◌-◌}
-use mathlib.Core.Path.{◌≡◌, refl}
 use Rattle.format.specs.Limits.{objects_most}
-use Rattle.laws.proofs.Simulation.{start}
-use Rattle.objects.proofs.ObjectsLaws.{Loop, objects-done, object-stopped, object-done}
-use borrow.Author.Rules.{rules}
-use native.Mathlib.Omega.{arith}
+use Rattle.objects.proofs.ObjectsLaws.{Loop}
 use Rattle.objects.proofs.read.Given as goal
 
 abbrev pub invariant-loop-i : goal.invariant-loop-i

@@ -1,6 +1,5 @@
 -- The maxima stand behind the sizes, where they are stored.
 use native.Mathlib.Omega.{arith}
-use borrow.Author.Rules.{rules}
 use Rattle.format.specs.Limits.{rank_most}
 use Rattle.describe.proofs.fields.maxima_in.Goals as goal
 

@@ -1,5 +1,4 @@
 -- Each field by the case of the datatype.
-use borrow.Author.Rules.{rules}
 use Rattle.describe.proofs.fields.type_fields.Goals as goal
 
 pub returns-in-Own : goal.returns-in-Own

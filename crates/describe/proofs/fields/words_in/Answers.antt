@@ -1,5 +1,4 @@
 -- The part of the image is the body.
-use borrow.Author.Rules.{rules}
 use mathlib.Core.Path.{subst, sym}
 use mathlib.Core.List.{List}
 use Prim.Native.Nat.{ℕ, ◌+◌, ◌*◌, ◌≤◌}

@@ -1,13 +1,9 @@
 -- The segment with its free list, then the tree in it.
-use mathlib.Core.Path.{◌≡◌, refl}
-use Prim.Native.Nat.{◌+◌, ◌-◌}
-use Rattle.format.specs.Bytes.{part}
-use Rattle.heap.specs.Header.{segment_of, open_heap}
+use mathlib.Core.Path.{refl}
+use Rattle.heap.specs.Header.{open_heap}
 use Rattle.heap.proofs.SegmentLaws.{part-between}
 use Rattle.range.proofs.FirstBytes.{empty-inside}
 use Rattle.group.proofs.GroupLaws.{list-refused, tree-ended, same-segment, sound-ready}
-use native.Mathlib.Omega.{arith}
-use borrow.Author.Rules.{rules}
 use Rattle.group.proofs.contents.read_with.Goals as goal
 
 pub read-requires : goal.read-requires

@@ -1,16 +1,11 @@
 -- The heap, then what stands behind it.
-use mathlib.Core.Path.{◌≡◌, refl, subst}
-use Rattle.format.specs.Walk.{run}
-use Rattle.walk.specs.Lent.{blocks_of, Walked}
+use mathlib.Core.Path.{refl}
 use Rattle.laws.proofs.SumOfLengths.{grown-apart, grown-inside, grown-lengths}
-use Rattle.heap.specs.Header.{open_walk, open_heap, open_end, SegmentInside, OpenedInside}
-use Rattle.heap.specs.declared.header.HeapOpened
-use Rattle.heap.specs.declared.header.HeapOpened.{HeapOpened}
+use Rattle.heap.specs.Header.{open_heap}
 use Rattle.visit.specs.Visit.{visit_both, both_of, no_link}
 use Rattle.group.specs.Group.{group_end}
 use Rattle.group.proofs.GroupLaws.{heap-stopped, at-contents, contents-ended}
 use native.Mathlib.Omega.{arith}
-use borrow.Author.Rules.{rules}
 use Rattle.group.proofs.group.read.Goals as goal
 
 pub read_in-requires : goal.read_in-requires

@@ -1,9 +1,6 @@
 -- The head decides.
-use mathlib.Core.Path.{◌≡◌, refl}
 use borrow.Author.Tests.{eq-eqb, ne_eqb}
 use Rattle.format.specs.Bytes.{undefined_address}
-use native.Mathlib.Omega.{arith}
-use borrow.Author.Rules.{rules}
 use Rattle.group.proofs.maps.no_list.Goals as goal
 
 pub returns-then-head-eq1 : goal.returns-then-head-eq1

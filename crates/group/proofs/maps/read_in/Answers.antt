@@ -1,7 +1,6 @@
 -- By the head of the free list and the length of the segment.
 use Rattle.group.specs.Group.{few_cells, many_cells, most_cells}
 use native.Mathlib.Omega.{arith}
-use borrow.Author.Rules.{rules}
 use Rattle.group.proofs.maps.read_in.Goals as goal
 
 pub read_plain-requires : goal.read_plain-requires

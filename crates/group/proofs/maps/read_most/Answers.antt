@@ -1,9 +1,7 @@
 -- A map for a longer one.
-use mathlib.Core.Path.{◌≡◌, refl, sym}
+use mathlib.Core.Path.{refl, sym}
 use Rattle.group.specs.Group.{most_cells}
 use Rattle.group.proofs.MapLaws.{cells-taken, sized}
-use native.Mathlib.Omega.{arith}
-use borrow.Author.Rules.{rules}
 use Rattle.group.proofs.maps.read_most.Goals as goal
 
 pub slice_bounds-map-end : goal.slice_bounds-map-end

@@ -1,6 +1,5 @@
 -- A map of no cells.
 use Rattle.group.proofs.MapLaws.{sized-none}
-use borrow.Author.Rules.{rules}
 use Rattle.group.proofs.maps.read_plain.Goals as goal
 
 pub read_with-requires : goal.read_with-requires

@@ -1,5 +1,4 @@
 -- Where the path leads, then the kind of the object found there.
-use borrow.Author.Rules.{rules}
 use mathlib.Core.Path.{ap, ◌∙◌}
 use Rattle.walk.specs.Lent.{places_of}
 use Rattle.object.proofs.ObjectLaws.{opened, room-lent}

@@ -5,7 +5,6 @@ use Rattle.format.specs.Limits.{blocks_most}
 use Rattle.walk.proofs.BlockList.{room_most, all-cleared}
 use Rattle.walk.proofs.Handed.{working}
 use native.Mathlib.Omega.{arith}
-use borrow.Author.Rules.{rules}
 use Rattle.lookup.proofs.lookup.lookup.Goals as goal
 
 pub work_words-n-requires : goal.work_words-n-requires

@@ -1,5 +1,4 @@
 -- The path, then the superblock, then the walk.
-use borrow.Author.Rules.{rules}
 use Rattle.lookup.proofs.LookupLaws.{bad-path-is, not-opened-is, opened-is}
 use Rattle.lookup.proofs.lookup.lookup_in.Goals as goal
 

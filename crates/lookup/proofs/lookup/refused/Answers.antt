@@ -1,5 +1,4 @@
 -- The number is the answer, and the block met is the refusal's.
-use borrow.Author.Rules.{rules}
 use mathlib.Core.Path.{refl}
 use Rattle.lookup.proofs.lookup.refused.Goals as goal
 

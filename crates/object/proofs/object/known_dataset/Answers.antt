@@ -1,9 +1,7 @@
 -- By its mark: a sharing gave its address, or none did yet.
 use mathlib.Core.Path.{refl}
-use Rattle.format.specs.Header.{group, dataset}
+use Rattle.format.specs.Header.{dataset}
 use Rattle.object.proofs.ObjectLaws.{listed-marked, shared-before, not-shared}
-use native.Mathlib.Omega.{arith}
-use borrow.Author.Rules.{rules}
 use Rattle.object.proofs.object.known_dataset.Goals as goal
 
 pub returns-then-not-not_committed : goal.returns-then-not-not_committed

@@ -2,7 +2,6 @@
 use mathlib.Core.Path.{refl}
 use Rattle.object.proofs.ObjectLaws.{listed-less, header-stopped, committed-read, kind-listed, kind-read}
 use native.Mathlib.Omega.{arith}
-use borrow.Author.Rules.{rules}
 use Rattle.object.proofs.object.read.Goals as goal
 
 pub known_dataset-requires : goal.known_dataset-requires

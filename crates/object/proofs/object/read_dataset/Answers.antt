@@ -1,11 +1,9 @@
 -- Dataspace and datatype, the sharing, then layout and data.
 use mathlib.Core.Bool.{true}
-use mathlib.Core.Path.{◌≡◌, refl}
+use mathlib.Core.Path.{refl}
 use Rattle.dataset.specs.Dataset.{body_of, parts_of}
 use Rattle.continuations.proofs.BlockLaws.{counting-tables}
 use Rattle.object.proofs.ObjectLaws.{parts-refused, sharing-refused, storage-stopped, storage-read}
-use native.Mathlib.Omega.{arith}
-use borrow.Author.Rules.{rules}
 use Rattle.object.proofs.object.read_dataset.Goals as goal
 
 pub share_type-requires : goal.share_type-requires

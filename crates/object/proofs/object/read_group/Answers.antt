@@ -1,8 +1,6 @@
 -- The code's visit ends as the audit's own.
 use Rattle.symbol.specs.declared.entry.Step as steps
 use Rattle.object.proofs.ObjectLaws.{listed-ready, group-is}
-use native.Mathlib.Omega.{arith}
-use borrow.Author.Rules.{rules}
 use Rattle.object.proofs.object.read_group.Goals as goal
 
 pub read-requires : goal.read-requires
