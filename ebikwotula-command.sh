@@ -46,7 +46,7 @@ status_of_refusal() {
 
 # current: the program is there, and nothing that it was built from is newer
 current() {
-    [ -x "$program" ] && [ -z "$(find "$root/crates" "$root/crates.txt" -name out -prune -o -type f -newer "$program" -print -quit)" ]
+    [ -x "$program" ] && [ -z "$(find "$root/crates" "$root/crates.txt" -name out -prune -o -newer "$program" -print -quit)" ]
 }
 
 # build: proves and compiles the program, and runs it once on no input. What rt prints is shown only if it fails.
@@ -117,6 +117,9 @@ start() {
     local text
     if [ $# -eq 0 ]; then
         text=$("$program")
+    elif ! printf %s "$1" | iconv -f utf-8 -t utf-8 > /dev/null 2>&1; then
+        # the program takes a name in UTF-8 alone
+        text=$("$program" < "$1")
     else
         text=$("$program" "$1" < /dev/null)
     fi
