@@ -42,7 +42,7 @@ pub fn read_to_end<R: Read>(reader: &mut R, buffer: &mut [u8]) -> Input
 {
     let mut at: usize = 0;
     let mut last: usize = 1;
-    while at < buffer.len() {
+    'reading: while at < buffer.len() {
         match read_behind(reader, buffer, at) {
             Brought::Failed => return Input::Failed,
             Brought::Bytes(k) => {

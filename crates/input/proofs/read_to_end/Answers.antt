@@ -3,30 +3,30 @@ use Rattle.input.proofs.ReadingLaws.{going_start, going_more, going-ends, going-
 use native.Mathlib.Omega.{arith}
 use Rattle.input.proofs.read_to_end.Goals as goal
 
-pub loop-at-init : goal.loop-at-init
-loop-at-init g c = going_start c.args.buffer.now 1 (omega (arith, c.requires))
+pub reading-init : goal.reading-init
+reading-init g c = going_start c.args.buffer.now 1 (omega (arith, c.requires))
 
 pub returns-in-Failed : goal.returns-in-Failed
 returns-in-Failed g c =
-    let l = c.loop-at in
-    going-fails _ l.buffer l.at l.last l.invariant c.loop-at-test.true c.read_behind.new.buffer
+    let l = c.reading in
+    going-fails _ l.buffer l.at l.last l.invariant c.reading-test.true c.read_behind.new.buffer
     (record { kept = c.read_behind.ensures.buffer_unchanged; same_length = c.read_behind.auto.buffer })
 
 pub returns-then-last-eq0 : goal.returns-then-last-eq0
 returns-then-last-eq0 g c =
-    let l = c.loop-at in
-    rw c.if-last-eq0.true (going-ends _ l.buffer l.at l.last l.invariant c.loop-at-test.true c.read_behind.new.buffer
+    let l = c.reading in
+    rw c.if-last-eq0.true (going-ends _ l.buffer l.at l.last l.invariant c.reading-test.true c.read_behind.new.buffer
     (record { kept = c.read_behind.ensures.buffer_unchanged; same_length = c.read_behind.auto.buffer }))
 
 pub overflow_add-at : goal.overflow_add-at
-overflow_add-at g c = omega (arith, c.in-Bytes.ensures.within, c.loop-at.invariant.same_length)
+overflow_add-at g c = omega (arith, c.in-Bytes.ensures.within, c.reading.invariant.same_length)
 
-pub loop-at-preserved : goal.loop-at-preserved
-loop-at-preserved g c =
-    let l = c.loop-at in
-    going_more _ l.buffer l.at l.last l.invariant c.loop-at-test.true c.read_behind.new.buffer
+pub reading-preserved : goal.reading-preserved
+reading-preserved g c =
+    let l = c.reading in
+    going_more _ l.buffer l.at l.last l.invariant c.reading-test.true c.read_behind.new.buffer
     (record { kept = c.read_behind.ensures.buffer_unchanged; same_length = c.read_behind.auto.buffer }) c.in-Bytes.k (omega arith)
     c.in-Bytes.ensures.within
 
 pub returns : goal.returns
-returns g c = c.loop-at.invariant.full (omega (arith, c.loop-at.invariant.within))
+returns g c = c.reading.invariant.full (omega (arith, c.reading.invariant.within))

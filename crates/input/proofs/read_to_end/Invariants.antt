@@ -4,8 +4,8 @@ use lib.ListN.{length}
 use Rattle.input.proofs.ReadingLaws.{Going}
 use Rattle.input.proofs.read_to_end.Given as goal
 
-abbrev pub invariant-loop-at : goal.invariant-loop-at
-invariant-loop-at g l = Going l.initial.buffer l.buffer l.at l.last
+abbrev pub invariant-reading : goal.invariant-reading
+invariant-reading g l = Going l.initial.buffer l.buffer l.at l.last
 
-abbrev pub decreases-loop-at : goal.decreases-loop-at
-decreases-loop-at g l = length l.buffer - l.at
+abbrev pub decreases-reading : goal.decreases-reading
+decreases-reading g l = length l.buffer - l.at
