@@ -154,14 +154,14 @@ module _ (im : List ℕ) (lent : ℕ) (ws addresses stored counts : List ℕ) (r
       }
 
   -- the addresses are copied out of the table
-  pub full-reply : 0 < r.objects → (zeros copy : List ℕ) → zeros ≡ replicate objects_most 0 → Copied addresses zeros r.objects copy →
+  pub full-reply : 0 < r.objects → (copy : List ℕ) → Copied addresses (replicate objects_most 0) r.objects copy →
       let l : Ledger = record { objects = r.objects; addresses = copy; stored = stored; true_counts = counts } in
       AuditIs im lent ws (record { number = r.number; met = r.met; block_count = r.block_count; ledger = l })
-  full-reply z zeros copy e c = record {
-    reply = rw (counted-copied addresses stored counts zeros copy r.objects c) h.reply;
+  full-reply z copy c = record {
+    reply = rw (counted-copied addresses stored counts (replicate objects_most 0) copy r.objects c) h.reply;
     fits = h.fits;
-    readable = readable-copied im addresses zeros copy r.objects c (rw (e, length-replicate) h.fits) h.readable;
-    addresses_rest = λ k m. c.rest k m ∙ rw e (get_d-zeros objects_most k);
+    readable = readable-copied im addresses (replicate objects_most 0) copy r.objects c (rw length-replicate h.fits) h.readable;
+    addresses_rest = λ k m. c.rest k m ∙ get_d-zeros objects_most k;
     stored_rest = h.stored_rest z;
     counts_rest = h.counts_rest z;
   }

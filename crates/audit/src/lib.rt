@@ -1,9 +1,11 @@
 // The link audit: counts the hard links and sharings that reach each object of a file.
 #![tactic(auto)]
 
-ghost use Rattle.std.specs.Prelude.{◌≡◌, ℕ, ◌≤◌, length};
+ghost use Rattle.std.specs.Prelude.{◌≡◌, ℕ, ◌≤◌, length, replicate};
+ghost use Rattle.format.specs.Limits.{objects_most};
 ghost use Rattle.format.specs.Blocks.{room_of};
 ghost use Rattle.walk.specs.Lent.{places_of, handed};
+ghost use Rattle.ledger.specs.Report.{Copied};
 ghost use Rattle.ledger.specs.Table.{Table};
 ghost use Rattle.object.specs.Object.{Bounded};
 ghost use Rattle.audit.specs.Audit.{refused_with, ImageWalked, Lists, AuditedIs, AuditIs};
@@ -115,6 +117,29 @@ pub struct Reply {
     pub ledger: Ledger,
 }
 
+// The ledger of the objects at the head of a table. Kept out of line, so that its list of addresses isn't on the stack while an audit walks.
+#[inline(never)]
+fn ledger_of(
+    table: &[u64],
+    stored: &[u32; OBJECTS_MOST],
+    true_counts: &[u32; OBJECTS_MOST],
+    objects: usize,
+) -> Ledger
+    requires objects_in_bounds { objects ≤ length table.now }
+    requires objects_le_objects_most { objects ≤ objects_most }
+    ensures copied { Copied table.now (replicate objects_most 0) objects result.addresses }
+    ensures whole { result ≡ record { objects = objects; addresses = result.addresses; stored = stored.now; true_counts = true_counts.now } }
+{
+    let mut addresses = [0u64; OBJECTS_MOST];
+    report::copy_addresses(table, &mut addresses, objects);
+    Ledger {
+        objects,
+        addresses,
+        stored: *stored,
+        true_counts: *true_counts,
+    }
+}
+
 // The audit of an image in a working list, which has its blocks at its head. The ledger has the addresses alone, without what stands
 // behind them in the table.
 pub fn audit_in(image: &[u8], list: &mut [u64]) -> Reply
@@ -144,18 +169,11 @@ pub fn audit_in(image: &[u8], list: &mut [u64]) -> Reply
             ledger: report::empty(),
         };
     }
-    let mut addresses = [0u64; OBJECTS_MOST];
-    report::copy_addresses(&objects_table, &mut addresses, objects);
     Reply {
         number,
         met,
         block_count,
-        ledger: Ledger {
-            objects,
-            addresses,
-            stored,
-            true_counts,
-        },
+        ledger: ledger_of(&objects_table, &stored, &true_counts, objects),
     }
 }
 

@@ -67,7 +67,8 @@ pub fn add(map: &mut [u8], off: usize, size: usize)
     free_at_end(map, first, 16 - (off % 16) as u8);
     free_whole(map, first + 1, last);
     let rest = (end % 16) as u8;
-    if rest == 0 {
+    let whole = rest == 0;
+    if whole {
         return;
     }
     free_at_start(map, last, rest);

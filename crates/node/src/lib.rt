@@ -17,6 +17,9 @@ use walk::{blocks, kinds};
 // The signature TREE as a number, the lowest byte first.
 const TREE: u64 = 0x45455254;
 
+// The entries that a node below the root has at least.
+const FEWEST: usize = 1;
+
 #[derive(Clone, Copy)]
 pub enum NodeRead {
     Read {
@@ -103,7 +106,7 @@ pub fn read_branch(
             if own as u64 != level {
                 return BranchRead::Stopped(Refusal::Fault(answers::NODE_UNSOUND, at as usize));
             }
-            if entries < 1 {
+            if entries < FEWEST {
                 return BranchRead::Stopped(Refusal::Fault(answers::NODE_UNSOUND, at as usize));
             }
             match key::check_keys(image, segment, group.ended, at as usize + 24, entries + 1) {

@@ -41,7 +41,8 @@ pub fn share(
     match table::count_at(addresses, counts, objects, address, found) {
         Discovery::Full => Sharing::Refused(answers::TOO_MANY_OBJECTS),
         Discovery::Counted(n) => {
-            if marks[place] == OTHER_KIND {
+            let other = marks[place] == OTHER_KIND;
+            if other {
                 return Sharing::Refused(answers::HEADER_UNSOUND);
             }
             marks[place] = SHARED;
@@ -67,7 +68,8 @@ pub fn visit_message(
     if !auditing {
         return Sharing::Counted(objects);
     }
-    if kind != 0x000c {
+    let passed_by = kind != 0x000c;
+    if passed_by {
         return Sharing::Counted(objects);
     }
     match attribute::read(body) {
@@ -105,7 +107,8 @@ pub fn not_committed(marks: &mut [u8], place: usize) -> bool
     requires { place < length marks.old }
     ensures { KindKnown marks.old place marks.new result }
 {
-    if marks[place] == SHARED {
+    let shared = marks[place] == SHARED;
+    if shared {
         return false;
     }
     marks[place] = OTHER_KIND;

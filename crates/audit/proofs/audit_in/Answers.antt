@@ -33,21 +33,18 @@ returns-then-objects-eq0 c =
           empty-reply c.args.image.now lent _ _ _ _ c.audit_into-r.result (c.audit_into-r.ensures.by_index lent fit) _ c.if-objects-eq0.true c.empty.ensures;
     }
 
-pub copy_addresses-requires : goal.copy_addresses-requires
+pub ledger_of-requires : goal.ledger_of-requires
 unfolding objects_most
-copy_addresses-requires c =
+ledger_of-requires c =
     let f = fits c.args.image.now c.args.list.now _ _ _ _ c.audit_into-r.result c.audit_into-r.ensures.by_index in
-    record {
-      objects_in_bounds = omega (arith, f, c.audit_into-r.auto.addresses);
-      objects_in_bounds_2 = omega (arith, f);
-    }
+    record { objects_in_bounds = omega (arith, f, c.audit_into-r.auto.addresses); objects_le_objects_most = f }
 
 pub returns : goal.returns
-unfolding objects_most
 returns c =
     record {
       block_count_bound = c.audit_into-r.ensures.block_count_bound;
       by_index = λ lent fit.
-          full-reply c.args.image.now lent _ _ _ _ c.audit_into-r.result (c.audit_into-r.ensures.by_index lent fit) (omega (arith, c.if-objects-eq0.false)) _ _ refl
-          c.copy_addresses.ensures;
+          rw c.ledger_of.ensures.whole
+          (full-reply c.args.image.now lent _ _ _ _ c.audit_into-r.result (c.audit_into-r.ensures.by_index lent fit) (omega (arith, c.if-objects-eq0.false)) _
+          c.ledger_of.ensures.copied);
     }

@@ -16,11 +16,11 @@ returns-then-own-level c =
       fields = tt;
     }
 
-pub returns-then-entries-lt1 : goal.returns-then-entries-lt1
-returns-then-entries-lt1 c =
+pub returns-then-entries-lt-FEWEST : goal.returns-then-entries-lt-FEWEST
+returns-then-entries-lt-FEWEST c =
     record {
       walked = λ h e. empty-node c.args.image.now _ _ _ _ _ _ _ h c.requires.lent _ _ c.read_node.auto.list
-          c.in-Read.ensures.walked _ c.in-Read.ensures.fields.1 c.if-own-level.false _ c.in-Read.ensures.fields.2 c.if-entries-lt1.true;
+          c.in-Read.ensures.walked _ c.in-Read.ensures.fields.1 c.if-own-level.false _ c.in-Read.ensures.fields.2 c.if-entries-lt-FEWEST.true;
       fields = tt;
     }
 
@@ -55,7 +55,7 @@ returns-in-Unsound c =
       walked = λ h e.
           keys-wrong c.args.image.now _ _ _ _ _ _ _ h c.requires.lent _ _ c.read_node.auto.list c.in-Read.ensures.walked _
           c.in-Read.ensures.fields.1
-          c.if-own-level.false _ c.in-Read.ensures.fields.2 c.if-entries-lt1.false _ (c.in-Unsound.ensures h (8 + 32 * c.args.group.internal_k) e (omega (arith, c.in-Read.ensures.fields.3)) (omega (arith, c.in-Read.ensures.fields.0)));
+          c.if-own-level.false _ c.in-Read.ensures.fields.2 c.if-entries-lt-FEWEST.false _ (c.in-Unsound.ensures h (8 + 32 * c.args.group.internal_k) e (omega (arith, c.in-Read.ensures.fields.3)) (omega (arith, c.in-Read.ensures.fields.0)));
       fields = tt;
     }
 
@@ -63,7 +63,7 @@ pub returns-in-Sound : goal.returns-in-Sound
 returns-in-Sound c =
     record {
       walked = λ h e. branch_read c.args.image.now _ _ _ _ _ _ _ h c.requires.lent _ _ c.read_node.auto.list c.in-Read.ensures.walked _
-          c.in-Read.ensures.fields.1 c.if-own-level.false _ c.in-Read.ensures.fields.2 c.if-entries-lt1.false (c.in-Sound.ensures h (8 + 32 * c.args.group.internal_k) e (omega (arith, c.in-Read.ensures.fields.3)) (omega (arith, c.in-Read.ensures.fields.0)));
+          c.in-Read.ensures.fields.1 c.if-own-level.false _ c.in-Read.ensures.fields.2 c.if-entries-lt-FEWEST.false (c.in-Sound.ensures h (8 + 32 * c.args.group.internal_k) e (omega (arith, c.in-Read.ensures.fields.3)) (omega (arith, c.in-Read.ensures.fields.0)));
       fields =
           let f = c.in-Read.ensures.fields in (
             f.0,

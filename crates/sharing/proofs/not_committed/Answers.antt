@@ -2,8 +2,8 @@
 use Rattle.sharing.proofs.SharingLaws.{kind-shared, kind-marked}
 use Rattle.sharing.proofs.not_committed.Goals as goal
 
-pub returns-then-marks-place-eq-SHARED : goal.returns-then-marks-place-eq-SHARED
-returns-then-marks-place-eq-SHARED c = kind-shared _ _ c.if-marks-place-eq-SHARED.true
+pub returns-then-shared : goal.returns-then-shared
+returns-then-shared c = kind-shared _ _ c.if-shared.true
 
 pub returns : goal.returns
-returns c = kind-marked _ _ c.if-marks-place-eq-SHARED.false
+returns c = kind-marked _ _ c.if-shared.false

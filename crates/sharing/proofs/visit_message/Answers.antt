@@ -7,10 +7,10 @@ returns-then-not-auditing c =
     let s = c in
     lookup-message _ _ _ _ _ _ _ s.requires c.if-not-auditing.true
 
-pub returns-then-kind-ne12 : goal.returns-then-kind-ne12
-returns-then-kind-ne12 c =
+pub returns-then-passed_by : goal.returns-then-passed_by
+returns-then-passed_by c =
     let s = c in
-    other-message _ _ _ _ _ _ _ s.requires c.if-not-auditing.false c.if-kind-ne12.true
+    other-message _ _ _ _ _ _ _ s.requires c.if-not-auditing.false c.if-passed_by.true
 
 pub share-requires : goal.share-requires
 share-requires c =
@@ -23,7 +23,7 @@ returns-in-Own c =
     let read = c in
     let second = read in
     let s = second in
-    own-type _ _ _ _ _ _ _ s.requires second.if-not-auditing.false second.if-kind-ne12.false read.read.ensures c.in-Own.is
+    own-type _ _ _ _ _ _ _ s.requires second.if-not-auditing.false second.if-passed_by.false read.read.ensures c.in-Own.is
 
 pub returns-in-Refused : goal.returns-in-Refused
 returns-in-Refused c =
@@ -31,7 +31,7 @@ returns-in-Refused c =
     let read = arm in
     let second = read in
     let s = second in
-    bad-attribute _ _ _ _ _ _ _ s.requires second.if-not-auditing.false second.if-kind-ne12.false read.read.ensures _ arm.in-Refused.is
+    bad-attribute _ _ _ _ _ _ _ s.requires second.if-not-auditing.false second.if-passed_by.false read.read.ensures _ arm.in-Refused.is
 
 pub returns-in-Shares : goal.returns-in-Shares
 returns-in-Shares c =
@@ -40,5 +40,5 @@ returns-in-Shares c =
     let read = arm in
     let second = read in
     let s = second in
-    shared-type _ _ _ _ _ _ _ s.requires second.if-not-auditing.false second.if-kind-ne12.false read.read.ensures _ arm.in-Shares.is
+    shared-type _ _ _ _ _ _ _ s.requires second.if-not-auditing.false second.if-passed_by.false read.read.ensures _ arm.in-Shares.is
     _ _ _ _ shared.share.ensures

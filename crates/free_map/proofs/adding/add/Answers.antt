@@ -5,8 +5,8 @@ use Rattle.free_map.proofs.CellWrites.{filled-long, written-whole, written_last}
 use native.Mathlib.Omega.{arith}
 use Rattle.free_map.proofs.adding.add.Goals as goal
 
-pub returns-then-rest-eq0 : goal.returns-then-rest-eq0
-returns-then-rest-eq0 c =
+pub returns-then-whole : goal.returns-then-whole
+returns-then-whole c =
     let a = c.args in
     let m = a.map.now in
     let e = c.free_at_end.ensures in
