@@ -52,7 +52,8 @@ pub fn place_in(blocks: &[u64], run: Run, at: u64) -> Place
         return Place { place: 0, tests: 0 };
     }
     let b = run.first + blocks[run.base + (count - 1)] as usize;
-    if blocks[4 * b] + blocks[4 * b + 1] <= at {
+    let before = blocks[4 * b] + blocks[4 * b + 1] <= at;
+    if before {
         return Place {
             place: count,
             tests: 1,

@@ -36,7 +36,8 @@ pub fn no_block() -> ListedBlock
 pub fn superblock_head(answer: u8) -> ListedBlock
     ensures { listed_of result ≡ reports.unopened_block answer }
 {
-    if answer == answers::LENGTH_OUT_OF_RANGE {
+    let short = answer == answers::LENGTH_OUT_OF_RANGE;
+    if short {
         return no_block();
     }
     ListedBlock {

@@ -206,7 +206,8 @@ fn enter_data(
             size: _,
         } => Entry::Entered(count),
         Layout::Contiguous { address, size } => {
-            if address == UNDEFINED_ADDRESS {
+            let undefined = address == UNDEFINED_ADDRESS;
+            if undefined {
                 return Entry::Entered(count);
             }
             if size < 1 {

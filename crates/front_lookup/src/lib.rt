@@ -87,7 +87,8 @@ fn lookup_in(image: &[u8], path: &[u8], blocks: &mut [u8], reply: &mut [u8], roo
     }
     if few_first(image.len(), path.len()) {
         let number = lookup_in(image, path, blocks, reply, front::few_room(image.len()));
-        if number != front::NO_ROOM {
+        let decided = number != front::NO_ROOM;
+        if decided {
             return number;
         }
     }

@@ -49,7 +49,8 @@ pub fn read_to_end<R: Read>(reader: &mut R, buffer: &mut [u8]) -> Input
                 last = k;
             }
         }
-        if last == 0 {
+        let ended = last == 0;
+        if ended {
             return Input::Read { length: at, last };
         }
         at += last;

@@ -17,6 +17,9 @@ use walk::{blocks, kinds};
 // The signature TREE as a number, the lowest byte first.
 const TREE: u64 = 0x45455254;
 
+// The type of a node in the tree of a group.
+const GROUP: u8 = 0;
+
 // The entries that a node below the root has at least.
 const FEWEST: usize = 1;
 
@@ -53,7 +56,7 @@ pub fn read_node(image: &[u8], list: &mut [u64], group: Group, count: usize, at:
             if u32_at(image, start) != TREE {
                 return NodeRead::Stopped(Refusal::Fault(answers::WRONG_SIGNATURE, start));
             }
-            if image[start + 4] != 0 {
+            if image[start + 4] != GROUP {
                 return NodeRead::Stopped(Refusal::Fault(answers::NODE_UNSOUND, start));
             }
             let limits = format::the_limits();

@@ -96,14 +96,16 @@ fn named_entry(
     ensures { EntryIs image.now segment.now wanted.now addresses.old counts.old group range
         at state addresses.new counts.new result }
 {
-    if !range::name_below(segment, floor, name) {
+    let below = range::name_below(segment, floor, name);
+    if !below {
         return Step::Stopped(Refusal::Fault(answers::NODE_UNSOUND, at));
     }
     if !range::at_most(segment, range, name) {
         return Step::Stopped(Refusal::Fault(answers::NODE_UNSOUND, at));
     }
     let kind = u32_at(image, at + 16);
-    if 2 < kind {
+    let unknown = 2 < kind;
+    if unknown {
         return Step::Stopped(Refusal::Fault(answers::NODE_UNSOUND, at));
     }
     match check_value(image, segment, map, group, kind, at) {

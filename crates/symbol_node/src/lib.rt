@@ -15,6 +15,9 @@ use walk::{blocks, kinds};
 // The signature SNOD as a number, the lowest byte first.
 const SNOD: u64 = 0x444f4e53;
 
+// The version of a symbol table node.
+const VERSION: u8 = 1;
+
 // The node at `at` is entered, and its entries are read.
 pub fn symbol_node(
     image: &[u8],
@@ -49,7 +52,7 @@ pub fn symbol_node(
             if u32_at(image, start) != SNOD {
                 return Step::Stopped(Refusal::Fault(answers::WRONG_SIGNATURE, start));
             }
-            if image[start + 4] != 1 {
+            if image[start + 4] != VERSION {
                 return Step::Stopped(Refusal::Fault(answers::WRONG_SIGNATURE, start));
             }
             let n = u16_at(image, start + 6);

@@ -72,7 +72,8 @@ pub fn tree(
             entries: _,
             count,
         } => {
-            if level != 0 {
+            let inner = level != 0;
+            if inner {
                 return Step::Stopped(Refusal::Fault(answers::NODE_UNSOUND, at as usize));
             }
             let objects = state.objects;

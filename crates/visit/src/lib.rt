@@ -49,7 +49,8 @@ fn compare(name: &[u8], wanted: &[u8], kind: u64, header: u64, link: Link) -> Li
     if !is_wanted(name, wanted) {
         return link;
     }
-    if kind <= 1 {
+    let hard = kind <= 1;
+    if hard {
         return Link {
             found: HARD,
             header,
@@ -89,7 +90,8 @@ pub fn visit_entry(
             link: compare(name, wanted, kind, header, link),
         };
     }
-    if 1 < kind {
+    let symbolic = 1 < kind;
+    if symbolic {
         return Visit::Done { objects, link };
     }
     match table::discover(addresses, counts, objects, header) {

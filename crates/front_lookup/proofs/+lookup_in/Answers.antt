@@ -8,12 +8,12 @@ use Rattle.front_lookup.proofs.Located.{few-reply}
 use native.Mathlib.Omega.{arith}
 use Rattle.front_lookup.proofs.+lookup_in.Goals as goal
 
-pub returns-then-number-ne-NO_ROOM : goal.returns-then-number-ne-NO_ROOM
-returns-then-number-ne-NO_ROOM t c =
+pub returns-then-decided : goal.returns-then-decided
+returns-then-decided t c =
     let a = c.args in
     few-reply a.image.now a.path.now (length a.blocks.now) (length a.reply.now) c.few_room.result a.room _
     c.lookup_in-number.ensures (omega (arith, c.few_room.ensures, c.if-room-le-FEW_BLOCKS.false)) c.requires.room_in_bounds
-    c.if-number-ne-NO_ROOM.true
+    c.if-decided.true
 
 pub returns : goal.returns
 returns t c =

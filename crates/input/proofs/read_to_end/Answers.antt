@@ -12,10 +12,10 @@ returns-in-Failed g c =
     going-fails _ l.buffer l.at l.last l.invariant c.reading-test.true c.read_behind.new.buffer
     (record { kept = c.read_behind.ensures.buffer_unchanged; same_length = c.read_behind.auto.buffer })
 
-pub returns-then-last-eq0 : goal.returns-then-last-eq0
-returns-then-last-eq0 g c =
+pub returns-then-ended : goal.returns-then-ended
+returns-then-ended g c =
     let l = c.reading in
-    rw c.if-last-eq0.true (going-ends _ l.buffer l.at l.last l.invariant c.reading-test.true c.read_behind.new.buffer
+    rw c.if-ended.true (going-ends _ l.buffer l.at l.last l.invariant c.reading-test.true c.read_behind.new.buffer
     (record { kept = c.read_behind.ensures.buffer_unchanged; same_length = c.read_behind.auto.buffer }))
 
 pub overflow_add-at : goal.overflow_add-at

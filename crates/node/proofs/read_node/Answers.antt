@@ -40,11 +40,11 @@ bounds-image-start c =
     omega (arith, i) in
     omega (arith, whole)
 
-pub returns-then-image-start-ne0 : goal.returns-then-image-start-ne0
-returns-then-image-start-ne0 c =
+pub returns-then-image-start-ne-GROUP : goal.returns-then-image-start-ne-GROUP
+returns-then-image-start-ne-GROUP c =
     record {
       walked = type-wrong c.args.image.now _ _ _ _ _ _ c.requires.lent _ c.enter.ensures.entered _
-          c.in-Entered.ensures.value _ c.u32_at.ensures (signed _ c.if-u32_at-ne-TREE.false) c.if-image-start-ne0.true;
+          c.in-Entered.ensures.value _ c.u32_at.ensures (signed _ c.if-u32_at-ne-TREE.false) c.if-image-start-ne-GROUP.true;
       fields = tt;
     }
 
@@ -64,7 +64,7 @@ pub returns-then-limits-level : goal.returns-then-limits-level
 returns-then-limits-level c =
     record {
       walked = level-wrong c.args.image.now _ _ _ _ _ _ c.requires.lent _ c.enter.ensures.entered _
-          c.in-Entered.ensures.value _ c.u32_at.ensures (signed _ c.if-u32_at-ne-TREE.false) c.if-image-start-ne0.false
+          c.in-Entered.ensures.value _ c.u32_at.ensures (signed _ c.if-u32_at-ne-TREE.false) c.if-image-start-ne-GROUP.false
           (omega (arith, c.if-limits-level.true, c.the_limits-limits.ensures.level_most_equal));
       fields = tt;
     }
@@ -91,7 +91,7 @@ pub returns-then-k-entries : goal.returns-then-k-entries
 returns-then-k-entries c =
     record {
       walked = entries-wrong c.args.image.now _ _ _ _ _ _ c.requires.lent _ c.enter.ensures.entered _
-          c.in-Entered.ensures.value _ c.u32_at.ensures (signed _ c.if-u32_at-ne-TREE.false) c.if-image-start-ne0.false
+          c.in-Entered.ensures.value _ c.u32_at.ensures (signed _ c.if-u32_at-ne-TREE.false) c.if-image-start-ne-GROUP.false
           (omega (arith, c.if-limits-level.false, c.the_limits-limits.ensures.level_most_equal)) _ c.u16_at-entries.ensures c.if-k-entries.true;
       fields = tt;
     }
@@ -110,7 +110,7 @@ returns-else-k-entries c =
     omega (arith, i) in
     record {
       walked = node-read c.args.image.now _ _ _ _ _ _ c.requires.lent _ c.enter.ensures.entered _
-          c.in-Entered.ensures.value _ c.u32_at.ensures (signed _ c.if-u32_at-ne-TREE.false) c.if-image-start-ne0.false
+          c.in-Entered.ensures.value _ c.u32_at.ensures (signed _ c.if-u32_at-ne-TREE.false) c.if-image-start-ne-GROUP.false
           (omega (arith, c.if-limits-level.false, c.the_limits-limits.ensures.level_most_equal)) _ c.u16_at-entries.ensures c.if-k-entries.false;
       fields = (
         whole,

@@ -73,13 +73,13 @@ bounds-image-start c =
     omega (arith, i, c.requires.fixed.file) in
     omega (arith, whole)
 
-pub returns-then-image-start-ne1 : goal.returns-then-image-start-ne1
-returns-then-image-start-ne1 c =
+pub returns-then-image-start-ne-VERSION : goal.returns-then-image-start-ne-VERSION
+returns-then-image-start-ne-VERSION c =
     record {
       walked = λ bounds t. version-wrong c.args.image.now _ _ _ _ _ c.requires.sound.lent _ _ c.enter.ensures.entered
           (group_of c.args.segment.now c.args.wanted.now c.args.group) refl bounds
           (state_of c.args.segment.now c.args.addresses.now c.args.counts.now c.args.state) _
-          c.in-Entered.ensures.value _ c.u32_at.ensures (signed _ c.if-u32_at-ne-SNOD.false) c.if-image-start-ne1.true;
+          c.in-Entered.ensures.value _ c.u32_at.ensures (signed _ c.if-u32_at-ne-SNOD.false) c.if-image-start-ne-VERSION.true;
       sound = tt;
     }
 
@@ -107,7 +107,7 @@ returns-then-n-lt1 c =
       walked = λ bounds t. count_low c.args.image.now _ _ _ _ _ c.requires.sound.lent _ _ c.enter.ensures.entered
           (group_of c.args.segment.now c.args.wanted.now c.args.group) refl bounds
           (state_of c.args.segment.now c.args.addresses.now c.args.counts.now c.args.state) _
-          c.in-Entered.ensures.value _ c.u32_at.ensures (signed _ c.if-u32_at-ne-SNOD.false) c.if-image-start-ne1.false _
+          c.in-Entered.ensures.value _ c.u32_at.ensures (signed _ c.if-u32_at-ne-SNOD.false) c.if-image-start-ne-VERSION.false _
           c.u16_at-n.ensures c.if-n-lt1.true;
       sound = tt;
     }
@@ -127,7 +127,7 @@ returns-then-k-n c =
       walked = λ bounds t. count-high c.args.image.now _ _ _ _ _ c.requires.sound.lent _ _ c.enter.ensures.entered
           (group_of c.args.segment.now c.args.wanted.now c.args.group) refl bounds
           (state_of c.args.segment.now c.args.addresses.now c.args.counts.now c.args.state) _
-          c.in-Entered.ensures.value _ c.u32_at.ensures (signed _ c.if-u32_at-ne-SNOD.false) c.if-image-start-ne1.false _
+          c.in-Entered.ensures.value _ c.u32_at.ensures (signed _ c.if-u32_at-ne-SNOD.false) c.if-image-start-ne-VERSION.false _
           c.u16_at-n.ensures c.if-k-n.true;
       sound = tt;
     }
@@ -195,7 +195,7 @@ returns-else-k-n c =
           symbols-end c.args.image.now _ _ _ _ _ c.requires.sound.lent _ _ c.enter.ensures.entered
           (group_of c.args.segment.now c.args.wanted.now c.args.group) refl bounds
           (state_of c.args.segment.now c.args.addresses.now c.args.counts.now c.args.state) _
-          c.in-Entered.ensures.value _ c.u32_at.ensures (signed _ c.if-u32_at-ne-SNOD.false) c.if-image-start-ne1.false _
+          c.in-Entered.ensures.value _ c.u32_at.ensures (signed _ c.if-u32_at-ne-SNOD.false) c.if-image-start-ne-VERSION.false _
           c.u16_at-n.ensures (omega (arith, c.if-n-lt1.false)) c.if-k-n.false
           c.args.segment.now c.entries.new.addresses c.entries.new.counts c.entries.result
           (kept-count c.args.segment.now c.args.addresses.now c.args.counts.now c.args.group after c.u16_at-n.result

@@ -33,15 +33,15 @@ returns-then-height-ne0 c =
       sound = c.subtree.ensures.sound;
     }
 
-pub returns-then-level-ne0 : goal.returns-then-level-ne0
-returns-then-level-ne0 c =
+pub returns-then-inner : goal.returns-then-inner
+returns-then-inner c =
     let a = c.args in
     let r = c.in-Read.ensures in
     let no-entries : u16 a.image.now (a.at + 6) ≡ 0 = c.root_height-height.ensures.empty c.if-height-ne0.false (omega (arith, r.fields.0)) in
     record {
       walked = empty-level-wrong a.image.now (group_of a.segment.now a.wanted.now a.group) a.at
           (state_of a.segment.now a.addresses.now a.counts.now a.state) _ _ a.list.now _ c.requires.sound.lent _ refl c.read_node.new.list _
-          c.read_node.auto.list no-entries r.walked _ r.fields.1 c.if-level-ne0.true;
+          c.read_node.auto.list no-entries r.walked _ r.fields.1 c.if-inner.true;
       sound = tt;
     }
 
@@ -55,8 +55,8 @@ returns-in-Stopped c =
       sound = tt;
     }
 
-pub returns-else-level-ne0 : goal.returns-else-level-ne0
-returns-else-level-ne0 c =
+pub returns-else-inner : goal.returns-else-inner
+returns-else-inner c =
     let a = c.args in
     let r = c.in-Read.ensures in
     let no-entries : u16 a.image.now (a.at + 6) ≡ 0 = c.root_height-height.ensures.empty c.if-height-ne0.false (omega (arith, r.fields.0)) in
@@ -67,6 +67,6 @@ returns-else-level-ne0 c =
     r.walked in
     record {
       walked = empty-read a.image.now group a.at state _ _ a.list.now _ c.requires.sound.lent _ refl c.read_node.new.list _
-          c.read_node.auto.list no-entries r.walked _ r.fields.1 c.if-level-ne0.false;
+          c.read_node.auto.list no-entries r.walked _ r.fields.1 c.if-inner.false;
       sound = sound_more _ _ _ _ a.group a.state _ _ c.requires.sound m.lent m.blocks;
     }

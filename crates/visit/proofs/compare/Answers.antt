@@ -9,8 +9,8 @@ returns-then-not-is_wanted c =
     let a = c.args in
     link-other a.name.now a.wanted.now a.kind a.header a.link (sym c.is_wanted.ensures ∙ c.if-not-is_wanted.true)
 
-pub returns-then-kind-le1 : goal.returns-then-kind-le1
-returns-then-kind-le1 c =
+pub returns-then-hard : goal.returns-then-hard
+returns-then-hard c =
     let a = c.args in
     link-hard a.name.now a.wanted.now a.kind a.header a.link (sym c.is_wanted.ensures ∙ c.if-not-is_wanted.false)
     (omega arith)

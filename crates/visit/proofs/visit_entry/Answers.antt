@@ -7,8 +7,8 @@ pub returns-then-not-auditing : goal.returns-then-not-auditing
 returns-then-not-auditing c =
     visit-compared _ _ _ _ c.requires.table_if _ _ _ _ _ _ (c.if-not-auditing.true) c.compare.ensures
 
-pub returns-then-kind-gt1 : goal.returns-then-kind-gt1
-returns-then-kind-gt1 c = visit-passed _ _ _ _ c.requires.table_if _ _ _ _ _ (c.if-not-auditing.false) (omega arith)
+pub returns-then-symbolic : goal.returns-then-symbolic
+returns-then-symbolic c = visit-passed _ _ _ _ c.requires.table_if _ _ _ _ _ (c.if-not-auditing.false) (omega arith)
 
 pub discover-requires : goal.discover-requires
 discover-requires c =

@@ -13,8 +13,8 @@ returns-then-count-eq0 c = record {
 pub overflow_add-b-2 : goal.overflow_add-b-2
 overflow_add-b-2 c = omega (arith, words_inside _ _ c.requires (c.args.run.count - 1) (omega (arith, c.if-count-eq0.false)))
 
-pub overflow_mul-b : goal.overflow_mul-b
-overflow_mul-b c = omega (arith, words_inside _ _ c.requires (c.args.run.count - 1) (omega (arith, c.if-count-eq0.false)))
+pub overflow_mul-before : goal.overflow_mul-before
+overflow_mul-before c = omega (arith, words_inside _ _ c.requires (c.args.run.count - 1) (omega (arith, c.if-count-eq0.false)))
 
 pub offset_bounds-blocks-b : goal.offset_bounds-blocks-b
 offset_bounds-blocks-b c = omega (arith, words_inside _ _ c.requires (c.args.run.count - 1) (omega (arith, c.if-count-eq0.false)))
@@ -22,11 +22,11 @@ offset_bounds-blocks-b c = omega (arith, words_inside _ _ c.requires (c.args.run
 pub bounds-blocks-b : goal.bounds-blocks-b
 bounds-blocks-b c = omega (arith, words_inside _ _ c.requires (c.args.run.count - 1) (omega (arith, c.if-count-eq0.false)))
 
-pub overflow_mul-b-2 : goal.overflow_mul-b-2
-overflow_mul-b-2 c = omega (arith, words_inside _ _ c.requires (c.args.run.count - 1) (omega (arith, c.if-count-eq0.false)))
+pub overflow_mul-before-2 : goal.overflow_mul-before-2
+overflow_mul-before-2 c = omega (arith, words_inside _ _ c.requires (c.args.run.count - 1) (omega (arith, c.if-count-eq0.false)))
 
-pub overflow_add-b-3 : goal.overflow_add-b-3
-overflow_add-b-3 c = omega (arith, words_inside _ _ c.requires (c.args.run.count - 1) (omega (arith, c.if-count-eq0.false)))
+pub overflow_add-before : goal.overflow_add-before
+overflow_add-before c = omega (arith, words_inside _ _ c.requires (c.args.run.count - 1) (omega (arith, c.if-count-eq0.false)))
 
 pub offset_bounds-blocks-b-2 : goal.offset_bounds-blocks-b-2
 offset_bounds-blocks-b-2 c = omega (arith, words_inside _ _ c.requires (c.args.run.count - 1) (omega (arith, c.if-count-eq0.false)))
@@ -34,12 +34,12 @@ offset_bounds-blocks-b-2 c = omega (arith, words_inside _ _ c.requires (c.args.r
 pub bounds-blocks-b-2 : goal.bounds-blocks-b-2
 bounds-blocks-b-2 c = omega (arith, words_inside _ _ c.requires (c.args.run.count - 1) (omega (arith, c.if-count-eq0.false)))
 
-pub overflow_add-blocks : goal.overflow_add-blocks
-overflow_add-blocks c = omega (arith, behind-small _ _ c.requires (c.args.run.count - 1) (omega (arith, c.if-count-eq0.false)))
+pub overflow_add-before-2 : goal.overflow_add-before-2
+overflow_add-before-2 c = omega (arith, behind-small _ _ c.requires (c.args.run.count - 1) (omega (arith, c.if-count-eq0.false)))
 
-pub returns-then-blocks-b : goal.returns-then-blocks-b
-returns-then-blocks-b c = record {
-  placed = placed-last _ _ _ c.requires (omega (arith, c.if-blocks-b.true));
+pub returns-then-before : goal.returns-then-before
+returns-then-before c = record {
+  placed = placed-last _ _ _ c.requires (omega (arith, c.if-before.true));
   by_index = λ m h. omega arith;
 }
 

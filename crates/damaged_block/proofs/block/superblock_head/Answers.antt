@@ -5,9 +5,9 @@ use Rattle.format.specs.Bytes.{undefined_address}
 use borrow.Author.Rules.{rules}
 use Rattle.damaged_block.proofs.block.superblock_head.Goals as goal
 
-pub returns-then-answer-eq-LENGTH_OUT_OF_RANGE : goal.returns-then-answer-eq-LENGTH_OUT_OF_RANGE
-returns-then-answer-eq-LENGTH_OUT_OF_RANGE c = rw (eq-eqb _ 1 c.if-answer-eq-LENGTH_OUT_OF_RANGE.true, c.no_block.ensures)
+pub returns-then-short : goal.returns-then-short
+returns-then-short c = rw (eq-eqb _ 1 c.if-short.true, c.no_block.ensures)
 
 pub returns : goal.returns
 unfolding image_least undefined_address
-returns c = rw (ne_eqb _ 1 c.if-answer-eq-LENGTH_OUT_OF_RANGE.false)
+returns c = rw (ne_eqb _ 1 c.if-short.false)
