@@ -45,7 +45,8 @@ pub fn refuse(blocks: &mut [u8], reply: &mut [u8], number: u8, met: u64) -> u32
     ensures blocks_after { blocks.new ≡ replicate (length blocks.old) 0 }
     ensures reply_after { reply.new ≡ padded_bytes (length reply.old) (refusal_words number met) }
 {
-    if number != answers::OVERLAP {
+    let without_block = number != answers::OVERLAP;
+    if without_block {
         clear_both(blocks, reply);
         return number as u32;
     }

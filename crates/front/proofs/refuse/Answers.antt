@@ -7,10 +7,10 @@ use Rattle.front.proofs.Reply.{all-zero}
 use native.Mathlib.Omega.{arith}
 use Rattle.front.proofs.refuse.Goals as goal
 
-pub returns-then-number-ne-OVERLAP : goal.returns-then-number-ne-OVERLAP
-returns-then-number-ne-OVERLAP c =
+pub returns-then-without_block : goal.returns-then-without_block
+returns-then-without_block c =
     let a = c.args in
-    let six = ne_eqb a.number 6 c.if-number-ne-OVERLAP.true in
+    let six = ne_eqb a.number 6 c.if-without_block.true in
     record {
       value = refl;
       blocks_after = c.clear_both.ensures.blocks_after;
@@ -20,7 +20,7 @@ returns-then-number-ne-OVERLAP c =
 pub returns : goal.returns
 returns c =
     let a = c.args in
-    let six = eq-eqb a.number 6 c.if-number-ne-OVERLAP.false in
+    let six = eq-eqb a.number 6 c.if-without_block.false in
     record {
       value = refl;
       blocks_after = all-zero a.blocks.now _ c.clear_from.ensures;
