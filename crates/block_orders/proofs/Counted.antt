@@ -5,13 +5,13 @@ use mathlib.Core.Path.{◌≡◌}
 use native.Mathlib.Omega.{arith}
 use Rattle.format.specs.Blocks.{entry_answer}
 use Rattle.walk.specs.Lent.{blocks_of, Lent, Added, entering, IsEntered}
-use Rattle.walk.specs.declared.blocks.Entry.TheVariants.{Entered}
+use Rattle.std.specs.Prelude.{Ok}
 use Rattle.walk.proofs.BlockList.{length-blocks_of, entered-zero, entry_answer-zero}
 use Rattle.walk.proofs.Owners.{added-lent}
 
 pub entered-lent : (eof room kind a m n : ℕ) (ws ws₁ : List ℕ) (c : ℕ) → Lent ws n room →
     IsEntered (entry_answer eof room (blocks_of n ws) a m) ws n kind a m ws₁ →
-    Entered c ≡ entering (entry_answer eof room (blocks_of n ws) a m) kind a m (blocks_of n ws) n → Lent ws₁ c room × (c ≡ n + 1)
+    Ok c ≡ entering (entry_answer eof room (blocks_of n ws) a m) kind a m (blocks_of n ws) n → Lent ws₁ c room × (c ≡ n + 1)
 entered-lent eof room kind a m n ws ws₁ c l q p =
     let z = entered-zero kind a m (blocks_of n ws) (entry_answer eof room (blocks_of n ws) a m) n c p in
     let y : n < room = rw length-blocks_of at (entry_answer-zero eof room (blocks_of n ws) a m z.0).2 in

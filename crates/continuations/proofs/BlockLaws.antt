@@ -13,7 +13,7 @@ use Rattle.format.specs.Walk.{Walk, ret, refuse, Kind, kind_number, shown, conti
 use Rattle.format.specs.Header.{Gathered, messages}
 use Rattle.format.specs.Message.{Message}
 use Rattle.walk.specs.Lent.{blocks_of, length_sum, Lent, Walked, ended, stopped, entering, IsEntered}
-use Rattle.walk.specs.declared.blocks.Entry.TheVariants.{Entered, Refused}
+use Rattle.std.specs.Prelude.{Ok, Err}
 use Rattle.walk.proofs.BlockList.{entered-zero, entry_answer-zero}
 use Rattle.walk.proofs.Parts.{part_length}
 use Rattle.laws.proofs.SumOfLengths.{lengths-append, lengths-inside, grown-apart, grown-inside}
@@ -26,7 +26,7 @@ use Rattle.scan.proofs.ScanLaws.{messages-held}
 
 -- a block that was entered lies inside the end of file
 pub block_inside : (eof room : ℕ) (v : Kind) (a m n : ℕ) (ws : List ℕ) (c : ℕ) →
-    Entered c ≡ entering (entry_answer eof room (blocks_of n ws) a m) (kind_number v) a m (blocks_of n ws) n → a + m ≤ eof
+    Ok c ≡ entering (entry_answer eof room (blocks_of n ws) a m) (kind_number v) a m (blocks_of n ws) n → a + m ≤ eof
 block_inside eof room v a m n ws c p =
     (entry_answer-zero eof room (blocks_of n ws) a m (entered-zero (kind_number v) a m (blocks_of n ws) (entry_answer eof room (blocks_of n ws) a m) n c p).0).0
 
@@ -34,7 +34,7 @@ block_inside eof room v a m n ws c p =
 module _ (eof room : ℕ) (v : Kind) (a m n : ℕ) (ws ws₁ : List ℕ) (l : Lent ws n room)
     (q : IsEntered (entry_answer eof room (blocks_of n ws) a m) ws n (kind_number v) a m ws₁)
     (c : ℕ)
-    (p : Entered c ≡ entering (entry_answer eof room (blocks_of n ws) a m) (kind_number v) a m (blocks_of n ws) n) (auditing : Bool) where
+    (p : Ok c ≡ entering (entry_answer eof room (blocks_of n ws) a m) (kind_number v) a m (blocks_of n ws) n) (auditing : Bool) where
   longer : length_sum (blocks_of c ws₁) ≡ length_sum (blocks_of n ws) + m
   unfolding length_sum
   longer =
@@ -95,12 +95,12 @@ module _ {S : Type 0} (visit : Message → S → Result S) (im : List ℕ) (eof 
   at_entry : Simulation im eof room (block_walk visit address size found) n ws (block_walk visit address size found) n ws
   at_entry = start im eof room (block_walk visit address size found) n ws l
 
-  pub not_entered : (x : Refusal) → Refused x ≡ entering (entry_answer eof room (blocks_of n ws) address size) 3 address size (blocks_of n ws) n →
+  pub not_entered : (x : Refusal) → Err x ≡ entering (entry_answer eof room (blocks_of n ws) address size) 3 address size (blocks_of n ws) n →
       Walked ws ws₁ (stopped x) (run im eof room (block_walk visit address size found) (blocks_of n ws))
   unfolding ◌>>=◌
   not_entered x e = block_refused size refl refl ws₁ at_entry q x e
 
-  module _ (m : ℕ) (e : Entered m ≡ entering (entry_answer eof room (blocks_of n ws) address size) 3 address size (blocks_of n ws) n) (i : eof ≤ length im) where
+  module _ (m : ℕ) (e : Ok m ≡ entering (entry_answer eof room (blocks_of n ws) address size) 3 address size (blocks_of n ws) n) (i : eof ≤ length im) where
     inside : address + size ≤ eof
     inside = block_inside eof room continuation_block address size n ws m e
 

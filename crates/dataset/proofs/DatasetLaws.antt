@@ -16,8 +16,7 @@ use Rattle.format.specs.Dataset.{head_at, read_type, has_data_block, data_walk, 
 use Rattle.format.specs.declared.Refusal.{Refusal}
 use Rattle.format.specs.Walk.{Walk, ret, located, data_block, ◌>>=◌, ◌>>◌, run}
 use Rattle.walk.specs.Lent.{Lent, Walked, Ended, ended, stopped, blocks_of, entering, IsEntered, entry_end}
-use Rattle.walk.specs.declared.blocks.Entry.{Entry}
-use Rattle.walk.specs.declared.blocks.Entry.TheVariants.{Entered, Refused}
+use Rattle.std.specs.Prelude.{Result, Ok, Err}
 use Rattle.laws.proofs.Bind.{bind_assoc, ret-bind}
 use Rattle.walk.proofs.Tests.{all-fails, all-passes, all-last}
 use Rattle.laws.proofs.Simulation.{Simulation, start, same-walk, returned, callee-value, callee-refusal, callee-last, callee-stopped, callee-done, one_block}
@@ -82,7 +81,7 @@ module _ (im : List ℕ) (eof room n : ℕ) (ws : List ℕ) (lent : Lent ws n ro
         pub empty-data : s < 1 → Walked ws ws (ended tt n) (run im eof room (data_walk (layout_of l)) (blocks_of n ws))
         empty-data k = nothing-entered (rw e (empty-none a s h k))
 
-        pub contiguous-data : 1 ≤ s → (ws₁ : List ℕ) (r : Entry) → r ≡ entering (entry_answer eof room (blocks_of n ws) a s) 8 a s (blocks_of n ws) n →
+        pub contiguous-data : 1 ≤ s → (ws₁ : List ℕ) (r : Result ℕ Refusal) → r ≡ entering (entry_answer eof room (blocks_of n ws) a s) 8 a s (blocks_of n ws) n →
             IsEntered (entry_answer eof room (blocks_of n ws) a s) ws n 8 a s ws₁ →
             Walked ws ws₁ (entry_end r) (run im eof room (data_walk (layout_of l)) (blocks_of n ws))
         unfolding data_walk
@@ -128,11 +127,11 @@ module _ (im : List ℕ) (eof room n : ℕ) (ws : List ℕ) (lent : Lent ws n ro
       messages-read : Simulation im eof room storage n ws (data_walk (layout_of d.layout) >> ret value) n ws
       messages-read = callee-value layouts (λ d. data_walk d.layout >> ret d) value (rw f at (sym e)) begun
 
-      module _ (ws₁ : List ℕ) {r : Entry} (h : Walked ws ws₁ (entry_end r) (run im eof room (data_walk (layout_of d.layout)) (blocks_of n ws))) where
-        pub data-refused : {x : Refusal} → r ≡ Refused x → Walked ws ws₁ (stopped x) (run im eof room storage (blocks_of n ws))
+      module _ (ws₁ : List ℕ) {r : Result ℕ Refusal} (h : Walked ws ws₁ (entry_end r) (run im eof room (data_walk (layout_of d.layout)) (blocks_of n ws))) where
+        pub data-refused : {x : Refusal} → r ≡ Err x → Walked ws ws₁ (stopped x) (run im eof room storage (blocks_of n ws))
         data-refused g = callee-stopped ws₁ (data_walk (layout_of d.layout)) (λ _. ret value) messages-read (rw g at h)
 
-        pub data-entered : {c : ℕ} → r ≡ Entered c → length ws₁ ≡ length ws → Walked ws ws₁ (ended value c) (run im eof room storage (blocks_of n ws))
+        pub data-entered : {c : ℕ} → r ≡ Ok c → length ws₁ ≡ length ws → Walked ws ws₁ (ended value c) (run im eof room storage (blocks_of n ws))
         data-entered g q = returned (callee-done ws₁ (data_walk (layout_of d.layout)) (λ _. ret value) messages-read q (rw g at h))
 
 -- How the dataset walk ends, by what was read of its parts and how its storage walk ended.

@@ -18,7 +18,7 @@ use Rattle.format.specs.Sharing.{Found}
 use Rattle.format.specs.Message.{Message, of_type}
 use Rattle.walk.specs.Lent.{blocks_of, Lent, ended, stopped, Walked, entering, IsEntered}
 use Rattle.walk.specs.Numbers.{Number}
-use Rattle.walk.specs.declared.blocks.Entry.TheVariants.{Entered, Refused}
+use Rattle.std.specs.Prelude.{Ok, Err}
 use Rattle.walk.proofs.BlockList.{entered-zero}
 use Rattle.laws.proofs.Simulation.{Simulation, start, returned, passed, failed, outside, block-entered, block_refused, callee-value, callee-refusal}
 use Rattle.laws.proofs.Simulation.{callee-last, callee-stopped, callee-done}
@@ -44,18 +44,18 @@ module _ {S : Type 0} (visit : Message → S → Result S) (im : List ℕ) (eof 
 
   module _ (size : ℕ) (n : Number im (at + 8) 4 size) (h : at + 16 ≤ length im) (k : at + 16 ≤ eof) (ws₁ : List ℕ)
       (q : IsEntered (entry_answer eof room (blocks_of count ws) at (16 + size)) ws count 2 at (16 + size) ws₁) where
-    pub header_refused : (x : Refusal) → Refused x ≡ entering (entry_answer eof room (blocks_of count ws) at (16 + size)) 2 at (16 + size) (blocks_of count ws)
+    pub header_refused : (x : Refusal) → Err x ≡ entering (entry_answer eof room (blocks_of count ws) at (16 + size)) 2 at (16 + size) (blocks_of count ws)
         count →
         Walked ws ws₁ (stopped x) (run im eof room (header_messages visit at found) (blocks_of count ws))
     header_refused x e = block_refused (16 + size) (header-length im at size h n) (header-known im eof at size h k n) ws₁ at-start q x e
 
-    pub header-entered : (m : ℕ) → Entered m ≡ entering (entry_answer eof room (blocks_of count ws) at (16 + size)) 2 at (16 + size) (blocks_of count ws) count →
+    pub header-entered : (m : ℕ) → Ok m ≡ entering (entry_answer eof room (blocks_of count ws) at (16 + size)) 2 at (16 + size) (blocks_of count ws) count →
         Simulation im eof room (header_messages visit at found) count ws (header_contents visit at found (shown header_block (part im at (16 + size)))) m ws₁
     header-entered m e = block-entered (16 + size) (header-length im at size h n) (header-known im eof at size h k n) ws₁ at-start q m e
 
 -- the header block is one more
 pub header-counted : (eof room : ℕ) (ws : List ℕ) (count at size m : ℕ) →
-    Entered m ≡ entering (entry_answer eof room (blocks_of count ws) at (16 + size)) 2 at (16 + size) (blocks_of count ws) count → m ≡ count + 1
+    Ok m ≡ entering (entry_answer eof room (blocks_of count ws) at (16 + size)) 2 at (16 + size) (blocks_of count ws) count → m ≡ count + 1
 header-counted eof room ws count at size m e = (entered-zero 2 at (16 + size) (blocks_of count ws) (entry_answer eof room (blocks_of count ws) at (16 + size))
     count m e).1
 

@@ -13,7 +13,7 @@ use Rattle.laws.proofs.Checks.{check-passes, check-fails}
 use Rattle.heap.specs.Segment.{heap_with}
 use Rattle.heap.specs.Header.{OpenHeap, header_tests, open_walk, HeaderRead}
 use Rattle.heap.specs.declared.header.Header.{Header}
-use Rattle.heap.specs.declared.header.Header.TheVariants.{Fields, Wrong}
+use Rattle.std.specs.Prelude.{Result, Ok, Err}
 
 -- a heap's walk enters it, then follows its free list
 pub heap-opened : (at : ℕ) →
@@ -52,17 +52,16 @@ module _ (at : ℕ) (b : List ℕ) (rest : Walk OpenHeap) where
   header-sound e f g = check-passes _ (fault 7 at) _ e ∙ check-passes _ (fault 7 at) _ f ∙ check-passes _ (fault 9 at) _ g
 
 -- what is left behind a header, by what was read
-pub header-fields : {b b' : List ℕ} (at size head address : ℕ) → b' ≡ b → HeaderRead b' (Fields size head address) →
-    body_walk at b ≡ segment_walk size head address
-header-fields {b} {b'} at size head address e h =
+pub header-fields : {b b' : List ℕ} (at : ℕ) (r : Header) → b' ≡ b → HeaderRead b' (Ok r) → body_walk at b ≡ segment_walk r.size r.head r.address
+header-fields {b} {b'} at r e h =
     rw (← e)
     (h.tested at _
     ∙ ap (λ (s : ℕ). segment_walk s (u64 b' 16) (u64 b' 24)) (sym h.fields.0)
-    ∙ ap (λ (f : ℕ). segment_walk size f (u64 b' 24)) (sym h.fields.1)
-    ∙ ap (λ (a : ℕ). segment_walk size head a) (sym h.fields.2))
+    ∙ ap (λ (f : ℕ). segment_walk r.size f (u64 b' 24)) (sym h.fields.1)
+    ∙ ap (λ (a : ℕ). segment_walk r.size r.head a) (sym h.fields.2))
 
-pub header-wrong : {b b' : List ℕ} (at n : ℕ) → b' ≡ b → HeaderRead b' (Wrong n) → body_walk at b ≡ refuse (fault n at)
+pub header-wrong : {b b' : List ℕ} (at n : ℕ) → b' ≡ b → HeaderRead b' (Err n) → body_walk at b ≡ refuse (fault n at)
 header-wrong at n e h = rw (← e) (h.tested at _)
 
-pub same-header : {b : List ℕ} {r r' : Header} → r ≡ r' → HeaderRead b r → HeaderRead b r'
+pub same-header : {b : List ℕ} {r r' : Result Header ℕ} → r ≡ r' → HeaderRead b r → HeaderRead b r'
 same-header e h = rw e at h

@@ -1,14 +1,12 @@
 -- A heap before its free list is followed, and what its reader returns.
-use Rattle.std.specs.Prelude.{ℕ, ◌+◌, ◌≤◌, ◌≡◌, List, leb, eqb, length}
+use Rattle.std.specs.Prelude.{ℕ, ◌+◌, ◌≤◌, ◌≡◌, List, leb, eqb, length, Result, Ok, Err}
 use Rattle.format.specs.Bytes.{part, u8, u32, u64}
 use Rattle.format.specs.Walk.{Walk, ret, refuse, fault, enter_block, check, heap_block, segment_block, ◌>>=◌, ◌>>◌}
 use Rattle.format.specs.Heap.{HEAP}
 use Rattle.walk.specs.Lent.{Ended, ended, stopped}
 use Rattle.heap.specs.declared.header.Heap.{Heap}
 use Rattle.heap.specs.declared.header.Header.{Header}
-use Rattle.heap.specs.declared.header.Header.TheVariants.{Fields, Wrong}
-use Rattle.heap.specs.declared.header.HeapOpened.{HeapOpened}
-use Rattle.heap.specs.declared.header.HeapOpened.TheVariants.{Opened, Stopped}
+use Rattle.format.specs.declared.Refusal.{Refusal}
 
 -- a heap that was entered: its segment, the head of its free list, and the segment's address
 pub record OpenHeap : Type 0 where
@@ -33,17 +31,17 @@ open_walk at = do
     ret (record { segment = seg; head = u64 b 16; place = u64 b 24 })
 
 -- what follows a header's tests, or its answer
-abbrev pub header_of : ℕ → Header → Walk OpenHeap → Walk OpenHeap
-header_of at (Fields size head address) rest = rest
-header_of at (Wrong n) rest = refuse (fault n at)
+abbrev pub header_of : ℕ → Result Header ℕ → Walk OpenHeap → Walk OpenHeap
+header_of at (Ok h) rest = rest
+header_of at (Err n) rest = refuse (fault n at)
 
 -- the fields are those of the header's bytes
-abbrev pub FieldsOf : List ℕ → Header → Type 0
-FieldsOf b (Fields size head address) = (size ≡ u64 b 8) × (head ≡ u64 b 16) × (address ≡ u64 b 24)
-FieldsOf b (Wrong n) = Unit {0}
+abbrev pub FieldsOf : List ℕ → Result Header ℕ → Type 0
+FieldsOf b (Ok h) = (h.size ≡ u64 b 8) × (h.head ≡ u64 b 16) × (h.address ≡ u64 b 24)
+FieldsOf b (Err n) = Unit {0}
 
 -- a header was read: its tests, whatever follows them, and its fields
-pub record HeaderRead (b : List ℕ) (r : Header) : Type 0 where
+pub record HeaderRead (b : List ℕ) (r : Result Header ℕ) : Type 0 where
   pub tested : (at : ℕ) (rest : Walk OpenHeap) → header_tests at b rest ≡ header_of at r rest
   pub fields : FieldsOf b r
 
@@ -56,9 +54,9 @@ abbrev pub open_heap : List ℕ → Heap → OpenHeap
 open_heap im h = record { segment = segment_of im h; head = h.head; place = h.segment }
 
 -- how the reader's run ended
-abbrev pub open_end : List ℕ → HeapOpened → Ended OpenHeap
-open_end im (Opened h c) = ended (open_heap im h) c
-open_end im (Stopped r) = stopped r
+abbrev pub open_end : List ℕ → Result (Heap × ℕ) Refusal → Ended OpenHeap
+open_end im (Ok h) = ended (open_heap im h.0) h.1
+open_end im (Err r) = stopped r
 
 -- the segment lies in the image, before the end-of-file address
 pub record SegmentInside (im : List ℕ) (eof : ℕ) (h : Heap) : Type 0 where
@@ -66,6 +64,6 @@ pub record SegmentInside (im : List ℕ) (eof : ℕ) (h : Heap) : Type 0 where
   pub file : h.segment + h.size ≤ eof
 
 -- so does that of a heap that was entered
-abbrev pub OpenedInside : List ℕ → ℕ → HeapOpened → Type 0
-OpenedInside im eof (Opened h c) = SegmentInside im eof h
-OpenedInside im eof (Stopped r) = Unit {0}
+abbrev pub OpenedInside : List ℕ → ℕ → Result (Heap × ℕ) Refusal → Type 0
+OpenedInside im eof (Ok h) = SegmentInside im eof h.0
+OpenedInside im eof (Err r) = Unit {0}

@@ -14,8 +14,7 @@ use Rattle.format.specs.Walk.{Kind, kind_number, not_entered, shown, Length, sto
 use Rattle.format.specs.Walk.{enter, enter_block, check, ◌>>=◌, ◌>>◌, Outcome, done, refused, if_entered, run, and_then}
 use Rattle.block_index.specs.Index.{first_from}
 use Rattle.walk.specs.Lent.{blocks_of, Lent, Ended, ended, stopped, left, Walked, Added, entering, IsEntered, entry_end}
-use Rattle.walk.specs.declared.blocks.Entry.{Entry}
-use Rattle.walk.specs.declared.blocks.Entry.TheVariants.{Entered, Refused}
+use Rattle.std.specs.Prelude.{Result, Ok, Err}
 use Rattle.laws.proofs.Bind.{run_bind}
 use Rattle.laws.proofs.Growth.{Grown, unchanged, grown-on, run-grown}
 use Rattle.walk.proofs.BlockList.{length-blocks_of, words-blocks, entered-zero, refused-suc, entry_answer-zero, entry_answer-outside}
@@ -76,7 +75,7 @@ come-from s u = record {
 -- the function `enter`, where it entered a block of m bytes
 module _ (eof room : ℕ) (v : Kind) (a m n : ℕ) (ws ws₁ : List ℕ) (l : Lent ws n room)
     (q : IsEntered (entry_answer eof room (blocks_of n ws) a m) ws n (kind_number v) a m ws₁) (c : ℕ)
-    (p : Entered c ≡ entering (entry_answer eof room (blocks_of n ws) a m) (kind_number v) a m (blocks_of n ws) n) where
+    (p : Ok c ≡ entering (entry_answer eof room (blocks_of n ws) a m) (kind_number v) a m (blocks_of n ws) n) where
   zero-answer : (entry_answer eof room (blocks_of n ws) a m ≡ 0) × (c ≡ n + 1)
   zero-answer = entered-zero (kind_number v) a m (blocks_of n ws) (entry_answer eof room (blocks_of n ws) a m) n c p
 
@@ -179,10 +178,10 @@ module _ {im : List ℕ} {eof room : ℕ} {A : Type 0} {w₀ : Walk A} {n₀ : �
     abbrev answer : ℕ
     answer = entry_answer eof room (blocks_of n ws) a m
 
-    pub entered-inside : (c : ℕ) → Entered c ≡ entering answer (kind_number v) a m (blocks_of n ws) n → a + m ≤ eof
+    pub entered-inside : (c : ℕ) → Ok c ≡ entering answer (kind_number v) a m (blocks_of n ws) n → a + m ≤ eof
     entered-inside c p = (entry_answer-zero eof room (blocks_of n ws) a m (entered-zero (kind_number v) a m (blocks_of n ws) answer n c p).0).0
 
-    pub block-entered : (c : ℕ) → Entered c ≡ entering answer (kind_number v) a m (blocks_of n ws) n →
+    pub block-entered : (c : ℕ) → Ok c ≡ entering answer (kind_number v) a m (blocks_of n ws) n →
         Simulation im eof room w₀ n₀ ws₀ (k (shown v (part im a m))) c ws₁
     unfolding run
     block-entered c p =
@@ -200,7 +199,7 @@ module _ {im : List ℕ} {eof room : ℕ} {A : Type 0} {w₀ : Walk A} {n₀ : �
               added-rest ws ws₁ n room (kind_number v) a m s.lent y w i (omega (arith, z.1)) (rw s.same_length f) ∙ s.rest i (omega (arith, z.1)) f;
         }
 
-    pub block_refused : (r : Refusal) → Refused r ≡ entering answer (kind_number v) a m (blocks_of n ws) n →
+    pub block_refused : (r : Refusal) → Err r ≡ entering answer (kind_number v) a m (blocks_of n ws) n →
         Walked ws₀ ws₁ (stopped r) (run im eof room w₀ (blocks_of n₀ ws₀))
     unfolding run
     block_refused r p =
@@ -262,10 +261,10 @@ module _ {im : List ℕ} {eof room : ℕ} {A : Type 0} {w₀ : Walk A} {n₀ : �
           }
 
 -- a function that only enters a block of m bytes
-pub one_block : (im : List ℕ) (eof room : ℕ) (v : Kind) (a m n : ℕ) (ws ws₁ : List ℕ) (r : Entry) → Lent ws n room →
+pub one_block : (im : List ℕ) (eof room : ℕ) (v : Kind) (a m n : ℕ) (ws ws₁ : List ℕ) (r : Result ℕ Refusal) → Lent ws n room →
     r ≡ entering (entry_answer eof room (blocks_of n ws) a m) (kind_number v) a m (blocks_of n ws) n →
     IsEntered (entry_answer eof room (blocks_of n ws) a m) ws n (kind_number v) a m ws₁ →
     Walked ws ws₁ (entry_end r) (run im eof room (enter_block v a m >> ret tt) (blocks_of n ws))
 unfolding ◌>>=◌
-one_block im eof room v a m n ws ws₁ (Entered c) l e q = returned (block-entered m refl refl ws₁ (start im eof room (enter_block v a m >> ret tt) n ws l) q c e)
-one_block im eof room v a m n ws ws₁ (Refused r) l e q = block_refused m refl refl ws₁ (start im eof room (enter_block v a m >> ret tt) n ws l) q r e
+one_block im eof room v a m n ws ws₁ (Ok c) l e q = returned (block-entered m refl refl ws₁ (start im eof room (enter_block v a m >> ret tt) n ws l) q c e)
+one_block im eof room v a m n ws ws₁ (Err r) l e q = block_refused m refl refl ws₁ (start im eof room (enter_block v a m >> ret tt) n ws l) q r e

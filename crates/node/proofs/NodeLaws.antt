@@ -14,7 +14,7 @@ use Rattle.format.specs.Heap.{Heap}
 use Rattle.format.specs.Tree.{TREE, node_walk, keys_walk}
 use Rattle.walk.specs.Lent.{blocks_of, Lent, Walked, ended, stopped, entering, IsEntered}
 use Rattle.walk.specs.Numbers.{Number}
-use Rattle.walk.specs.declared.blocks.Entry.TheVariants.{Entered, Refused}
+use Rattle.std.specs.Prelude.{Ok, Err}
 use Rattle.walk.proofs.BlockList.{entered-zero}
 use Rattle.walk.proofs.Parts.{part-byte, part-number, part-first-number, drop-part}
 use Rattle.laws.proofs.Simulation.{Simulation, start, same-walk, returned, passed, failed}
@@ -33,12 +33,12 @@ module _ (im : List ℕ) (eof room : ℕ) (ws : List ℕ) (count at k : ℕ) (l 
   begun = start im eof room (node_walk k at) count ws l
 
   module _ (ws₁ : List ℕ) (q : IsEntered (entry_answer eof room (blocks_of count ws) at size) ws count 6 at size ws₁) where
-    pub node-refused : (x : Refusal) → Refused x ≡ entering (entry_answer eof room (blocks_of count ws) at size) 6 at size (blocks_of count ws) count →
+    pub node-refused : (x : Refusal) → Err x ≡ entering (entry_answer eof room (blocks_of count ws) at size) 6 at size (blocks_of count ws) count →
         Walked ws ws₁ (stopped x) (run im eof room (node_walk k at) (blocks_of count ws))
     unfolding node_walk ◌>>=◌
     node-refused x e = block_refused size refl refl ws₁ begun q x e
 
-    module _ (m : ℕ) (e : Entered m ≡ entering (entry_answer eof room (blocks_of count ws) at size) 6 at size (blocks_of count ws) count) where
+    module _ (m : ℕ) (e : Ok m ≡ entering (entry_answer eof room (blocks_of count ws) at size) 6 at size (blocks_of count ws) count) where
       pub node-inside : at + size ≤ eof
       unfolding node_walk ◌>>=◌
       node-inside = entered-inside size refl refl ws₁ begun q m e

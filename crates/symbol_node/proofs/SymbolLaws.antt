@@ -14,7 +14,7 @@ use Rattle.format.specs.Entry.{GroupState}
 use Rattle.format.specs.Symbols.{SNOD, entries, symbol_walk}
 use Rattle.walk.specs.Lent.{blocks_of, length_sum, Lent, Walked, stopped, entering, IsEntered}
 use Rattle.walk.specs.Numbers.{Number}
-use Rattle.walk.specs.declared.blocks.Entry.TheVariants.{Entered, Refused}
+use Rattle.std.specs.Prelude.{Ok, Err}
 use Rattle.walk.proofs.Parts.{part-byte, part-number, part-first-number, drop-part}
 use Rattle.laws.specs.Blocks.{Fresh, Inside}
 use Rattle.laws.proofs.Growth.{Grown}
@@ -40,7 +40,7 @@ module _ (im : List ℕ) (eof room : ℕ) (ws : List ℕ) (count at : ℕ) (l : 
   b = part im at size
 
   module _ (ws₁ : List ℕ) (q : IsEntered (entry_answer eof room (blocks_of count ws) at size) ws count 7 at size ws₁) where
-    module _ (m : ℕ) (e : Entered m ≡ entering (entry_answer eof room (blocks_of count ws) at size) 7 at size (blocks_of count ws) count) where
+    module _ (m : ℕ) (e : Ok m ≡ entering (entry_answer eof room (blocks_of count ws) at size) 7 at size (blocks_of count ws) count) where
       pub symbols-grown : Grown eof room (blocks_of count ws) (blocks_of m ws₁)
       symbols-grown = entered-grown eof room symbol_block at size count ws ws₁ l q m e
 
@@ -60,12 +60,12 @@ module _ (im : List ℕ) (eof room : ℕ) (ws : List ℕ) (count at : ℕ) (l : 
       sized : size ≡ 8 + 80 * g.leaf_k
       sized = rw kk
 
-      pub symbols-refused : (x : Refusal) → Refused x ≡ entering (entry_answer eof room (blocks_of count ws) at size) 7 at size (blocks_of count ws) count →
+      pub symbols-refused : (x : Refusal) → Err x ≡ entering (entry_answer eof room (blocks_of count ws) at size) 7 at size (blocks_of count ws) count →
           Walked ws ws₁ (stopped x) (run im eof room w (blocks_of count ws))
       unfolding symbol_walk ◌>>=◌
       symbols-refused x e = block_refused size sized (sym sized) ws₁ begun q x e
 
-      module _ (m : ℕ) (e : Entered m ≡ entering (entry_answer eof room (blocks_of count ws) at size) 7 at size (blocks_of count ws) count) where
+      module _ (m : ℕ) (e : Ok m ≡ entering (entry_answer eof room (blocks_of count ws) at size) 7 at size (blocks_of count ws) count) where
         pub symbols-inside : at + size ≤ eof
         unfolding symbol_walk ◌>>=◌
         symbols-inside = entered-inside size sized (sym sized) ws₁ begun q m e

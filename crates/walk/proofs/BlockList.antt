@@ -10,14 +10,13 @@ use lib.ListN.{length, take, drop, get_or, set, replicate, replicate-append-repl
 use lib.Seq.{get_or-drop, take-suc-set}
 use lib.Dec.{leb, ltb}
 use Rattle.format.specs.Limits.{blocks_most}
-use Rattle.std.specs.Prelude.{if◌then◌else◌}
+use Rattle.std.specs.Prelude.{if◌then◌else◌, Ok, Err}
 use Rattle.format.specs.Blocks.{Block, block_of, owner_after, block_words, overlaps_any, entry_answer, room_of}
 use Rattle.format.specs.declared.Refusal.{Refusal}
 use Rattle.format.specs.Walk.{not_entered}
 use Rattle.block_index.specs.Index.{places_for}
 use Rattle.block_index.proofs.IndexLaws.{indexed-none}
 use Rattle.walk.specs.Lent.{blocks_of, places_of, work_words, Lent, entering}
-use Rattle.walk.specs.declared.blocks.Entry.TheVariants.{Entered, Refused}
 
 -- the words cleared so far, behind those that stay, and one more
 pub zeros-more : (p ws : List ℕ) (i n : ℕ) → i < length ws → take i ws ≡ p ++ replicate n 0 → take (i + 1) (set ws i 0) ≡ p ++ replicate (n + 1) 0
@@ -137,11 +136,11 @@ module _ (eof room : ℕ) (bs : List Block) (a n : ℕ) where
 
 -- what was answered, by what was returned
 module _ (kind a n : ℕ) (bs : List Block) where
-  pub entered-zero : (answer c m : ℕ) → Entered m ≡ entering answer kind a n bs c → (answer ≡ 0) × (m ≡ c + 1)
+  pub entered-zero : (answer c m : ℕ) → Ok m ≡ entering answer kind a n bs c → (answer ≡ 0) × (m ≡ c + 1)
   entered-zero zero c m e = (refl, cc)
   entered-zero (suc answer) c m e = let z : ◌≡◌ {A = ℕ} 0 1 = cc in absurd (omega arith)
 
-  pub refused-suc : (answer c : ℕ) (r : Refusal) → Refused r ≡ entering answer kind a n bs c →
+  pub refused-suc : (answer c : ℕ) (r : Refusal) → Err r ≡ entering answer kind a n bs c →
       (h : ℕ) × (answer ≡ suc h) × (r ≡ not_entered (suc h) kind a n bs)
   refused-suc zero c m e = let z : ◌≡◌ {A = ℕ} 0 1 = cc in absurd (omega arith)
   refused-suc (suc answer) c m e = (answer, refl, cc)

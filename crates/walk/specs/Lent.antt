@@ -1,13 +1,11 @@
 -- The block list that a caller lends, and what a function returns and leaves of a run.
-use Rattle.std.specs.Prelude.{ℕ, ◌+◌, ◌*◌, suc, zero, ◌≤◌, ◌<◌, min, ◌≡◌, List, [], ◌∷◌, length, get_or, take, drop, set}
+use Rattle.std.specs.Prelude.{ℕ, ◌+◌, ◌*◌, suc, zero, ◌≤◌, ◌<◌, min, ◌≡◌, List, [], ◌∷◌, length, get_or, take, drop, set, Result, Ok, Err}
 use Rattle.format.specs.Limits.{blocks_most}
 use Rattle.format.specs.Bytes.{padded}
 use Rattle.format.specs.Blocks.{Block, block_of, no_object, owner_after, last_owner, block_words}
 use Rattle.format.specs.declared.Refusal.{Refusal}
 use Rattle.block_index.specs.Index.{Indexed, places_for, first_from}
 use Rattle.format.specs.Walk.{Outcome, done, refused, if_entered, not_entered}
-use Rattle.walk.specs.declared.blocks.Entry.{Entry}
-use Rattle.walk.specs.declared.blocks.Entry.TheVariants.{Entered, Refused}
 
 -- the first c blocks of a list of words, four words a block, the last of which is the number of an object
 unfoldable pub blocks_of : ℕ → List ℕ → List Block
@@ -61,9 +59,9 @@ pub record Walked {A : Type 0} (ws ws' : List ℕ) (r : Ended A) (o : Outcome A)
   pub indexed : Indexed ws' (length (left o))
 
 -- what entering a block returns, by its answer; the block of n bytes at a, of a kind, comes behind the blocks bs
-abbrev pub entering : ℕ → ℕ → ℕ → ℕ → List Block → ℕ → Entry
-entering zero kind a n bs count = Entered (count + 1)
-entering (suc answer) kind a n bs count = Refused (not_entered (suc answer) kind a n bs)
+abbrev pub entering : ℕ → ℕ → ℕ → ℕ → List Block → ℕ → Result ℕ Refusal
+entering zero kind a n bs count = Ok (count + 1)
+entering (suc answer) kind a n bs count = Err (not_entered (suc answer) kind a n bs)
 
 -- the list with four words written at k
 abbrev pub with_four : List ℕ → ℕ → ℕ → ℕ → ℕ → ℕ → List ℕ
@@ -84,6 +82,6 @@ abbrev pub IsEntered : ℕ → List ℕ → ℕ → ℕ → ℕ → ℕ → List
 IsEntered answer ws count kind a n ws' = if_entered answer (Added ws count kind a n ws') (λ _. ws' ≡ ws)
 
 -- entering a block as the end of a run: the number of blocks then entered, or the refusal
-abbrev pub entry_end : Entry → Ended (Unit {0})
-entry_end (Entered c) = ended tt c
-entry_end (Refused r) = stopped r
+abbrev pub entry_end : Result ℕ Refusal → Ended (Unit {0})
+entry_end (Ok c) = ended tt c
+entry_end (Err r) = stopped r

@@ -1,10 +1,9 @@
 // The blocks entered, in a working list. A block has four words: its address, its length, the number of its kind and the number
 // of the object that it was walked for. Behind the words of all blocks is their index.
-ghost use Rattle.std.specs.Prelude.{◌≡◌, ◌++◌, ◌+◌, ◌-◌, ◌*◌, ◌^◌, ◌<◌, ◌≤◌, min, length, take, replicate};
+ghost use Rattle.std.specs.Prelude.{◌≡◌, Err, ◌++◌, ◌+◌, ◌-◌, ◌*◌, ◌^◌, ◌<◌, ◌≤◌, min, length, take, replicate};
 ghost use Rattle.format.specs.Limits.{blocks_most};
 ghost use Rattle.format.specs.Blocks.{entry_answer, room_of};
 ghost use Rattle.format.specs.declared.Refusal.TheVariants.{NotEntered};
-ghost use Rattle.walk.specs.declared.blocks.Entry.TheVariants.{Refused};
 ghost use Rattle.walk.specs.Lent.{Lent, blocks_of, places_of, work_words, handed, appended, entering, IsEntered};
 
 use crate::owner::{last_owner, owner_after};
@@ -74,12 +73,6 @@ pub fn hand_over(list: &mut [u64], work: &[u64], count: usize)
     clear_from(list, used);
 }
 
-#[derive(Clone, Copy)]
-pub enum Entry {
-    Entered(usize),
-    Refused(Refusal),
-}
-
 // The refusal of a block that can't be entered.
 pub fn not_entered(number: u8, kind: u8, at: u64, size: u64, met: u64) -> Refusal
     ensures { result ≡ NotEntered number kind at size met }
@@ -108,10 +101,10 @@ fn append(blocks: &mut [u64], count: usize, room: usize, kind: u8, at: u64, size
 }
 
 // The refusal of a block that isn't inside.
-fn outside(kind: u8, at: u64, size: u64) -> Entry
-    ensures { result ≡ Refused (NotEntered 5 kind at size 0) }
+fn outside(kind: u8, at: u64, size: u64) -> Result<usize, Refusal>
+    ensures { result ≡ Err (NotEntered 5 kind at size 0) }
 {
-    Entry::Refused(not_entered(answers::OUTSIDE, kind, at, size, 0))
+    Err(not_entered(answers::OUTSIDE, kind, at, size, 0))
 }
 
 // Enters the block of `size` bytes at `at`: 5 if it isn't inside, 6 if it overlaps, 13 if there is no room, or the new count.
@@ -123,7 +116,7 @@ pub fn enter(
     kind: u8,
     at: u64,
     size: u64,
-) -> Entry
+) -> Result<usize, Refusal>
     requires { Lent blocks.old count room }
     ensures value { result ≡ entering (entry_answer end_of_file room (blocks_of count blocks.old) at size) kind at size
         (blocks_of count blocks.old) count }
@@ -139,12 +132,12 @@ pub fn enter(
     let found = find(blocks, count, at, size);
     if found.met {
         let b = first_met(blocks, count, found, at, size);
-        return Entry::Refused(not_entered(answers::OVERLAP, kind, at, size, blocks[4 * b]));
+        return Err(not_entered(answers::OVERLAP, kind, at, size, blocks[4 * b]));
     }
     if room <= count {
-        return Entry::Refused(not_entered(answers::NO_ROOM, kind, at, size, 0));
+        return Err(not_entered(answers::NO_ROOM, kind, at, size, 0));
     }
     append(blocks, count, room, kind, at, size);
     add(blocks, count, found.first, found.second);
-    Entry::Entered(count + 1)
+    Ok(count + 1)
 }

@@ -7,14 +7,14 @@ use Rattle.format.specs.Blocks.{entry_answer}
 use Rattle.format.specs.declared.Refusal.{Refusal}
 use Rattle.format.specs.Walk.{Walk, ret, enter, fixed, fault, run, kind_number, heap_block, segment_block, shown}
 use Rattle.walk.specs.Lent.{Lent, Walked, stopped, blocks_of, entering, IsEntered}
-use Rattle.walk.specs.declared.blocks.Entry.TheVariants.{Entered, Refused}
+use Rattle.std.specs.Prelude.{Result, Ok, Err}
 use Rattle.laws.proofs.Simulation.{Simulation, start, same-walk, refusal, block-entered, block_refused, entered-inside, returned}
 use Rattle.heap.specs.Header.{OpenHeap, open_walk, HeaderRead}
 use Rattle.heap.specs.declared.header.Header.{Header}
-use Rattle.heap.specs.declared.header.Header.TheVariants.{Fields, Wrong}
 use Rattle.heap.proofs.HeaderLaws.{segment_walk, body_walk, open-parts, header-fields, header-wrong, same-header}
 use Rattle.heap.proofs.SegmentLaws.{part-between}
 use native.Mathlib.Omega.{arith}
+use Rattle.std.proofs.lemmas.Result.{err_from_is_err_and}
 use Rattle.heap.proofs.header.open.Goals as goal
 
 module _ (im : List ℕ) (eof room at count : ℕ) (ws : List ℕ) where
@@ -29,28 +29,28 @@ module _ (im : List ℕ) (eof room at count : ℕ) (ws : List ℕ) where
     begun = same-walk _ (open-parts at) (start im eof room (open_walk at) count ws l)
 
     header-entered : (n : ℕ) →
-        Entered n ≡ entering (entry_answer eof room (blocks_of count ws) at 32) (kind_number heap_block) at 32 (blocks_of count ws) count →
+        Ok n ≡ entering (entry_answer eof room (blocks_of count ws) at 32) (kind_number heap_block) at 32 (blocks_of count ws) count →
         Left (body_walk at (part im at 32)) n ws₁
     unfolding shown
     header-entered n p = block-entered 32 refl refl ws₁ begun q n p
 
     header-inside : (n : ℕ) →
-        Entered n ≡ entering (entry_answer eof room (blocks_of count ws) at 32) (kind_number heap_block) at 32 (blocks_of count ws) count →
+        Ok n ≡ entering (entry_answer eof room (blocks_of count ws) at 32) (kind_number heap_block) at 32 (blocks_of count ws) count →
         at + 32 ≤ eof
     header-inside n p = entered-inside 32 refl refl ws₁ begun q n p
 
     header-refused : (r : Refusal) →
-        Refused r ≡ entering (entry_answer eof room (blocks_of count ws) at 32) (kind_number heap_block) at 32 (blocks_of count ws) count →
+        Err r ≡ entering (entry_answer eof room (blocks_of count ws) at 32) (kind_number heap_block) at 32 (blocks_of count ws) count →
         Walked ws ws₁ (stopped r) (run im eof room (open_walk at) (blocks_of count ws))
     header-refused r p = block_refused 32 refl refl ws₁ begun q r p
 
   -- the header passed its tests, or failed one
-  module _ {n : ℕ} {ws₁ : List ℕ} {r : Header} (s : Simulation im eof room (open_walk at) count ws (body_walk at (part im at 32)) n ws₁)
+  module _ {n : ℕ} {ws₁ : List ℕ} {r : Result Header ℕ} (s : Simulation im eof room (open_walk at) count ws (body_walk at (part im at 32)) n ws₁)
       (h : HeaderRead (part im at (at + 32 - at)) r) where
-    header-passed : (size head address : ℕ) → r ≡ Fields size head address → Left (segment_walk size head address) n ws₁
-    header-passed size head address e = same-walk _ (header-fields at size head address (part-between im at 32) (same-header e h)) s
+    header-passed : (f : Header) → r ≡ Ok f → Left (segment_walk f.size f.head f.address) n ws₁
+    header-passed f e = same-walk _ (header-fields at f (part-between im at 32) (same-header e h)) s
 
-    header-failed : (answer : ℕ) → r ≡ Wrong answer →
+    header-failed : (answer : ℕ) → r ≡ Err answer →
         Walked ws ws₁ (stopped (fault answer at)) (run im eof room (open_walk at) (blocks_of count ws))
     header-failed answer e = refusal (same-walk _ (header-wrong at answer (part-between im at 32) (same-header e h)) s)
 
@@ -59,106 +59,95 @@ module _ (im : List ℕ) (eof room at count : ℕ) (ws : List ℕ) where
       (s : Simulation im eof room (open_walk at) count ws (segment_walk size head address) n ws₁)
       (q : IsEntered (entry_answer eof room (blocks_of n ws₁) address size) ws₁ n (kind_number segment_block) address size ws₂) where
     segment-entered : (m : ℕ) →
-        Entered m ≡ entering (entry_answer eof room (blocks_of n ws₁) address size) (kind_number segment_block) address size (blocks_of n ws₁) n →
+        Ok m ≡ entering (entry_answer eof room (blocks_of n ws₁) address size) (kind_number segment_block) address size (blocks_of n ws₁) n →
         Left (ret (record { segment = part im address size; head = head; place = address })) m ws₂
     unfolding shown
     segment-entered m p = block-entered size refl refl ws₂ s q m p
 
     segment-inside : (m : ℕ) →
-        Entered m ≡ entering (entry_answer eof room (blocks_of n ws₁) address size) (kind_number segment_block) address size (blocks_of n ws₁) n →
+        Ok m ≡ entering (entry_answer eof room (blocks_of n ws₁) address size) (kind_number segment_block) address size (blocks_of n ws₁) n →
         address + size ≤ eof
     segment-inside m p = entered-inside size refl refl ws₂ s q m p
 
     segment-refused : (r : Refusal) →
-        Refused r ≡ entering (entry_answer eof room (blocks_of n ws₁) address size) (kind_number segment_block) address size (blocks_of n ws₁) n →
+        Err r ≡ entering (entry_answer eof room (blocks_of n ws₁) address size) (kind_number segment_block) address size (blocks_of n ws₁) n →
         Walked ws ws₂ (stopped r) (run im eof room (open_walk at) (blocks_of count ws))
     segment-refused r p = block_refused size refl refl ws₂ s q r p
 
 pub overflow_add-behind : goal.overflow_add-behind
 overflow_add-behind c =
     let a = c.args in
-    let e = c.enter in
     omega (
       arith,
-      header-inside a.image.now a.end_of_file a.room a.at a.count a.blocks.now c.requires.lent e.new.blocks e.ensures.entered
-          c.in-Entered.with_header (sym c.in-Entered.is ∙ e.ensures.value),
+      header-inside a.image.now a.end_of_file a.room a.at a.count a.blocks.now c.requires.lent c.enter.new.blocks c.enter.ensures.entered _
+          c.in_ok-with_header.ensures.value,
     )
 
 pub slice_bounds-read_header-end : goal.slice_bounds-read_header-end
 slice_bounds-read_header-end c =
     let a = c.args in
-    let e = c.enter in
     omega (
       arith,
-      header-inside a.image.now a.end_of_file a.room a.at a.count a.blocks.now c.requires.lent e.new.blocks e.ensures.entered
-          c.in-Entered.with_header (sym c.in-Entered.is ∙ e.ensures.value),
+      header-inside a.image.now a.end_of_file a.room a.at a.count a.blocks.now c.requires.lent c.enter.new.blocks c.enter.ensures.entered _
+          c.in_ok-with_header.ensures.value,
     )
 
-pub enter-requires-in-Fields : goal.enter-requires-in-Fields
-enter-requires-in-Fields c =
+pub returns-in_err-with_header : goal.returns-in_err-with_header
+returns-in_err-with_header c =
     let a = c.args in
-    let e = c.enter in
-    let f = c.in-Fields in
-    (header-passed a.image.now a.end_of_file a.room a.at a.count a.blocks.now
-    (header-entered a.image.now a.end_of_file a.room a.at a.count a.blocks.now c.requires.lent e.new.blocks e.ensures.entered
-    c.in-Entered.with_header (sym c.in-Entered.is ∙ e.ensures.value))
-    c.read_header.ensures f.size f.head f.address f.is).lent
-
-pub returns-in-Refused : goal.returns-in-Refused
-returns-in-Refused c =
-    let a = c.args in
-    let e = c.enter in
-    record {
-      walked = header-refused a.image.now a.end_of_file a.room a.at a.count a.blocks.now c.requires.lent e.new.blocks e.ensures.entered _
-          (sym c.in-Refused.is ∙ e.ensures.value);
+    let p = err_from_is_err_and c.from_residual.result c.from_residual.ensures.1 in
+    rw (p.1, p.2) (record {
+      walked = header-refused a.image.now a.end_of_file a.room a.at a.count a.blocks.now c.requires.lent c.enter.new.blocks c.enter.ensures.entered _
+          c.in_err-with_header.ensures.value;
       opened_inside = tt;
-    }
+    })
 
-pub returns-in-Wrong : goal.returns-in-Wrong
-returns-in-Wrong c =
+pub returns-in_err-header : goal.returns-in_err-header
+returns-in_err-header c =
     let a = c.args in
-    let e = c.enter in
-    record {
-      walked = header-failed a.image.now a.end_of_file a.room a.at a.count a.blocks.now
-          (header-entered a.image.now a.end_of_file a.room a.at a.count a.blocks.now c.requires.lent e.new.blocks e.ensures.entered
-          c.in-Entered.with_header (sym c.in-Entered.is ∙ e.ensures.value))
-          c.read_header.ensures _ c.in-Wrong.is;
+    let p = err_from_is_err_and c.from_residual-in_err-header.result c.from_residual-in_err-header.ensures.1 in
+    let f : (n : ℕ) × (c.read_header.result ≡ Err n) × (c.in_err-header.field-0.0 ≡ fault n a.at) = grind arith in
+    let left = header-entered a.image.now a.end_of_file a.room a.at a.count a.blocks.now c.requires.lent c.enter.new.blocks c.enter.ensures.entered _
+    c.in_ok-with_header.ensures.value in
+    rw (p.1, p.2, f.2) (record {
+      walked = header-failed a.image.now a.end_of_file a.room a.at a.count a.blocks.now left c.read_header.ensures f.0 f.1;
       opened_inside = tt;
-    }
+    })
 
-pub returns-in-Refused-enter : goal.returns-in-Refused-enter
-returns-in-Refused-enter c =
+pub enter-requires-2 : goal.enter-requires-2
+enter-requires-2 c =
     let a = c.args in
-    let e = c.enter in
-    let f = c.in-Fields in
-    let g = c.enter-in-Fields in
-    record {
-      walked = segment-refused a.image.now a.end_of_file a.room a.at a.count a.blocks.now f.size f.head f.address
-          c.in-Entered.with_header e.new.blocks g.new.blocks
-          (header-passed a.image.now a.end_of_file a.room a.at a.count a.blocks.now
-          (header-entered a.image.now a.end_of_file a.room a.at a.count a.blocks.now c.requires.lent e.new.blocks e.ensures.entered
-          c.in-Entered.with_header (sym c.in-Entered.is ∙ e.ensures.value))
-          c.read_header.ensures f.size f.head f.address f.is)
-          g.ensures.entered _ (sym c.in-Refused-enter.is ∙ g.ensures.value);
+    (header-entered a.image.now a.end_of_file a.room a.at a.count a.blocks.now c.requires.lent c.enter.new.blocks c.enter.ensures.entered _
+    c.in_ok-with_header.ensures.value).lent
+
+pub returns-in_err-with_segment : goal.returns-in_err-with_segment
+returns-in_err-with_segment c =
+    let a = c.args in
+    let h = c.in_ok-header.header in
+    let p = err_from_is_err_and c.from_residual-in_err-with_segment.result c.from_residual-in_err-with_segment.ensures.1 in
+    let f : c.read_header.result ≡ Ok h = grind arith in
+    let left = header-entered a.image.now a.end_of_file a.room a.at a.count a.blocks.now c.requires.lent c.enter.new.blocks c.enter.ensures.entered _
+    c.in_ok-with_header.ensures.value in
+    let behind = header-passed a.image.now a.end_of_file a.room a.at a.count a.blocks.now left c.read_header.ensures h f in
+    rw (p.1, p.2) (record {
+      walked = segment-refused a.image.now a.end_of_file a.room a.at a.count a.blocks.now h.size h.head h.address _ c.enter.new.blocks _ behind
+          c.enter-2.ensures.entered _ c.in_err-with_segment.ensures.value;
       opened_inside = tt;
-    }
+    })
 
-pub returns-in-Entered-enter : goal.returns-in-Entered-enter
-returns-in-Entered-enter c =
+pub returns : goal.returns
+returns c =
     let a = c.args in
-    let e = c.enter in
-    let f = c.in-Fields in
-    let g = c.enter-in-Fields in
-    let s = header-passed a.image.now a.end_of_file a.room a.at a.count a.blocks.now
-    (header-entered a.image.now a.end_of_file a.room a.at a.count a.blocks.now c.requires.lent e.new.blocks e.ensures.entered
-    c.in-Entered.with_header (sym c.in-Entered.is ∙ e.ensures.value))
-    c.read_header.ensures f.size f.head f.address f.is in
-    let p = sym c.in-Entered-enter.is ∙ g.ensures.value in
-    let i = segment-inside a.image.now a.end_of_file a.room a.at a.count a.blocks.now f.size f.head f.address
-    c.in-Entered.with_header e.new.blocks g.new.blocks s g.ensures.entered c.in-Entered-enter.with_segment p in
+    let h = c.in_ok-header.header in
+    let f : c.read_header.result ≡ Ok h = grind arith in
+    let left = header-entered a.image.now a.end_of_file a.room a.at a.count a.blocks.now c.requires.lent c.enter.new.blocks c.enter.ensures.entered _
+    c.in_ok-with_header.ensures.value in
+    let behind = header-passed a.image.now a.end_of_file a.room a.at a.count a.blocks.now left c.read_header.ensures h f in
+    let inside = segment-inside a.image.now a.end_of_file a.room a.at a.count a.blocks.now h.size h.head h.address _ c.enter.new.blocks _ behind
+    c.enter-2.ensures.entered _ c.in_ok-with_segment.ensures.value in
     record {
       walked = returned
-          (segment-entered a.image.now a.end_of_file a.room a.at a.count a.blocks.now f.size f.head f.address
-          c.in-Entered.with_header e.new.blocks g.new.blocks s g.ensures.entered c.in-Entered-enter.with_segment p);
-      opened_inside = record { image = omega (arith, i, c.requires.end_of_file_in_bounds); file = i };
+          (segment-entered a.image.now a.end_of_file a.room a.at a.count a.blocks.now h.size h.head h.address _ c.enter.new.blocks _ behind
+          c.enter-2.ensures.entered _ c.in_ok-with_segment.ensures.value);
+      opened_inside = record { image = omega (arith, inside, c.requires.end_of_file_in_bounds); file = inside };
     }
