@@ -18,11 +18,6 @@ use Rattle.block_index.specs.Index.{places_for}
 use Rattle.block_index.proofs.IndexLaws.{indexed-none}
 use Rattle.walk.specs.Lent.{blocks_of, places_of, work_words, Lent, entering}
 
--- the words cleared so far, behind those that stay, and one more
-pub zeros-more : (p ws : List ℕ) (i n : ℕ) → i < length ws → take i ws ≡ p ++ replicate n 0 → take (i + 1) (set ws i 0) ≡ p ++ replicate (n + 1) 0
-zeros-more p ws i n h e =
-    rw (add-one i, take-suc-set ws i 0 h, e, append_assoc p (replicate n 0) (0 ∷ [])) (ap (λ (z : List ℕ). p ++ z) (replicate-append-replicate n 1 0))
-
 -- the room that so many words give
 pub room-is : (words : ℕ) → room_of words ≡ min blocks_most (words / 4)
 unfolding room_of
