@@ -1,13 +1,13 @@
 -- Laws of the lent list of words, of the blocks that it holds, and of entering one.
 use mathlib.Core.Path.{◌≡◌, refl, ap, ◌∙◌}
 use mathlib.Core.Bool.{Bool, true, false}
-use mathlib.Core.List.{List, [], ◌∷◌, ◌++◌, append_assoc}
+use mathlib.Core.List.{List, [], ◌∷◌, ◌++◌}
 use Prim.Native.Nat.{ℕ, suc, zero, ◌+◌, ◌-◌, ◌*◌, ◌/◌, ◌≤◌, ◌<◌, min}
 use native.Mathlib.Omega.{arith}
 use native.Mathlib.Numerals.{add-one}
 use borrow.Author.Tests.{lt-ltb, le-ltb, le-leb, lt-leb, ltb-true, leb-true}
-use lib.ListN.{length, take, drop, get_or, set, replicate, replicate-append-replicate}
-use lib.Seq.{get_or-drop, take-suc-set}
+use lib.ListN.{length, take, drop, get_or, replicate}
+use lib.Seq.{get_or-drop}
 use lib.Dec.{leb, ltb}
 use Rattle.format.specs.Limits.{blocks_most}
 use Rattle.std.specs.Prelude.{if◌then◌else◌, Ok, Err}
