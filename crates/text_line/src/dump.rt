@@ -8,10 +8,6 @@ const HALF: usize = 8;
 
 const ROWS_MOST: usize = 4;
 
-fn wide(byte: u8) -> u64 {
-    byte as u64
-}
-
 // Writes what stands before the digits of byte number `i`.
 fn put_gap(out: &mut [u8], at: usize, i: usize) -> usize {
     if i % HALF == 0 {
@@ -23,52 +19,37 @@ fn put_gap(out: &mut [u8], at: usize, i: usize) -> usize {
 // Writes the digits of byte number `i`. A short last line has spaces in their place.
 fn put_digits(out: &mut [u8], at: usize, row: &[u8], i: usize) -> usize {
     if i < row.len() {
-        return put_hex(out, at, wide(row[i]), 2);
+        return put_hex(out, at, u64::from(row[i]), 2);
     }
     put_text(out, at, b"  ")
 }
 
 fn put_bytes(out: &mut [u8], at: usize, row: &[u8]) -> usize {
     let mut place = at;
-    let mut i: usize = 0;
-    while i < ROW {
+    for i in 0..ROW {
         place = put_gap(out, place, i);
         place = put_digits(out, place, row, i);
-        i += 1;
     }
     place
 }
 
 // The byte as a character, and a point for a byte that is none.
 fn printable(byte: u8) -> u8 {
-    if byte < 0x20 {
-        return b'.';
+    match byte {
+        0x20..=0x7e => byte,
+        _ => b'.',
     }
-    if 0x7e < byte {
-        return b'.';
-    }
-    byte
-}
-
-// Writes byte number `i` as a character. A short last line has nothing in its place.
-fn put_character(out: &mut [u8], at: usize, row: &[u8], i: usize) -> usize {
-    if i < row.len() {
-        return put_byte(out, at, printable(row[i]));
-    }
-    at
 }
 
 fn put_characters(out: &mut [u8], at: usize, row: &[u8]) -> usize {
     let mut place = at;
-    let mut i: usize = 0;
-    while i < ROW {
-        place = put_character(out, place, row, i);
-        i += 1;
+    for byte in row {
+        place = put_byte(out, place, printable(*byte));
     }
     place
 }
 
-// Writes the line of the first 16 bytes of `row`, which stands at `from` in the image. An input is short enough for 8 digits.
+// Writes the line of the 16 bytes of `row`, or of the fewer of the last line, which stand at `from` in the image. An input is short enough for 8 digits.
 fn put_row(out: &mut [u8], at: usize, from: usize, row: &[u8]) -> usize {
     let place = put_hex(out, at, from as u64, 8);
     let place = put_bytes(out, place, row);
@@ -82,16 +63,10 @@ pub fn put_rows(out: &mut [u8], at: usize, image: &[u8], place: u64) -> usize {
     if image.len() as u64 <= place {
         return at;
     }
-    let mut from = place as usize / ROW * ROW;
+    let from = place as usize / ROW * ROW;
     let mut end = at;
-    let mut rows: usize = 0;
-    while rows < ROWS_MOST {
-        end = put_row(out, end, from, &image[from..]);
-        if image.len() - from <= ROW {
-            return end;
-        }
-        from += ROW;
-        rows += 1;
+    for (i, row) in image[from..].chunks(ROW).take(ROWS_MOST).enumerate() {
+        end = put_row(out, end, from + i * ROW, row);
     }
     end
 }

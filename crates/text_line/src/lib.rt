@@ -14,10 +14,8 @@ pub fn put_byte(out: &mut [u8], at: usize, byte: u8) -> usize {
 
 pub fn put_text(out: &mut [u8], at: usize, text: &[u8]) -> usize {
     let mut place = at;
-    let mut i: usize = 0;
-    while i < text.len() {
-        place = put_byte(out, place, text[i]);
-        i += 1;
+    for byte in text {
+        place = put_byte(out, place, *byte);
     }
     place
 }
