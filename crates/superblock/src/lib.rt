@@ -147,7 +147,11 @@ pub fn open(image: &[u8]) -> Result<Superblock, u8>
 
 // Enters the superblock as the first block of a list. No byte of the image is read for it, so that the run is the same on
 // every image.
-pub fn enter_superblock(superblock: Superblock, blocks: &mut [u64], room: usize) -> Result<usize, Refusal>
+pub fn enter_superblock(
+    superblock: Superblock,
+    blocks: &mut [u64],
+    room: usize,
+) -> Result<usize, Refusal>
     requires { Lent blocks.old 0 room }
     ensures { (im : List ℕ) → Walked blocks.old blocks.new (entry_end result)
         (run im superblock.end_of_file room (superblock_walk (superblock_of superblock)) []) }
