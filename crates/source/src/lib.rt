@@ -8,8 +8,6 @@ use std::fs::File;
 use std::io::{Error, ErrorKind, Read, Write};
 use std::str;
 
-pub mod kept;
-
 // What is to be read.
 #[derive(Drop)]
 pub enum Opened {
