@@ -3,7 +3,7 @@ ghost use Rattle.std.specs.Prelude.{ℕ, ◌+◌, ◌^◌, ◌<◌, ◌≤◌, l
 ghost use Rattle.walk.specs.Lent.{places_of};
 
 use block_index::index::find;
-use walk::blocks::{Entry, enter, places};
+use walk::blocks::{enter, places};
 use walk::kinds;
 
 // How many blocks were entered, and with how many others one of them was compared at most.
@@ -45,13 +45,13 @@ pub fn compare(work: &mut [u64], addresses: &[u64], size: u64, end_of_file: u64)
         }
         let found = find(work, count, at, size);
         match enter(end_of_file, work, count, room, kinds::DATA, at, size) {
-            Entry::Refused(_) => {
+            Err(_) => {
                 return Compared {
                     entered: count,
                     most,
                 };
             }
-            Entry::Entered(n) => {
+            Ok(n) => {
                 most = larger(most, found.tests);
                 count = n;
             }

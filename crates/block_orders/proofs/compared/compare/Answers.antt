@@ -25,21 +25,21 @@ find-found-requires c =
       size_bound = omega arith;
     }
 
-pub returns-in-Refused : goal.returns-in-Refused
-returns-in-Refused c =
+pub returns-in-Err : goal.returns-in-Err
+returns-in-Err c =
     let l = c.loop-count in
     λ m h. l.invariant.3 m (rw l.invariant.1 h)
 
 pub loop-count-smaller : goal.loop-count-smaller
 loop-count-smaller c =
     let e = c.enter.ensures in
-    let l = entered-lent _ _ _ _ _ _ c.loop-count.work c.enter.new.blocks c.in-Entered.n c.loop-count.invariant.0 e.entered (sym c.in-Entered.is ∙ e.value) in
+    let l = entered-lent _ _ _ _ _ _ c.loop-count.work c.enter.new.blocks c.in-Ok.n c.loop-count.invariant.0 e.entered (sym c.in-Ok.is ∙ e.value) in
     omega (arith, l.1, l.0.counted)
 
 pub loop-count-preserved : goal.loop-count-preserved
 loop-count-preserved c =
     let e = c.enter.ensures in
-    let l = entered-lent _ _ _ _ _ _ c.loop-count.work c.enter.new.blocks c.in-Entered.n c.loop-count.invariant.0 e.entered (sym c.in-Entered.is ∙ e.value) in
+    let l = entered-lent _ _ _ _ _ _ c.loop-count.work c.enter.new.blocks c.in-Ok.n c.loop-count.invariant.0 e.entered (sym c.in-Ok.is ∙ e.value) in
     let t = c.loop-count in (
       l.0,
       t.invariant.1,
