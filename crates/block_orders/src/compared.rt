@@ -13,52 +13,26 @@ pub struct Compared {
     pub most: usize,
 }
 
-fn larger(a: usize, b: usize) -> usize
-    ensures { (a ≤ result) × (b ≤ result) × ((n : ℕ) → a ≤ n → b ≤ n → result ≤ n) }
-{
-    if a < b {
-        return b;
-    }
-    a
-}
-
 // Enters blocks of `size` bytes at these addresses into a working list, up to the first that can't be entered.
 pub fn compare(work: &mut [u64], addresses: &[u64], size: u64, end_of_file: u64) -> Compared
     ensures { (m : ℕ) → places_of (length work.old) < 2 ^ m → result.most ≤ m + 10 }
 {
     let room = places(work.len());
-    let mut count = 0;
-    let mut most = 0;
-    while count < addresses.len() {
-        let at = addresses[count];
-        if end_of_file < at {
-            return Compared {
-                entered: count,
-                most,
-            };
+    let mut entered: usize = 0;
+    let mut most: usize = 0;
+    for at in addresses {
+        let at = *at;
+        if end_of_file < at || end_of_file - at < size {
+            break;
         }
-        if end_of_file - at < size {
-            return Compared {
-                entered: count,
-                most,
-            };
-        }
-        let found = find(work, count, at, size);
-        match enter(end_of_file, work, count, room, kinds::DATA, at, size) {
-            Err(_) => {
-                return Compared {
-                    entered: count,
-                    most,
-                };
-            }
-            Ok(n) => {
-                most = larger(most, found.tests);
-                count = n;
+        let found = find(work, entered, at, size);
+        match enter(end_of_file, work, entered, room, kinds::DATA, at, size) {
+            Err(_) => break,
+            Ok(count) => {
+                most = most.max(found.tests);
+                entered = count;
             }
         }
     }
-    Compared {
-        entered: count,
-        most,
-    }
+    Compared { entered, most }
 }
