@@ -13,6 +13,13 @@ pub struct Compared {
     pub most: usize,
 }
 
+// The contract of `compare` bounds the highest number from above alone: that it is the highest is said here.
+fn larger(a: usize, b: usize) -> usize
+    ensures { (a ≤ result) × (b ≤ result) × ((n : ℕ) → a ≤ n → b ≤ n → result ≤ n) }
+{
+    a.max(b)
+}
+
 // Enters blocks of `size` bytes at these addresses into a working list, up to the first that can't be entered.
 pub fn compare(work: &mut [u64], addresses: &[u64], size: u64, end_of_file: u64) -> Compared
     ensures { (m : ℕ) → places_of (length work.old) < 2 ^ m → result.most ≤ m + 10 }
@@ -29,7 +36,7 @@ pub fn compare(work: &mut [u64], addresses: &[u64], size: u64, end_of_file: u64)
         match enter(end_of_file, work, entered, room, kinds::DATA, at, size) {
             Err(_) => break,
             Ok(count) => {
-                most = most.max(found.tests);
+                most = larger(most, found.tests);
                 entered = count;
             }
         }

@@ -15,5 +15,5 @@ loop-at-preserved c =
     record {
       lent = l.0;
       room_is = t.invariant.room_is;
-      few = λ m h. omega (arith, t.invariant.few m h, few-less _ t.entered _ t.invariant.lent.counted c.find-found.ensures.tests m h, c.max-most.ensures);
+      few = λ m h. c.larger-most.ensures.2 (m + 10) (t.invariant.few m h) (few-less _ t.entered _ t.invariant.lent.counted c.find-found.ensures.tests m h);
     }
