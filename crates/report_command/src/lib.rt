@@ -43,8 +43,8 @@ pub fn start(rt: &HostRuntime) {
     let source = source::open(rt, &mut path, "usage: h5report [FILE]");
     let named = source.named;
     match source.opened {
-        Opened::Nothing => {}
-        Opened::Input => run(rt, rt.stdin(), &path[..named]),
-        Opened::File(file) => run(rt, file, &path[..named]),
+        None => {}
+        Some(Opened::Input) => run(rt, rt.stdin(), &path[..named]),
+        Some(Opened::File(file)) => run(rt, file, &path[..named]),
     }
 }
