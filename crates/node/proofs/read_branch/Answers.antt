@@ -20,14 +20,16 @@ returns-in_err-node c =
 pub returns-then-own-level : goal.returns-then-own-level
 returns-then-own-level c =
     record {
-      walked = λ h e. own-level-wrong c.args.image.now _ _ _ _ _ _ _ h c.requires.lent _ _ c.read_node.auto.list c.in_ok-node.ensures.walked _ c.in_ok-node.ensures.fields.1 c.if-own-level.true;
+      walked = λ h e. own-level-wrong c.args.image.now _ _ _ _ _ _ _ h c.requires.lent _ _ c.read_node.auto.list
+          c.in_ok-node.ensures.walked _ c.in_ok-node.ensures.fields.1 c.if-own-level.true;
       fields = tt;
     }
 
 pub returns-then-entries-lt-FEWEST : goal.returns-then-entries-lt-FEWEST
 returns-then-entries-lt-FEWEST c =
     record {
-      walked = λ h e. empty-node c.args.image.now _ _ _ _ _ _ _ h c.requires.lent _ _ c.read_node.auto.list c.in_ok-node.ensures.walked _ c.in_ok-node.ensures.fields.1
+      walked = λ h e. empty-node c.args.image.now _ _ _ _ _ _ _ h c.requires.lent _ _ c.read_node.auto.list
+          c.in_ok-node.ensures.walked _ c.in_ok-node.ensures.fields.1
           c.if-own-level.false _ c.in_ok-node.ensures.fields.2 c.if-entries-lt-FEWEST.true;
       fields = tt;
     }
@@ -37,7 +39,8 @@ returns-in_err-check_keys c =
     let p = err_from_is_err_and c.from_residual-in_err-check_keys.result c.from_residual-in_err-check_keys.ensures.1 in
     let f = c.in_ok-node.ensures.fields in
     rw (p.1, p.2) (record {
-      walked = λ h e. keys-wrong c.args.image.now _ _ _ _ _ _ _ h c.requires.lent _ _ c.read_node.auto.list c.in_ok-node.ensures.walked _ c.in_ok-node.ensures.fields.1
+      walked = λ h e. keys-wrong c.args.image.now _ _ _ _ _ _ _ h c.requires.lent _ _ c.read_node.auto.list
+          c.in_ok-node.ensures.walked _ c.in_ok-node.ensures.fields.1
           c.if-own-level.false _ f.2 c.if-entries-lt-FEWEST.false _
           (c.in_err-check_keys.ensures h (8 + 32 * c.args.group.internal_k) e (omega (arith, f.3)) (omega (arith, f.0)));
       fields = tt;
@@ -48,7 +51,8 @@ returns c =
     let f = c.in_ok-node.ensures.fields in
     let k = 8 + 32 * c.args.group.internal_k in
     record {
-      walked = λ h e. branch_read c.args.image.now _ _ _ _ _ _ _ h c.requires.lent _ _ c.read_node.auto.list c.in_ok-node.ensures.walked _ c.in_ok-node.ensures.fields.1
+      walked = λ h e. branch_read c.args.image.now _ _ _ _ _ _ _ h c.requires.lent _ _ c.read_node.auto.list
+          c.in_ok-node.ensures.walked _ c.in_ok-node.ensures.fields.1
           c.if-own-level.false _ f.2 c.if-entries-lt-FEWEST.false (c.in_ok-check_keys.ensures h k e (omega (arith, f.3)) (omega (arith, f.0)));
       fields = (
         f.0,
