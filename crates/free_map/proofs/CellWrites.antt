@@ -1,28 +1,12 @@
 -- Cells that are written: a run of whole ones, and those of a free block.
 use Prim.Native.Nat.{ℕ, ◌+◌, ◌*◌, ◌-◌, ◌/◌, ◌%◌, ◌≤◌, ◌<◌}
 use mathlib.Core.List.{List}
-use mathlib.Core.Logic.{⊎_elim}
-use mathlib.Core.Path.{◌≡◌, refl, ap, ◌∙◌}
-use native.Mathlib.Nat.{eq-or-lt_of_le}
+use mathlib.Core.Path.{◌≡◌, ap, ◌∙◌}
 use native.Mathlib.Omega.{arith}
 use lib.ListN.{length, get_or, set, length-set}
 use lib.Seq.{get_or-set_same, get_or-set_other}
 use Rattle.free_map.specs.FreeMap.{free_start, free_end}
 use Rattle.free_map.specs.Cells.{joined_cell, Filled}
-
--- no cells, and one more
-pub filled_none : (map : List ℕ) (from : ℕ) → Filled map from from map
-filled_none map from = record { whole = λ k h l. absurd (omega arith); below = λ k h. refl; above = λ k h. refl; long = refl }
-
-pub filled_more : {map map' : List ℕ} {from c : ℕ} → Filled map from c map' → from ≤ c → c < length map' → Filled map from (c + 1) (set map' c 16)
-filled_more {map} {map'} {from} {c} f h l = record {
-  whole = λ k p q.
-      ⊎_elim (λ e. rw e (get_or-set_same map' c 16 0 l)) (λ r. get_or-set_other map' c k 16 0 (λ e. omega arith) ∙ f.whole k p r)
-      (eq-or-lt_of_le {n = k} {m = c} (omega arith));
-  below = λ k p. get_or-set_other map' c k 16 0 (λ e. omega arith) ∙ f.below k p;
-  above = λ k p. get_or-set_other map' c k 16 0 (λ e. omega arith) ∙ f.above k (omega arith);
-  long = length-set map' c 16 ∙ f.long;
-}
 
 -- the cells of a map after the block at off was made free
 pub record Written (map : List ℕ) (off size : ℕ) (map' : List ℕ) : Type 0 where

@@ -45,11 +45,7 @@ fn free_whole(map: &mut [u8], from: usize, end: usize)
     requires end_in_bounds { end ≤ length map.old }
     ensures { Filled map.old from end map.new }
 {
-    let mut c = from;
-    while c < end {
-        map[c] = 16;
-        c += 1;
-    }
+    map[from..end].fill(16);
 }
 
 // Makes the `size` bytes at `off` free, none of which is.

@@ -63,14 +63,12 @@ pub fn meets(map: &[u8], off: usize, size: usize) -> bool
 {
     let last = off + size - 1;
     let last_cell = last / 16;
-    let mut c = off / 16;
     let mut from = off % 16;
-    while c < last_cell {
+    for c in off / 16..last_cell {
         if cell_meets(cell(map, c), from, 16) {
             return true;
         }
-        c += 1;
         from = 0;
     }
-    cell_meets(cell(map, c), from, last % 16 + 1)
+    cell_meets(cell(map, last_cell), from, last % 16 + 1)
 }

@@ -55,20 +55,6 @@ pub empty-law : (l : Ledger) → Empty l → counted_of l ≡ []
 unfolding counted_places
 empty-law l e = rw e.none
 
--- no address is copied yet; then one more
-pub copied_none : (xs ys : List ℕ) → Copied xs ys 0 ys
-copied_none xs ys = record { copied = λ k h. absurd (omega arith); rest = λ k h. refl; long = refl }
-
-pub copied_more : (xs ys ys' : List ℕ) (i : ℕ) → Copied xs ys i ys' → i < length ys → Copied xs ys (i + 1) (set ys' i (get_or xs i 0))
-copied_more xs ys ys' i c h = record {
-  copied = below_more _ i (λ k m. get_or-set_other ys' i k _ 0 (λ e. omega (arith, e)) ∙ c.copied k m) (get_or-set_same ys' i _ 0 (omega (arith, c.long)));
-  rest = λ k m. get_or-set_other ys' i k _ 0 (λ e. omega (arith, e)) ∙ c.rest k (omega arith);
-  long = length-set ys' i _ ∙ c.long;
-}
-
-pub copied_all : (xs ys ys' : List ℕ) (i n : ℕ) → Copied xs ys i ys' → i ≡ n → Copied xs ys n ys'
-copied_all xs ys ys' i n c e = subst (λ (k : ℕ). Copied xs ys k ys') e c
-
 -- the objects are the same with the addresses copied, and the counts can be read by these
 pub counted-copied : (xs ss ts ys ys' : List ℕ) (n : ℕ) → Copied xs ys n ys' → counted_places n ys' ss ts ≡ counted_places n xs ss ts
 counted-copied xs ss ts ys ys' n c = counted_same n xs ys' ss ts c.copied

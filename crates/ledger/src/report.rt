@@ -35,11 +35,7 @@ pub fn copy_addresses(table: &[u64], addresses: &mut [u64], objects: usize)
     requires objects_in_bounds_2 { objects ≤ length addresses.old }
     ensures { Copied table.now addresses.old objects addresses.new }
 {
-    let mut i = 0;
-    while i < objects {
-        addresses[i] = table[i];
-        i += 1;
-    }
+    addresses[..objects].copy_from_slice(&table[..objects]);
 }
 
 // Reads the stored count of each object, 4 bytes behind its address.
@@ -48,10 +44,8 @@ pub fn read_stored(image: &[u8], addresses: &[u64], stored: &mut [u32], objects:
     requires objects_in_bounds { objects ≤ length stored.old }
     ensures { StoredRead image.now addresses.now objects stored.old stored.new }
 {
-    let mut i: usize = 0;
-    while i < objects {
+    for i in 0..objects {
         let at = addresses[i] as usize;
         stored[i] = u32_at(image, at + 4) as u32;
-        i += 1;
     }
 }

@@ -12,11 +12,9 @@ pub fn insert(words: &mut [u64], base: usize, count: usize, place: usize, value:
     requires place_le_count { place ≤ count }
     ensures { Inserted words.old base count place value words.new }
 {
-    let mut i = base + count;
     let first = base + place;
-    while first < i {
-        words[i] = words[i - 1];
-        i -= 1;
+    for i in (first..base + count).rev() {
+        words[i + 1] = words[i];
     }
     words[first] = value;
 }
@@ -27,9 +25,7 @@ fn raise(words: &mut [u64], first: usize, last: usize, by: usize)
     requires by_in_bounds { last + by ≤ length words.old }
     ensures { Raised words.old first last by words.new }
 {
-    let mut i = last;
-    while first < i {
-        i -= 1;
+    for i in (first..last).rev() {
         words[i + by] = words[i];
     }
 }

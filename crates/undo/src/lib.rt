@@ -23,15 +23,6 @@ pub struct Undone {
     pub writes: u64,
 }
 
-fn lesser(a: u64, b: u64) -> u64
-    ensures { result ≡ min a b }
-{
-    if a < b {
-        return a;
-    }
-    b
-}
-
 // Whether an entry's field is inside the image and holds the old or the new count.
 fn fits(image: &[u8], field: u64, word: u64) -> bool
     requires { 4 ≤ length image.now }
@@ -53,14 +44,12 @@ fn all_fit(image: &[u8], log: &[u8], entries: usize) -> bool
     requires entries_in_bounds { 16 * entries ≤ length log.now }
     ensures { result ≡ all_fit image.now (changes entries (words_of log.now)) }
 {
-    let mut i = 0;
-    while i < entries {
+    for i in 0..entries {
         let field = u64_at(log, ENTRY_BYTES * i);
         let word = u64_at(log, ENTRY_BYTES * i + 8);
         if !fits(image, field, word) {
             return false;
         }
-        i += 1;
     }
     true
 }
@@ -72,10 +61,7 @@ fn restore(image: &mut [u8], log: &[u8], entries: usize, writes: usize)
     requires log_value { all_fit image.old (changes entries (words_of log.now)) ≡ true }
     ensures { image.new ≡ restored image.old (drop (entries - writes) (changes entries (words_of log.now))) }
 {
-    let first = entries - writes;
-    let mut i = entries;
-    while first < i {
-        i -= 1;
+    for i in (entries - writes..entries).rev() {
         let field = u64_at(log, ENTRY_BYTES * i);
         let old = u64_at(log, ENTRY_BYTES * i + 8) / OLD_UNIT;
         put_u32(image, field as usize, old as u32);
@@ -115,7 +101,7 @@ pub fn undo(image: &mut [u8], log: &[u8], entries: u64, limit: u64) -> Undone
             writes: 0,
         };
     }
-    let writes = lesser(limit, entries);
+    let writes = limit.min(entries);
     restore(image, log, entries as usize, writes as usize);
     Undone {
         number: answers::DONE,

@@ -17,14 +17,11 @@ pub fn wrong(ledger: Ledger) -> usize
     requires { ledger.objects ≤ objects_most }
     ensures { WrongCounts ledger result }
 {
-    let objects = ledger.objects;
     let mut n: usize = 0;
-    let mut i: usize = 0;
-    while i < objects {
+    for i in 0..ledger.objects {
         if ledger.stored[i] != ledger.true_counts[i] {
             n += 1;
         }
-        i += 1;
     }
     n
 }
@@ -53,10 +50,8 @@ pub fn write_log(log: &mut [u64], ledger: Ledger)
     ensures log_after { log.new ≡ padded (length log.old) (log_words (corrections (counted_of ledger))) }
     ensures news_fit { NewsFit (corrections (counted_of ledger)) }
 {
-    let objects = ledger.objects;
     let mut n: usize = 0;
-    let mut i: usize = 0;
-    while i < objects {
+    for i in 0..ledger.objects {
         n = put_entry(
             log,
             n,
@@ -64,7 +59,6 @@ pub fn write_log(log: &mut [u64], ledger: Ledger)
             ledger.stored[i],
             ledger.true_counts[i],
         );
-        i += 1;
     }
     let used = n + n;
     blocks::clear_from(log, used);
@@ -76,11 +70,9 @@ pub fn perform(image: &mut [u8], log: &[u64], entries: usize)
     requires fields_inside { FieldsInside (length image.old) entries log.now }
     ensures { image.new ≡ written image.old (changes entries log.now) }
 {
-    let mut i: usize = 0;
-    while i < entries {
+    for i in 0..entries {
         let field = log[i + i] as usize;
         let counts = log[i + i + 1];
         numbers::put_u32(image, field, (counts % 4294967296) as u32);
-        i += 1;
     }
 }

@@ -1,13 +1,13 @@
 -- Laws of the lent list of words, of the blocks that it holds, and of entering one.
 use mathlib.Core.Path.{◌≡◌, refl, ap, ◌∙◌}
 use mathlib.Core.Bool.{Bool, true, false}
-use mathlib.Core.List.{List, [], ◌∷◌, ◌++◌, append_assoc}
+use mathlib.Core.List.{List, [], ◌∷◌, ◌++◌}
 use Prim.Native.Nat.{ℕ, suc, zero, ◌+◌, ◌-◌, ◌*◌, ◌/◌, ◌≤◌, ◌<◌, min}
 use native.Mathlib.Omega.{arith}
 use native.Mathlib.Numerals.{add-one}
 use borrow.Author.Tests.{lt-ltb, le-ltb, le-leb, lt-leb, ltb-true, leb-true}
-use lib.ListN.{length, take, drop, get_or, set, replicate, replicate-append-replicate}
-use lib.Seq.{get_or-drop, take-suc-set}
+use lib.ListN.{length, take, drop, get_or, replicate}
+use lib.Seq.{get_or-drop}
 use lib.Dec.{leb, ltb}
 use Rattle.format.specs.Limits.{blocks_most}
 use Rattle.std.specs.Prelude.{if◌then◌else◌, Ok, Err}
@@ -17,11 +17,6 @@ use Rattle.format.specs.Walk.{not_entered}
 use Rattle.block_index.specs.Index.{places_for}
 use Rattle.block_index.proofs.IndexLaws.{indexed-none}
 use Rattle.walk.specs.Lent.{blocks_of, places_of, work_words, Lent, entering}
-
--- the words cleared so far, behind those that stay, and one more
-pub zeros-more : (p ws : List ℕ) (i n : ℕ) → i < length ws → take i ws ≡ p ++ replicate n 0 → take (i + 1) (set ws i 0) ≡ p ++ replicate (n + 1) 0
-zeros-more p ws i n h e =
-    rw (add-one i, take-suc-set ws i 0 h, e, append_assoc p (replicate n 0) (0 ∷ [])) (ap (λ (z : List ℕ). p ++ z) (replicate-append-replicate n 1 0))
 
 -- the room that so many words give
 pub room-is : (words : ℕ) → room_of words ≡ min blocks_most (words / 4)

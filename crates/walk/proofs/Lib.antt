@@ -1,7 +1,6 @@
 pub mod LittleEndian
 pub mod Overwrite
 pub mod BlockList
-pub mod Copied
 pub mod Handed
 pub mod Verdict
 pub mod Owners

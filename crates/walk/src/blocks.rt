@@ -17,21 +17,13 @@ pub fn clear_from(words: &mut [u64], from: usize)
     requires { from ≤ length words.old }
     ensures { words.new ≡ take from words.old ++ replicate (length words.old - from) 0 }
 {
-    let mut i = from;
-    while i < words.len() {
-        words[i] = 0;
-        i += 1;
-    }
+    words[from..].fill(0);
 }
 
 fn at_most(places: usize) -> usize
     ensures { result ≡ min blocks_most places }
 {
-    let limits = format::the_limits();
-    if limits.blocks_most <= places {
-        return limits.blocks_most;
-    }
-    places
+    format::the_limits().blocks_most.min(places)
 }
 
 // How many blocks a caller's list of so many words may hold.
@@ -65,11 +57,7 @@ pub fn hand_over(list: &mut [u64], work: &[u64], count: usize)
     ensures { list.new ≡ handed (length list.old) count work.now }
 {
     let used = 4 * count;
-    let mut i = 0;
-    while i < used {
-        list[i] = work[i];
-        i += 1;
-    }
+    list[..used].copy_from_slice(&work[..used]);
     clear_from(list, used);
 }
 

@@ -1,11 +1,11 @@
 -- Laws of words as bytes, and of a slice that begins with words.
 use mathlib.Core.Path.{◌≡◌, refl, sym, ap, ◌∙◌}
 use mathlib.Core.List.{List, [], ◌∷◌, ◌++◌, append_assoc, append-nil}
-use Prim.Native.Nat.{ℕ, zero, suc, ◌+◌, ◌-◌, ◌*◌, ◌/◌, ◌%◌, ◌≤◌, ◌<◌}
+use Prim.Native.Nat.{ℕ, zero, suc, ◌+◌, ◌-◌, ◌*◌, ◌≤◌, ◌<◌}
 use native.Mathlib.Omega.{arith}
 use native.Mathlib.Numerals.{add-one}
 use lib.ListN.{length, get_or, take, drop, set, replicate, length-append, length-replicate, replicate-append-replicate}
-use lib.Seq.{take-suc-set, take-suc, take_at, take_all, length-take-le}
+use lib.Seq.{take-suc, take_at, take_all, length-take-le}
 use Rattle.format.specs.Bytes.{to_bytes, overwrite, padded}
 use Rattle.format.specs.Front.{word_bytes, padded_bytes}
 use Rattle.walk.proofs.LittleEndian.{length-to_bytes}
@@ -18,40 +18,6 @@ overwrite-append b a [] ys = let e : a + 0 ≡ a = omega arith in rw e
 overwrite-append b a (x ∷ xs) ys =
     let e : a + 1 + length xs ≡ a + suc (length xs) = omega arith in
     overwrite-append (set b a x) (a + 1) xs ys ∙ rw e
-
--- the lowest byte, and what is above it, of a number with a multiple of 256 added
-low_byte : (x y k : ℕ) → x ≡ 256 * k + y → x % 256 ≡ y % 256
-low_byte x y k e = omega arith
-
-above-byte : (x y k : ℕ) → x ≡ 256 * k + y → x / 256 ≡ k + y / 256
-above-byte x y k e = omega arith
-
--- the bytes of a word are those of its lower half and then those of its upper half
-pub word-halves : (w : ℕ) → to_bytes 8 w ≡ to_bytes 4 (w % 4294967296) ++ to_bytes 4 (w / 4294967296)
-unfolding to_bytes
-word-halves w =
-    let r = w % 4294967296 in
-    let q = w / 4294967296 in
-    let e₀ : w ≡ 256 * (16777216 * q) + r = omega arith in
-    let e₁ : w / 256 ≡ 256 * (65536 * q) + r / 256 = omega (arith, above-byte w r (16777216 * q) e₀) in
-    let e₂ : w / 256 / 256 ≡ 256 * (256 * q) + r / 256 / 256 = omega (arith, above-byte (w / 256) (r / 256) (65536 * q) e₁) in
-    let e₃ : w / 256 / 256 / 256 ≡ 256 * q + r / 256 / 256 / 256 = omega (arith, above-byte (w / 256 / 256) (r / 256 / 256) (256 * q) e₂) in
-    let u : w / 256 / 256 / 256 / 256 ≡ q = omega arith in
-    rw (
-      u,
-      low_byte w r (16777216 * q) e₀,
-      low_byte (w / 256) (r / 256) (65536 * q) e₁,
-      low_byte (w / 256 / 256) (r / 256 / 256) (256 * q) e₂,
-      low_byte
-          (w / 256 / 256 / 256) (r / 256 / 256 / 256) q e₃,
-    )
-
--- the halves written one after the other
-pub word_write : (b b' b'' : List ℕ) (a w : ℕ) → b' ≡ overwrite b a (to_bytes 4 (w % 4294967296)) → b'' ≡ overwrite b' (a + 4) (to_bytes 4 (w / 4294967296)) →
-    b'' ≡ overwrite b a (to_bytes 8 w)
-word_write b b' b'' a w e f =
-    let n : length (to_bytes 4 (w % 4294967296)) ≡ 4 = length-to_bytes 4 (w % 4294967296) in
-    f ∙ rw (e, word-halves w, overwrite-append b a (to_bytes 4 (w % 4294967296)) (to_bytes 4 (w / 4294967296)), n)
 
 pub word_bytes-append : (xs ys : List ℕ) → word_bytes (xs ++ ys) ≡ word_bytes xs ++ word_bytes ys
 unfolding word_bytes
@@ -99,11 +65,6 @@ padded-zeros n k l =
     let e : k - 0 ≡ k = omega arith in
     let f : n - 0 ≡ n = omega arith in
     ap (λ (i : ℕ). padded_bytes n (replicate i 0)) (sym e) ∙ padded-twice n k [] (omega arith) l ∙ rw f
-
--- one byte more is cleared
-pub zeros-more : (p l : List ℕ) (i n : ℕ) → i < length l → take i l ≡ p ++ replicate n 0 → take (i + 1) (set l i 0) ≡ p ++ replicate (n + 1) 0
-zeros-more p l i n h e =
-    rw (add-one i, take-suc-set l i 0 h, e, append_assoc p (replicate n 0) (0 ∷ [])) (ap (λ (z : List ℕ). p ++ z) (replicate-append-replicate n 1 0))
 
 -- the bytes begin with the words
 pub record Begins (out ws : List ℕ) : Type 0 where

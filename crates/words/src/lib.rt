@@ -5,15 +5,12 @@ ghost use Rattle.std.specs.Prelude.{◌≡◌, ◌++◌, ◌+◌, ◌-◌, ◌*�
 ghost use Rattle.format.specs.Bytes.{to_bytes, overwrite};
 ghost use Rattle.format.specs.Front.{padded_bytes};
 
-use walk::numbers::put_u32;
-
 // Writes the 8 bytes of a word, the lowest first.
 pub fn put_word(out: &mut [u8], at: usize, w: u64)
     requires { at + 8 ≤ length out.old }
     ensures { out.new ≡ overwrite out.old at (to_bytes 8 w) }
 {
-    put_u32(out, at, (w % 4294967296) as u32);
-    put_u32(out, at + 4, (w / 4294967296) as u32);
+    out[at..at + 8].copy_from_slice(&w.to_le_bytes());
 }
 
 // Sets every byte from a place on to 0.
@@ -21,11 +18,7 @@ pub fn clear_from(out: &mut [u8], from: usize)
     requires { from ≤ length out.old }
     ensures { out.new ≡ take from out.old ++ replicate (length out.old - from) 0 }
 {
-    let mut i = from;
-    while i < out.len() {
-        out[i] = 0;
-        i += 1;
-    }
+    out[from..].fill(0);
 }
 
 // The words as bytes, and zeros behind them.
@@ -33,10 +26,8 @@ pub fn spill(words: &[u64], out: &mut [u8])
     requires { 8 * length words.now ≤ length out.old }
     ensures { out.new ≡ padded_bytes (length out.old) words.now }
 {
-    let mut i: usize = 0;
-    while i < words.len() {
-        put_word(out, 8 * i, words[i]);
-        i += 1;
+    for (i, word) in words.iter().enumerate() {
+        put_word(out, 8 * i, *word);
     }
-    clear_from(out, 8 * i);
+    clear_from(out, 8 * words.len());
 }

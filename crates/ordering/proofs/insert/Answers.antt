@@ -1,5 +1,5 @@
 -- The words from i on have moved.
-use Prim.Native.Nat.{◌+◌}
+use Prim.Native.Nat.{◌+◌, ◌-◌}
 use mathlib.Core.Path.{◌≡◌, refl}
 use Rattle.ordering.proofs.OrderLaws.{moved_none, moved_more, moved_in}
 use borrow.Author.Rules.{rules}
@@ -18,7 +18,8 @@ bounds-words-i-in-loop-i c = omega (arith, c.loop-i.invariant.2.long)
 pub loop-i-preserved : goal.loop-i-preserved
 loop-i-preserved c =
     let l = c.loop-i in
-    (omega arith, omega arith, moved_more _ l.words _ l.i (omega arith) (omega arith) l.invariant.2 (omega arith))
+    let e : l.i - 1 + 1 ≡ l.i = omega arith in
+    rw e (omega arith, omega arith, moved_more _ l.words _ l.i (omega arith) (omega arith) l.invariant.2 (omega arith))
 
 pub bounds-words-first : goal.bounds-words-first
 bounds-words-first c = omega (arith, c.loop-i.invariant.2.long)

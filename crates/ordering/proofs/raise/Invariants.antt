@@ -1,10 +1,7 @@
 -- The words from i on have moved up.
-use Prim.Native.Nat.{◌≤◌}
+use Rattle.std.proofs.Common.{◌≤◌}
 use Rattle.ordering.specs.Merge.{Raised}
 use Rattle.ordering.proofs.raise.Given as goal
 
 abbrev pub invariant-loop-i : goal.invariant-loop-i
 invariant-loop-i l = (l.first ≤ l.i) × (l.i ≤ l.last) × Raised l.initial.words l.i l.last l.by l.words
-
-abbrev pub decreases-loop-i : goal.decreases-loop-i
-decreases-loop-i l = l.i

@@ -1,5 +1,4 @@
 -- What the whole test finds is what is found from the ith entry on; each turn reads and settles one.
-use Prim.Native.Nat.{◌-◌, ◌≤◌}
 use mathlib.Core.Path.{◌≡◌}
 use lib.ListN.{drop}
 use Rattle.format.specs.Log.{changes}
@@ -9,7 +8,4 @@ use Rattle.undo.proofs.all_fit.Given as goal
 
 abbrev pub invariant-loop-i : goal.invariant-loop-i
 invariant-loop-i l =
-    (l.i ≤ l.entries) × (all_fit l.image (changes l.entries (words_of l.log)) ≡ all_fit l.image (drop l.i (changes l.entries (words_of l.log))))
-
-abbrev pub decreases-loop-i : goal.decreases-loop-i
-decreases-loop-i l = l.entries - l.i
+    all_fit l.image (changes l.entries (words_of l.log)) ≡ all_fit l.image (drop l.i (changes l.entries (words_of l.log)))

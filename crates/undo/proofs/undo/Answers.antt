@@ -19,7 +19,7 @@ restore-requires c =
     let a = s.args in
     let z = number-zero a.image.now (words_of a.log.now) a.entries (sym s.answer-number.ensures ∙ s.if-number-ne-DONE.false) in
     record {
-      writes_le_entries = omega (arith, c.lesser-writes.ensures);
+      writes_le_entries = omega (arith, c.min-writes.ensures);
       entries_in_bounds = omega (arith, z.0, length-words (length a.log.now / 8) a.log.now);
       log_value = z.1;
     }
@@ -29,4 +29,4 @@ returns c =
     let s = c in
     let a = s.args in
     undo-done a.image.now (words_of a.log.now) a.entries a.limit s.answer-number.ensures s.if-number-ne-DONE.false
-    c.lesser-writes.ensures c.restore.ensures
+    c.min-writes.ensures c.restore.ensures

@@ -7,7 +7,7 @@ use Rattle.undo_log.proofs.perform.Goals as goal
 
 pub loop-i-init : goal.loop-i-init
 unfolding written changes
-loop-i-init c = (omega arith, refl, refl)
+loop-i-init c = (refl, refl)
 
 pub put_u32-requires : goal.put_u32-requires
 put_u32-requires c =
@@ -19,10 +19,10 @@ loop-i-preserved c =
     let l = c.loop-i in
     let a = c.args in
     let p = c.put_u32.ensures in
-    (omega arith, omega arith, perform-more a.image.now _ a.log.now l.i (rw l.invariant.2 at p))
+    (omega arith, perform-more a.image.now _ a.log.now l.i (rw l.invariant.1 at p))
 
 pub returns : goal.returns
 returns c =
     let l = c.loop-i in
     let e : l.i ≡ c.args.entries = omega arith in
-    l.invariant.2 ∙ rw e
+    l.invariant.1 ∙ rw e

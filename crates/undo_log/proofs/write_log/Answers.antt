@@ -15,7 +15,7 @@ unfolding log_words
 loop-i-init c =
     let a = c.args.ledger in
     let z = wrong-none a.addresses a.stored a.true_counts in
-    (omega arith, refl, rw z, rw z, rw z tt)
+    (refl, rw z, rw z, rw z tt)
 
 pub offset_bounds-ledger-i : goal.offset_bounds-ledger-i
 unfolding objects_most
@@ -49,7 +49,7 @@ put_entry-n-requires c =
     let h : l.i < a.objects = c.loop-i-test.true in
     record {
       address_bound = p.counts_below l.i h;
-      true_count_in_bounds = room-more a.addresses a.stored a.true_counts l.i a.objects l.n (length l.log) h l.invariant.2 (omega arith);
+      true_count_in_bounds = room-more a.addresses a.stored a.true_counts l.i a.objects l.n (length l.log) h l.invariant.1 (omega arith);
     }
 
 pub loop-i-preserved : goal.loop-i-preserved
@@ -58,16 +58,16 @@ loop-i-preserved c =
     let a = c.args.ledger in
     let p = c.put_entry-n in
     let e = p.ensures in
-    let w = words_more a.addresses a.stored a.true_counts l.i l.n p.result l.log p.new.log l.invariant.2 l.invariant.3 e.value e.log_after
+    let w = words_more a.addresses a.stored a.true_counts l.i l.n p.result l.log p.new.log l.invariant.1 l.invariant.2 e.value e.log_after
     in
-    (omega arith, omega arith, w.0, w.1, news-more a.addresses a.stored a.true_counts l.i l.invariant.4 e.news_fit)
+    (omega arith, w.0, w.1, news-more a.addresses a.stored a.true_counts l.i l.invariant.3 e.news_fit)
 
 -- the entries have room
 behind : (c : After-loop-i) → c.loop-i.n + c.loop-i.n ≤ length c.args.log.now
 behind c =
     let l = c.loop-i in
     let a = c.args.ledger in
-    omega (arith, wrong-within a.addresses a.stored a.true_counts l.i a.objects l.invariant.0)
+    omega (arith, wrong-within a.addresses a.stored a.true_counts l.i a.objects (omega arith))
 
 pub overflow_add-used : goal.overflow_add-used
 overflow_add-used c = omega (arith, behind c)
@@ -80,11 +80,11 @@ returns c =
     let l = c.loop-i in
     let a = c.args.ledger in
     let e : l.i ≡ a.objects = omega arith in
-    let n = rw e at l.invariant.2 in
-    let words = rw e at l.invariant.3 in
+    let n = rw e at l.invariant.1 in
+    let words = rw e at l.invariant.2 in
     let cleared = c.clear_from.ensures in
-    let all = words-all a.addresses a.stored a.true_counts a.objects l.n _ l.log _ n words l.invariant.1 cleared in
+    let all = words-all a.addresses a.stored a.true_counts a.objects l.n _ l.log _ n words l.invariant.0 cleared in
     record {
       log_after = all;
-      news_fit = rw e at l.invariant.4;
+      news_fit = rw e at l.invariant.3;
     }

@@ -9,7 +9,7 @@ use Rattle.undo_log.proofs.wrong.Goals as goal
 use Rattle.undo_log.proofs.wrong.Goals.{then-ledger-i, else-ledger-i}
 
 pub loop-i-init : goal.loop-i-init
-loop-i-init c = (omega arith, omega arith, rw (wrong-none c.args.ledger.addresses))
+loop-i-init c = (omega arith, rw (wrong-none c.args.ledger.addresses))
 
 pub offset_bounds-ledger-i : goal.offset_bounds-ledger-i
 unfolding objects_most
@@ -33,12 +33,12 @@ loop-i-preserved c =
     let a = c.args.ledger in
     let m = length_more a.addresses a.stored a.true_counts l.i in
     elim c.if-ledger-i.branch [
-      | then-ledger-i w ↦ (omega arith, omega arith, omega (arith, m, ap length (correction-wrong (get_or a.addresses l.i 0) _ _ w.if-ledger-i.true)))
-      | else-ledger-i w ↦ (omega arith, omega arith, omega (arith, m, ap length (correction-right (get_or a.addresses l.i 0) _ _ w.if-ledger-i.false)))
+      | then-ledger-i w ↦ (omega arith, omega (arith, m, ap length (correction-wrong (get_or a.addresses l.i 0) _ _ w.if-ledger-i.true)))
+      | else-ledger-i w ↦ (omega arith, omega (arith, m, ap length (correction-right (get_or a.addresses l.i 0) _ _ w.if-ledger-i.false)))
     ]
 
 pub returns : goal.returns
 returns c =
     let l = c.loop-i in
     let e : l.i ≡ c.args.ledger.objects = omega arith in
-    record { wrong = l.invariant.2 ∙ rw e; most = omega arith }
+    record { wrong = l.invariant.1 ∙ rw e; most = omega arith }

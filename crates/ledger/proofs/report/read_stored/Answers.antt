@@ -4,7 +4,7 @@ use native.Mathlib.Omega.{arith}
 use Rattle.ledger.proofs.report.read_stored.Goals as goal
 
 pub loop-i-init : goal.loop-i-init
-loop-i-init c = (omega arith, stored-none _ _ _)
+loop-i-init c = stored-none _ _ _
 
 pub overflow_add-at : goal.overflow_add-at
 overflow_add-at c = omega (arith, c.requires.readable.inside c.loop-i.i c.loop-i-test.true)
@@ -15,9 +15,9 @@ u32_at-requires c = omega (arith, c.requires.readable.inside c.loop-i.i c.loop-i
 pub loop-i-preserved : goal.loop-i-preserved
 loop-i-preserved c =
     let l = c in
-    (omega arith, stored_more _ _ _ _ _ _ l.loop-i.invariant.1 (omega arith) c.u32_at.ensures)
+    stored_more _ _ _ _ _ _ l.loop-i.invariant (omega arith) c.u32_at.ensures
 
 pub returns : goal.returns
 returns c =
     let l = c.loop-i in
-    stored-all _ _ _ _ l.i _ l.invariant.1 (omega arith)
+    stored-all _ _ _ _ l.i _ l.invariant (omega arith)

@@ -1,10 +1,6 @@
 -- The counts before i are read; each turn reads one more.
-use Prim.Native.Nat.{◌-◌, ◌≤◌}
 use Rattle.ledger.specs.Report.{StoredRead}
 use Rattle.ledger.proofs.report.read_stored.Given as goal
 
 abbrev pub invariant-loop-i : goal.invariant-loop-i
-invariant-loop-i l = (l.i ≤ l.objects) × StoredRead l.image l.addresses l.i l.initial.stored l.stored
-
-abbrev pub decreases-loop-i : goal.decreases-loop-i
-decreases-loop-i l = l.objects - l.i
+invariant-loop-i l = StoredRead l.image l.addresses l.i l.initial.stored l.stored

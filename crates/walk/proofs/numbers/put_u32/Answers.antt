@@ -1,17 +1,9 @@
--- The four stores, in order, are the overwriting.
-use lib.ListN.{length-set}
-use Rattle.walk.proofs.Overwrite.{overwrite-four}
-use native.Mathlib.Omega.{arith}
+-- The four bytes are those of the number.
+use Rattle.std.proofs.Common.{◌∙◌, arith}
+use Rattle.walk.proofs.Overwrite.{put-bytes}
 use Rattle.walk.proofs.numbers.put_u32.Goals as goal
 
-pub bounds-out-at-2 : goal.bounds-out-at-2
-bounds-out-at-2 c = simp length-set (omega arith)
-
-pub bounds-out-at-3 : goal.bounds-out-at-3
-bounds-out-at-3 c = simp length-set (omega arith)
-
-pub bounds-out-at-4 : goal.bounds-out-at-4
-bounds-out-at-4 c = simp length-set (omega arith)
-
 pub returns : goal.returns
-returns c = overwrite-four c.args.out.now c.args.at c.args.x
+returns c =
+    let a = c.args in
+    put-bytes 4 a.out.now a.at _ a.x _ c.requires (omega arith) (c.copy_from_slice.ensures.after ∙ c.to_le_bytes.ensures)

@@ -1,7 +1,9 @@
--- Two numbers of half the width, one behind the other.
-use Rattle.walk.proofs.LittleEndian.{number-add}
-use native.Mathlib.Omega.{arith}
+-- The 8 bytes from the place on are those of the number.
+use Rattle.std.proofs.Common.{arith}
+use Rattle.walk.proofs.LittleEndian.{number-of-slice}
 use Rattle.walk.proofs.numbers.u64_at.Goals as goal
 
 pub returns : goal.returns
-returns c = number-add 4 4 c.u32_at.ensures c.u32_at-2.ensures (omega (arith, c.requires))
+returns c =
+    let chunk = rw c.unwrap.ensures at c.try_into.ensures.1 in
+    number-of-slice 7 c.args.s.now c.unwrap.result c.args.at _ (omega arith) chunk.same (omega arith) (c.from_le_bytes.ensures)
