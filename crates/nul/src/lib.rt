@@ -11,17 +11,15 @@ fn nul_near(segment: &[u8], off: usize, most: usize) -> usize
     requires { off ≤ length segment.now }
     ensures { NulWithin segment.now off most result }
 {
-    let mut i = off;
-    while i < segment.len() {
+    for i in off..segment.len() {
         if most <= i - off {
             return i;
         }
         if segment[i] == 0 {
             return i;
         }
-        i += 1;
     }
-    i
+    segment.len()
 }
 
 // The same, sixteen bytes at a time.
@@ -49,12 +47,10 @@ fn last_near(segment: &[u8], end: usize) -> usize
     requires none_from { NoneFrom segment.now end }
     ensures { LastNul segment.now result }
 {
-    let mut i = end;
-    while 0 < i {
-        if segment[i - 1] == 0 {
-            return i;
+    for i in (0..end).rev() {
+        if segment[i] == 0 {
+            return i + 1;
         }
-        i -= 1;
     }
     0
 }

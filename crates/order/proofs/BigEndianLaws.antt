@@ -1,5 +1,5 @@
 -- Big-endian numbers of one width are ordered as their bytes are.
-use Prim.Native.Nat.{ℕ, zero, suc, ◌+◌, ◌*◌, ◌^◌, ◌≤◌, ◌<◌}
+use Prim.Native.Nat.{ℕ, zero, suc, ◌+◌, ◌-◌, ◌*◌, ◌^◌, ◌≤◌, ◌<◌}
 use mathlib.Core.Bool.{Bool, true, false}
 use mathlib.Core.List.{List, [], ◌∷◌, ◌++◌}
 use mathlib.Core.Path.{◌≡◌, refl, ap, sym, ◌∙◌}
@@ -9,7 +9,8 @@ use borrow.Author.Tests.{ltb-true, ltb-false, lt-ltb, le-ltb}
 use lib.Dec.{ltb}
 use lib.Pow.{pow-add}
 use lib.ListN.{length, get_or, take, drop, length-append}
-use lib.Seq.{take-add, drop-drop, drop-cons, get_or-drop}
+use Rattle.std.specs.Int.{byte_worth, sum_through}
+use lib.Seq.{take_all, take-add, take-suc, drop-drop, drop-cons, get_or-drop}
 use Rattle.format.specs.Bytes.{part}
 use Rattle.format.specs.Names.{below}
 use Rattle.order.specs.BigEndian.{big_endian, BigEndian}
@@ -60,6 +61,34 @@ number-add m n {s} {at} {x} {y} p q h =
       value = rw (take-add, drop-drop, big_endian-append, e, ← p.value, ← q.value);
       bound = rw pow-add (omega (arith, q.bound, mul-le-mul_left (256 ^ n) p.bound));
     }
+
+-- what the library's byte i is worth
+worth : (i b : ℕ) → byte_worth i b ≡ 256 ^ i * b
+worth zero b = omega arith
+worth (suc i) b = omega arith
+
+-- its number of the first bytes of a list, with m bytes behind them
+sum-of-bytes : (n m : ℕ) (bs : List ℕ) → n < length bs → sum_through (λ i. byte_worth (m + n - i) (get_or bs i 0)) n ≡ 256 ^ m * big_endian (take (suc n) bs)
+unfolding big_endian
+sum-of-bytes zero m [] h = absurd (omega arith)
+sum-of-bytes zero m (b ∷ bs) h = let e : m + 0 - 0 ≡ m = omega arith in rw (e, worth m b) (omega arith)
+sum-of-bytes (suc n) m bs h =
+    let e : m + suc n ≡ suc m + n = omega arith in
+    let f : m + suc n - suc n ≡ m = omega arith in
+    let g = get_or bs (suc n) 0 in
+    let sum = ap (λ (t : ℕ). sum_through (λ i. byte_worth (t - i) (get_or bs i 0)) n) e ∙ sum-of-bytes n (suc m) bs (omega arith) in
+    rw (sum, f, worth m g, take-suc bs (suc n) 0 h, big_endian-append (take (suc n) bs) (g ∷ []), pow-suc 256 m) (omega arith)
+
+-- a number read from a slice of a list
+pub number-of-slice : (n : ℕ) (s bs : List ℕ) (at r : ℕ) → at + suc n ≤ length s → bs ≡ take (at + suc n - at) (drop at s) → r < 256 ^ suc n →
+    r ≡ sum_through (λ i. byte_worth (0 + n - i) (get_or bs i 0)) n → BigEndian s at (suc n) r
+number-of-slice n s bs at r h same bound is =
+    let e : at + suc n - at ≡ suc n = omega arith in
+    let p : bs ≡ part s at (suc n) = same ∙ ap (λ (k : ℕ). take k (drop at s)) e in
+    let l : length bs ≡ suc n = ap length p ∙ part-long s at (suc n) h in
+    let all : take (suc n) bs ≡ part s at (suc n) = take_all (suc n) bs (omega arith) ∙ p in
+    let sum = sum-of-bytes n 0 bs (omega arith) in
+    record { value = is ∙ sum ∙ rw all (omega arith); bound = bound }
 
 -- the larger digit makes the larger number
 higher : (w x y u v : ℕ) → u < w → x < y → w * x + u < w * y + v

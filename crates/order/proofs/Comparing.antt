@@ -1,12 +1,14 @@
--- The loops that compare bytes, before the ith byte: `whole` is what they will have found. One turn of each, by the ith bytes.
-use Prim.Native.Nat.{ℕ, ◌+◌, ◌≤◌, ◌<◌}
-use mathlib.Core.Bool.{Bool, true, false}
-use mathlib.Core.List.{List}
-use mathlib.Core.Path.{◌≡◌, refl, ap, sym, ◌∙◌}
-use native.Mathlib.Numerals.{add-one}
-use borrow.Author.Tests.{eq-eqb, ne_eqb}
-use lib.ListN.{length, get_or, drop, drop_of_length-le}
-use lib.Seq.{drop-cons}
+-- When lists hold the same bytes, and what the library's comparison and search find.
+use Prim.Native.Nat.{ℕ}
+use mathlib.Core.Bool.{Bool, true, false, ◌&&◌, ◌||◌}
+use mathlib.Core.List.{List, [], ◌∷◌}
+use mathlib.Core.Path.{◌≡◌, refl, ap, sym}
+use borrow.Author.Tests.{eqb-true, eqb-false}
+use lib.Dec.{eqb}
+use lib.ListN.{length, get_or}
+use lib.Pointwise.{pointwise}
+use Rattle.std.specs.List.{list_any}
+use Rattle.std.specs.Prelude.{if◌then◌else◌}
 use Rattle.format.specs.Bytes.{same_bytes, contains}
 use Rattle.order.proofs.OrderLaws.{same-equal}
 
@@ -26,28 +28,23 @@ same_at a b i h = go (same_bytes a b) refl
     go true p = absurd (h (ap (λ s. get_or s i 0) (same-equal a b p)))
     go false p = refl
 
-module _ (a b : List ℕ) (i : ℕ) (whole : Bool) (e : whole ≡ same_bytes (drop i a) (drop i b)) where
-  pub same-differ : i < length a → i < length b → (get_or a i 0 ≡ get_or b i 0 → ⊥) → false ≡ whole
-  unfolding same_bytes
-  same-differ h k l = sym (e ∙ rw (drop-cons a i 0 h, drop-cons b i 0 k, ne_eqb _ _ l))
+-- what the library's comparison of two lists finds
+pub pointwise-same : (a b : List ℕ) → pointwise eqb a b ≡ same_bytes a b
+unfolding same_bytes
+pointwise-same [] [] = refl
+pointwise-same [] (y ∷ ys) = refl
+pointwise-same (x ∷ xs) [] = refl
+pointwise-same (x ∷ xs) (y ∷ ys) = ap (λ (t : Bool). eqb x y && t) (pointwise-same xs ys)
 
-  pub same_next : i < length a → i < length b → get_or a i 0 ≡ get_or b i 0 → whole ≡ same_bytes (drop (i + 1) a) (drop (i + 1) b)
-  unfolding same_bytes
-  same_next h k l = e ∙ rw (drop-cons a i 0 h, drop-cons b i 0 k, add-one, eq-eqb _ _ l)
-
-  pub same_end : length a ≤ i → length b ≤ i → true ≡ whole
-  unfolding same_bytes
-  same_end h k = sym (e ∙ rw (drop_of_length-le a {i = i} h, drop_of_length-le b {i = i} k))
-
-module _ (x : ℕ) (s : List ℕ) (i : ℕ) (whole : Bool) (e : whole ≡ contains x (drop i s)) where
-  pub contains-here : i < length s → x ≡ get_or s i 0 → true ≡ whole
-  unfolding contains
-  contains-here h k = sym (e ∙ rw (drop-cons s i 0 h, eq-eqb _ _ k))
-
-  pub contains-next : i < length s → (x ≡ get_or s i 0 → ⊥) → whole ≡ contains x (drop (i + 1) s)
-  unfolding contains
-  contains-next h k = e ∙ rw (drop-cons s i 0 h, add-one, ne_eqb _ _ k)
-
-  pub contains-end : length s ≤ i → false ≡ whole
-  unfolding contains
-  contains-end h = sym (e ∙ rw (drop_of_length-le s {i = i} h))
+-- and what its search in a list finds
+pub any-contains : (x : ℕ) (s : List ℕ) → list_any (λ y. eqb y x) s ≡ contains x s
+unfolding contains
+any-contains x [] = refl
+any-contains x (y ∷ ys) = go (eqb y x) (eqb x y) refl refl (any-contains x ys)
+  where
+    go : (t u : Bool) → eqb y x ≡ t → eqb x y ≡ u → list_any (λ z. eqb z x) ys ≡ contains x ys →
+        (t || list_any (λ z. eqb z x) ys) ≡ (if u then true else contains x ys)
+    go true true p q r = refl
+    go true false p q r = absurd (eqb-false x y q (sym (eqb-true y x p)))
+    go false true p q r = absurd (eqb-false y x p (sym (eqb-true x y q)))
+    go false false p q r = r

@@ -5,7 +5,6 @@ use mathlib.Core.List.{List, [], ◌∷◌, ◌++◌}
 use mathlib.Core.Path.{◌≡◌, refl}
 use native.Mathlib.Omega.{arith}
 use native.Mathlib.Numerals.{add-one}
-use borrow.Author.Tests.{eq-eqb}
 use lib.Dec.{eqb}
 use lib.ListN.{length, get_or, drop, length-drop}
 use lib.Seq.{take-suc, get_or-drop}
@@ -19,11 +18,6 @@ module _ (a b : List ℕ) where
   pub below-behind-start : (p : List ℕ) → below (p ++ a) (p ++ b) ≡ below a b
   below-behind-start [] = refl
   below-behind-start (x ∷ p) = rw (below_rest x x (p ++ a) (p ++ b) refl, below-behind-start p)
-
-  pub same-behind-start : (p : List ℕ) → same_bytes (p ++ a) (p ++ b) ≡ same_bytes a b
-  unfolding same_bytes
-  same-behind-start [] = refl
-  same-behind-start (x ∷ p) = rw (eq-eqb x x refl, same-behind-start p)
 
 -- two strings in two parts each, the first of one length
 pub same_parts : (a b c d : List ℕ) → length a ≡ length b → same_bytes (a ++ c) (b ++ d) ≡ (same_bytes a b && same_bytes c d)

@@ -13,7 +13,7 @@ use Rattle.format.specs.Bytes.{part, same_bytes, contains}
 use Rattle.format.specs.Names.{below}
 use Rattle.order.specs.Same.{SameStart}
 use Rattle.order.proofs.OrderLaws.{same-equal}
-use Rattle.order.proofs.Parts.{below-behind-start, same-behind-start, same_parts, contains-parts, part-more}
+use Rattle.order.proofs.Parts.{below-behind-start, same_parts, contains-parts, part-more}
 
 -- how long a part is
 pub part-long : (s : List ℕ) (at n : ℕ) → at + n ≤ length s → length (part s at n) ≡ n
@@ -81,9 +81,6 @@ module _ (a b : List ℕ) (n : ℕ) (s : SameStart a b n) where
 
   pub below-behind : below a b ≡ below (drop n a) (drop n b)
   below-behind = cc (first, second, below-behind-start (drop n a) (drop n b) (take n a))
-
-  pub same-behind : same_bytes a b ≡ same_bytes (drop n a) (drop n b)
-  same-behind = cc (first, second, same-behind-start (drop n a) (drop n b) (take n a))
 
 -- sixteen bytes more that are searched
 module _ (x : ℕ) (s : List ℕ) (i : ℕ) (whole : Bool) (e : whole ≡ contains x (drop i s)) where

@@ -8,18 +8,17 @@ ghost use Rattle.format.specs.Names.{below};
 ghost use Rattle.order.specs.Same.{SameStart};
 ghost use Rattle.order.specs.BigEndian.{BigEndian, first_number};
 
-// Whether the 16 bytes at `at` are the same in both.
+// Whether the 16 bytes at `at` are the same in both. `==` of two slices leaves at the first four bytes that differ, and isn't compiled to one
+// comparison of vectors.
 fn same_16(a: &[u8], b: &[u8], at: usize) -> bool
     requires { (at + 16 ≤ length a.now) × (at + 16 ≤ length b.now) }
     ensures { result ≡ same_bytes (part a.now at 16) (part b.now at 16) }
 {
     let mut differ: u8 = 0;
-    let mut k: usize = 0;
-    while k < 16 {
+    for k in 0..16 {
         if a[at + k] != b[at + k] {
             differ = 1;
         }
-        k += 1;
     }
     differ == 0
 }
@@ -41,64 +40,12 @@ fn same_start(a: &[u8], b: &[u8]) -> usize
     i
 }
 
-// Whether the 8 bytes at `at` are the same in both.
-fn same_8(a: &[u8], b: &[u8], at: usize) -> bool
-    requires { (at + 8 ≤ length a.now) × (at + 8 ≤ length b.now) }
-    ensures { result ≡ same_bytes (part a.now at 8) (part b.now at 8) }
-{
-    let mut differ: u8 = 0;
-    let mut k: usize = 0;
-    while k < 8 {
-        if a[at + k] != b[at + k] {
-            differ = 1;
-        }
-        k += 1;
-    }
-    differ == 0
-}
-
-// So many bytes that both begin with, in whole eights.
-fn same_eights(a: &[u8], b: &[u8]) -> usize
-    ensures { SameStart a.now b.now result }
-{
-    let i = same_start(a, b);
-    if a.len() - i < 8 {
-        return i;
-    }
-    if b.len() - i < 8 {
-        return i;
-    }
-    if !same_8(a, b, i) {
-        return i;
-    }
-    i + 8
-}
-
-// The lesser of two numbers.
-pub fn lesser(m: usize, n: usize) -> usize
-    ensures { result ≡ min m n }
-{
-    if m < n {
-        return m;
-    }
-    n
-}
-
-// The big-endian number of the 2 bytes at `at`. Big-endian numbers of one width are ordered as their bytes are. Each is a sum of two halves, the lower
-// one first: so it is compiled to one load and one swap of bytes. With the higher one first, 8 bytes are 8 loads.
-fn two_at(s: &[u8], at: usize) -> u64
-    requires { at + 2 ≤ length s.now }
-    ensures { BigEndian s.now at 2 result }
-{
-    (s[at + 1] as u64) + 256 * (s[at] as u64)
-}
-
-// The same of 4 bytes.
+// The big-endian number of the 4 bytes at `at`. Big-endian numbers of one width are ordered as their bytes are.
 fn four_at(s: &[u8], at: usize) -> u64
     requires { at + 4 ≤ length s.now }
     ensures { BigEndian s.now at 4 result }
 {
-    two_at(s, at + 2) + 65536 * two_at(s, at)
+    u64::from(u32::from_be_bytes(s[at..at + 4].try_into().unwrap()))
 }
 
 // The same of 8 bytes.
@@ -106,7 +53,7 @@ fn eight_at(s: &[u8], at: usize) -> u64
     requires { at + 8 ≤ length s.now }
     ensures { BigEndian s.now at 8 result }
 {
-    four_at(s, at + 4) + 4294967296 * four_at(s, at)
+    u64::from_be_bytes(s[at..at + 8].try_into().unwrap())
 }
 
 // The byte behind the first `k` of `size` bytes at `at`; 0 if it isn't there.
@@ -126,10 +73,8 @@ fn first_number_slow(s: &[u8], at: usize, size: usize) -> u64
     ensures { result ≡ first_number 8 (part s.now at size) }
 {
     let mut x: u64 = 0;
-    let mut k: usize = 0;
-    while k < 8 {
+    for k in 0..8 {
         x = 256 * x + byte_or_zero(s, at, size, k);
-        k += 1;
     }
     x
 }
@@ -178,12 +123,10 @@ fn below_bytes(a: &[u8], b: &[u8], end: usize) -> bool
     requires { end ≡ min (length a.now) (length b.now) }
     ensures { result ≡ below a.now b.now }
 {
-    let mut i = 0;
-    while i < end {
+    for i in 0..end {
         if a[i] != b[i] {
             return a[i] < b[i];
         }
-        i += 1;
     }
     shorter(a, b)
 }
@@ -235,11 +178,11 @@ fn below_long(a: &[u8], b: &[u8], from: usize, end: usize) -> bool
     shorter(a, b)
 }
 
-// Whether the first is strictly below the second. A beginning is below the whole. Sixteens are passed only where there are two or more.
+// Whether the first is strictly below the second. A beginning is below the whole. `<` of two slices compares byte by byte. Sixteens are passed only where there are two or more.
 pub fn below(a: &[u8], b: &[u8]) -> bool
     ensures { result ≡ below a.now b.now }
 {
-    let end = lesser(a.len(), b.len());
+    let end = a.len().min(b.len());
     if end < 8 {
         return below_short(a, b, end);
     }
@@ -249,44 +192,24 @@ pub fn below(a: &[u8], b: &[u8]) -> bool
     below_long(a, b, same_start(a, b), end)
 }
 
-// Whether both hold the same bytes, where they have one length and begin with so many same bytes.
-fn same_from(a: &[u8], b: &[u8], from: usize) -> bool
-    requires a_len { length a.now ≡ length b.now }
-    requires same_start { SameStart a.now b.now from }
-    ensures { result ≡ same_bytes a.now b.now }
-{
-    let mut i = from;
-    while i < a.len() {
-        if a[i] != b[i] {
-            return false;
-        }
-        i += 1;
-    }
-    true
-}
-
 // Whether both hold the same bytes.
 pub fn same(a: &[u8], b: &[u8]) -> bool
     ensures { result ≡ same_bytes a.now b.now }
 {
-    if a.len() != b.len() {
-        return false;
-    }
-    same_from(a, b, same_eights(a, b))
+    a == b
 }
 
-// Whether `x` is one of the `n` bytes at `at`.
-fn contains_at(x: u8, s: &[u8], at: usize, n: usize) -> bool
-    requires { at + n ≤ length s.now }
-    ensures { result ≡ contains x (part s.now at n) }
+// Whether `x` is one of the N bytes at `at`. The library's search of so few bytes is a call where it has several callers; this loop is one comparison of
+// vectors.
+fn contains_at<const N: usize>(x: u8, s: &[u8], at: usize) -> bool
+    requires { at + N ≤ length s.now }
+    ensures { result ≡ contains x (part s.now at N) }
 {
     let mut found: u8 = 0;
-    let mut k: usize = 0;
-    while k < n {
+    for k in 0..N {
         if x == s[at + k] {
             found = 1;
         }
-        k += 1;
     }
     found == 1
 }
@@ -296,37 +219,23 @@ pub fn contains_16(x: u8, s: &[u8], at: usize) -> bool
     requires { at + 16 ≤ length s.now }
     ensures { result ≡ contains x (part s.now at 16) }
 {
-    contains_at(x, s, at, 16)
+    contains_at::<16>(x, s, at)
 }
 
 pub fn contains_8(x: u8, s: &[u8], at: usize) -> bool
     requires { at + 8 ≤ length s.now }
     ensures { result ≡ contains x (part s.now at 8) }
 {
-    contains_at(x, s, at, 8)
+    contains_at::<8>(x, s, at)
 }
 
-// Whether `x` is one of the bytes from `from` on.
-fn contains_from(x: u8, s: &[u8], from: usize) -> bool
-    requires { from ≤ length s.now }
-    ensures { result ≡ contains x (drop from s.now) }
-{
-    let mut i = from;
-    while i < s.len() {
-        if x == s[i] {
-            return true;
-        }
-        i += 1;
-    }
-    false
-}
-
-// Whether `x` is one of the bytes: sixteen at a time, and the last sixteen in any case, so that none is left.
+// Whether `x` is one of the bytes: sixteen at a time, and the last sixteen in any case, so that none is left. For 16 to 60 bytes the library's search
+// of the whole slice takes twice as long.
 pub fn contains(x: u8, s: &[u8]) -> bool
     ensures { result ≡ contains x s.now }
 {
     if s.len() < 16 {
-        return contains_from(x, s, 0);
+        return s.iter().any(|y| *y == x);
     }
     let last = s.len() - 16;
     let mut i = 0;

@@ -1,5 +1,5 @@
 -- A map whose cells are marked from one on.
-use Prim.Native.Nat.{ℕ, ◌+◌, ◌*◌, ◌-◌, ◌/◌, ◌%◌, ◌≤◌, ◌<◌}
+use Prim.Native.Nat.{ℕ, ◌+◌, ◌*◌, ◌/◌, ◌%◌, ◌≤◌, ◌<◌}
 use mathlib.Core.Bool.{Bool, true, false}
 use mathlib.Core.List.{List}
 use mathlib.Core.Path.{◌≡◌, refl, sym, ◌∙◌}
@@ -64,7 +64,7 @@ module _ (map seg : List ℕ) (bs : List Block) (c r : ℕ) (h : c < length map)
       go true p = let e : d ≡ c = eqb-true d c p in rw (e, get_or-set_same map c r 0 h) (n.start, n.end)
       go false p = rw (get_or-set_other map c d r 0 (eqb-false d c p)) (refl, refl)
 
-  marked_next : MarkedFrom (set map c r) seg bs c
+  pub marked_next : MarkedFrom (set map c r) seg bs c
   marked_next = record {
     bytes = record {
       wide = m.bytes.wide;
@@ -76,10 +76,3 @@ module _ (map seg : List ℕ) (bs : List Block) (c r : ℕ) (h : c < length map)
       go : (d : ℕ) → c ≤ d → (t : Bool) → eqb d c ≡ t → Right (set map c r) seg bs d
       go d l true p = let e : d ≡ c = eqb-true d c p in rw (e, get_or-set_same map c r 0 h) (λ a b. n.mark (sym n.end ∙ a) (omega (arith, b, n.start)))
       go d l false p = let f : d ≡ c → ⊥ = eqb-false d c p in rw (get_or-set_other map c d r 0 f) (m.marks d (omega arith))
-
--- the same, where the cells from c on are marked
-pub marked-before : (map seg : List ℕ) (bs : List Block) (c r : ℕ) → 0 < c → c ≤ length map → MarkedFrom map seg bs c →
-    Remarked (get_or map (c - 1) 0) (ends_outside seg bs (16 * c)) r → MarkedFrom (set map (c - 1) r) seg bs (c - 1)
-marked-before map seg bs c r h l m n =
-    let e : c - 1 + 1 ≡ c = omega arith in
-    marked_next map seg bs (c - 1) r (omega arith) (rw e m) (rw e n)

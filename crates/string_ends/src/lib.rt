@@ -53,15 +53,13 @@ fn ends_in_cell(segment: &[u8], v: u8, off: usize) -> bool
     }
     let start = off - off % 16;
     let end = 16 - free_end(v) as usize;
-    let mut i = off;
-    while i - start < end {
-        if segment.len() <= i {
+    for k in off % 16..end {
+        if segment.len() <= start + k {
             return false;
         }
-        if segment[i] == 0 {
+        if segment[start + k] == 0 {
             return true;
         }
-        i += 1;
     }
     is_marked(v)
 }
@@ -121,11 +119,9 @@ pub fn mark(segment: &[u8], map: &mut [u8])
     ensures { (bs : List Block) → MapOf map.old segment.now bs → MapOf map.new segment.now bs ×
         Marked map.new segment.now bs }
 {
-    let mut c = map.len();
     let mut v: u8 = 0;
-    while 0 < c {
-        v = number_before(segment, map[c - 1], v, c);
-        c -= 1;
+    for c in (0..map.len()).rev() {
+        v = number_before(segment, map[c], v, c + 1);
         map[c] = v;
     }
 }

@@ -2,6 +2,8 @@
 use Rattle.nul.proofs.NulLaws.{nul-here, nul-none}
 use Rattle.nul.proofs.Search.{at-start, at_next, within-nul}
 use native.Mathlib.Omega.{arith}
+use mathlib.Core.Path.{◌≡◌}
+use lib.ListN.{length}
 use Rattle.nul.proofs.nul_near.Goals as goal
 
 pub loop-i-init : goal.loop-i-init
@@ -17,4 +19,7 @@ loop-i-preserved c =
 
 pub returns : goal.returns
 returns c =
-    within-nul _ _ _ c.loop-i.i c.loop-i.invariant (nul-none c.args.segment.now c.loop-i.i (omega arith))
+    let l = c.loop-i in
+    let seg = c.args.segment.now in
+    let e : l.i ≡ length seg = omega (arith, l.invariant.inside) in
+    rw e at (within-nul _ _ _ l.i l.invariant (nul-none seg l.i (omega arith)))

@@ -8,20 +8,18 @@ use Rattle.order.proofs.contains_at.Goals.{then-x-s, else-x-s}
 
 pub loop-k-init : goal.loop-k-init
 unfolding contains
-loop-k-init c = (omega arith, refl)
+loop-k-init g c = refl
 
 pub loop-k-preserved : goal.loop-k-preserved
-loop-k-preserved c =
-    let a = c.args in (
-      omega arith,
-      elim c.if-x-s.branch [
-        | then-x-s w ↦ rw w.found-is (found_turn a.x a.s.now a.at c.loop-k.k (omega arith) w.if-x-s.true)
-        | else-x-s w ↦ rw w.found-is (missed-turn a.x a.s.now a.at c.loop-k.k (omega arith) c.loop-k.invariant.1 w.if-x-s.false)
-      ],
-    )
+loop-k-preserved g c =
+    let a = c.args in
+    elim c.if-x-s.branch [
+      | then-x-s w ↦ rw w.found-is (found_turn a.x a.s.now a.at c.loop-k.k (omega arith) w.if-x-s.true)
+      | else-x-s w ↦ rw w.found-is (missed-turn a.x a.s.now a.at c.loop-k.k (omega arith) c.loop-k.invariant w.if-x-s.false)
+    ]
 
 pub returns : goal.returns
-returns c =
+returns g c =
     let l = c.loop-k in
-    let k : l.k ≡ c.args.n = omega arith in
-    rw k at l.invariant.1
+    let k : l.k ≡ g.row.N = omega arith in
+    rw k at l.invariant

@@ -1,7 +1,9 @@
--- Two numbers of half the width, one behind the other.
-use Rattle.order.proofs.BigEndianLaws.{number-add}
-use native.Mathlib.Omega.{arith}
+-- The 8 bytes from the place on are those of the number.
+use Rattle.std.proofs.Common.{arith}
+use Rattle.order.proofs.BigEndianLaws.{number-of-slice}
 use Rattle.order.proofs.eight_at.Goals as goal
 
 pub returns : goal.returns
-returns c = number-add 4 4 c.four_at-2.ensures c.four_at.ensures (omega (arith, c.requires))
+returns c =
+    let chunk = rw c.unwrap.ensures at c.try_into.ensures.1 in
+    number-of-slice 7 c.args.s.now c.unwrap.result c.args.at _ (omega arith) chunk.same (omega arith) (c.from_be_bytes.ensures)

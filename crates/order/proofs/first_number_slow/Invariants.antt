@@ -1,5 +1,5 @@
 -- The number of the first k bytes.
-use Prim.Native.Nat.{◌-◌, ◌≤◌}
+use Prim.Native.Nat.{◌≤◌}
 use mathlib.Core.Path.{◌≡◌}
 use Rattle.format.specs.Bytes.{part}
 use Rattle.order.specs.BigEndian.{first_number}
@@ -7,6 +7,3 @@ use Rattle.order.proofs.first_number_slow.Given as goal
 
 abbrev pub invariant-loop-k : goal.invariant-loop-k
 invariant-loop-k l = (l.k ≤ 8) × (l.x ≡ first_number l.k (part l.s l.at l.size))
-
-abbrev pub decreases-loop-k : goal.decreases-loop-k
-decreases-loop-k l = 8 - l.k

@@ -1,7 +1,7 @@
--- Lists of different lengths differ; else the comparison decides, behind the bytes that both begin with.
-use Rattle.order.proofs.Comparing.{same-lengths}
-use native.Mathlib.Omega.{arith}
+-- What the library's comparison finds.
+use Rattle.std.proofs.Common.{◌∙◌}
+use Rattle.order.proofs.Comparing.{pointwise-same}
 use Rattle.order.proofs.same.Goals as goal
 
-pub returns-then-a-b : goal.returns-then-a-b
-returns-then-a-b c = let a = c.args in same-lengths a.a.now a.b.now (λ e. omega arith)
+pub returns : goal.returns
+returns c = c.eq.ensures ∙ pointwise-same c.args.a.now c.args.b.now

@@ -1,9 +1,9 @@
 -- The cells from c on are marked.
-use Prim.Native.Nat.{◌-◌}
+use Prim.Native.Nat.{◌+◌, ◌-◌}
 use mathlib.Core.Path.{◌≡◌, refl, sym}
 use lib.ListN.{length, length-set, get_or-eq_default}
 use lib.Seq.{get_or-set_same}
-use Rattle.string_ends.proofs.MarkLaws.{MarkedFrom, cell-of, marked-none, marked-before, marked_all}
+use Rattle.string_ends.proofs.MarkLaws.{MarkedFrom, cell-of, marked-none, marked_next, marked_all}
 use native.Mathlib.Omega.{arith}
 use Rattle.string_ends.proofs.mark.Goals as goal
 
@@ -17,6 +17,7 @@ loop-c-preserved c =
     let l = c.loop-c in
     let seg = c.args.segment.now in
     let made = c.number_before-v.result in
+    let next : l.c - 1 + 1 ≡ l.c = omega arith in
     let same = length-set l.map (l.c - 1) made in (
       omega (arith, same),
       omega (arith, same),
@@ -24,7 +25,7 @@ loop-c-preserved c =
       λ bs m.
           let rest : MarkedFrom l.map seg bs l.c = l.invariant.3 bs m in
           let here = cell-of l.map seg bs l.c rest.bytes (rest.marks l.c (omega arith)) in
-          marked-before l.map seg bs l.c made (omega arith) (omega arith) rest (c.number_before-v.ensures bs (rw l.invariant.2 here)),
+          marked_next l.map seg bs (l.c - 1) made (omega arith) (rw next rest) (c.number_before-v.ensures bs (rw (next, l.invariant.2) here)),
     )
 
 pub returns : goal.returns
