@@ -2,10 +2,14 @@
 #![tactic(auto)]
 
 use format::answers;
+use std::fmt;
 use walk::kinds;
 
 // What an answer of the audit means, in the words of document 01.
-pub fn answer_words(answer: u8) -> &'static str {
+#[derive(Clone, Copy)]
+pub struct AnswerWords(pub u8);
+
+fn words_of(answer: u8) -> &'static str {
     match answer {
         answers::LENGTH_OUT_OF_RANGE => "image length out of range",
         answers::NO_SIGNATURE => "no signature 89 48 44 46 0d 0a 1a 0a",
@@ -25,8 +29,17 @@ pub fn answer_words(answer: u8) -> &'static str {
     }
 }
 
+impl fmt::Display for AnswerWords {
+    fn fmt<W: fmt::Write>(&self, f: &mut fmt::Formatter<W>) -> fmt::Result {
+        f.write_str(words_of(self.0))
+    }
+}
+
 // The name of a kind of block, by the word that a list has for it.
-pub fn kind_name(kind: u64) -> &'static str {
+#[derive(Clone, Copy)]
+pub struct KindName(pub u64);
+
+fn name_of(kind: u64) -> &'static str {
     match u8::try_from(kind) {
         Ok(kinds::SUPERBLOCK) => "superblock",
         Ok(kinds::HEADER) => "object header",
@@ -37,5 +50,11 @@ pub fn kind_name(kind: u64) -> &'static str {
         Ok(kinds::SYMBOL_NODE) => "symbol table node",
         Ok(kinds::DATA) => "data",
         _ => "",
+    }
+}
+
+impl fmt::Display for KindName {
+    fn fmt<W: fmt::Write>(&self, f: &mut fmt::Formatter<W>) -> fmt::Result {
+        f.write_str(name_of(self.0))
     }
 }

@@ -1,7 +1,7 @@
 // The lines of a file that the audit refuses.
 #![tactic(auto)]
 
-use answer_text::{answer_words, kind_name};
+use answer_text::{AnswerWords, KindName};
 use damaged_block::block::ListedBlock;
 use format::answers;
 use std::fmt;
@@ -17,7 +17,7 @@ pub struct Answer {
 impl fmt::Display for Answer {
     fn fmt<W: fmt::Write>(&self, f: &mut fmt::Formatter<W>) -> fmt::Result {
         let number = self.number;
-        let words = answer_words(number);
+        let words = AnswerWords(number);
         writeln!(f, "answer {number}: {words}")
     }
 }
@@ -30,7 +30,7 @@ struct Block {
 
 impl fmt::Display for Block {
     fn fmt<W: fmt::Write>(&self, f: &mut fmt::Formatter<W>) -> fmt::Result {
-        let name = kind_name(self.block.kind);
+        let name = KindName(self.block.kind);
         let address = self.block.address;
         let size = self.block.size;
         write!(f, "{name} at {address:016x}, {size} bytes")?;
