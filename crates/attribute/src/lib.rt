@@ -3,19 +3,11 @@
 
 ghost use Rattle.std.specs.Prelude.{not, ◌&&◌, ◌||◌, ◌≡◌, ◌+◌, ◌≤◌, eqb, leb, length};
 ghost use Rattle.format.specs.Attribute.{name_start, read_shared_part, read_attribute};
-ghost use Rattle.attribute.specs.Attribute.{attribute_result, Taken};
+ghost use Rattle.attribute.specs.Attribute.{address_result, attribute_result, Taken};
 
 use datatype::shared_read;
 use format::answers;
 use walk::numbers::{u16_at, u64_at};
-
-// Where the datatype is shared from, or that it stands in the message itself.
-#[derive(Clone, Copy)]
-pub enum AttributeRead {
-    Own,
-    Shares(u64),
-    Refused(u8),
-}
 
 // Version 1 has no flags. In versions 2 and 3 only bit 0 is read.
 fn flags_read(version: u8, flags: u8) -> bool
@@ -61,44 +53,44 @@ fn taken_at(body: &[u8], version: u8, at: usize) -> usize
 }
 
 // Reads a shared part: the address of the datatype, or 10 or 3.
-fn read_shared_part(part: &[u8]) -> AttributeRead
-    ensures { attribute_result result ≡ read_shared_part part.now }
+fn read_shared_part(part: &[u8]) -> Result<u64, u8>
+    ensures { address_result result ≡ read_shared_part part.now }
 {
     if part.len() < 10 {
-        return AttributeRead::Refused(answers::HEADER_UNSOUND);
+        return Err(answers::HEADER_UNSOUND);
     }
     if !shared_read(part) {
-        return AttributeRead::Refused(answers::NOT_READ);
+        return Err(answers::NOT_READ);
     }
-    AttributeRead::Shares(u64_at(part, 2))
+    Ok(u64_at(part, 2))
 }
 
-// Reads the message: what it shares, or 3 or 10.
-pub fn read(body: &[u8]) -> AttributeRead
+// Reads the message: the address that its datatype is shared from, none if the datatype stands in the message itself, or 3 or 10.
+pub fn read(body: &[u8]) -> Result<Option<u64>, u8>
     ensures { attribute_result result ≡ read_attribute body.now }
 {
     if body.len() < 8 {
-        return AttributeRead::Refused(answers::HEADER_UNSOUND);
+        return Err(answers::HEADER_UNSOUND);
     }
     let version = body[0];
     if version < 1 {
-        return AttributeRead::Refused(answers::NOT_READ);
+        return Err(answers::NOT_READ);
     }
     if 3 < version {
-        return AttributeRead::Refused(answers::NOT_READ);
+        return Err(answers::NOT_READ);
     }
     let flags = body[1];
     if !flags_read(version, flags) {
-        return AttributeRead::Refused(answers::NOT_READ);
+        return Err(answers::NOT_READ);
     }
     let start = name_start(version) + taken_at(body, version, 2);
     let end = start + taken_at(body, version, 4) + taken_at(body, version, 6);
     if body.len() < end {
-        return AttributeRead::Refused(answers::HEADER_UNSOUND);
+        return Err(answers::HEADER_UNSOUND);
     }
     if !shares_type(version, flags) {
-        return AttributeRead::Own;
+        return Ok(None);
     }
     let stop = start + u16_at(body, 4) as usize;
-    read_shared_part(&body[start..stop])
+    read_shared_part(&body[start..stop]).map(Some)
 }

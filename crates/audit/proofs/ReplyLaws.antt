@@ -27,7 +27,7 @@ use Rattle.ledger.proofs.ReportLaws.{counted-law, empty-law, counted-copied, rea
 use Rattle.superblock.specs.Superblock.{superblock_of}
 use Rattle.superblock.specs.declared.Superblock.{Superblock}
 use Rattle.object.specs.Object.{Bounded}
-use Rattle.object.specs.declared.object.ObjectRead.TheVariants.{Done, Stopped}
+use Rattle.std.specs.Prelude.{Ok, Err}
 use Rattle.links.proofs.HeadersInside.{headers-inside}
 use Rattle.audit.specs.Audit.{refused_with, EmptyTable, Lists, ImageWalked, AuditedIs, AuditIs}
 use Rattle.audit.specs.declared.Audited.{Audited}
@@ -66,7 +66,7 @@ module _ (im : List ℕ) (lent : ℕ) (ws addresses stored counts : List ℕ) wh
 
 -- the walk was refused
 pub stopped-is : (im ws : List ℕ) (s : Superblock) (x : Refusal) (ws₁ addresses counts stored : List ℕ) → opened (superblock_of s) ≡ open_image im →
-    ImageWalked im ws s ws₁ addresses counts (Stopped x) → (lent : ℕ) → room_of lent ≡ places_of (length ws) →
+    ImageWalked im ws s ws₁ addresses counts (Err x) → (lent : ℕ) → room_of lent ≡ places_of (length ws) →
     AuditedIs im lent (handed lent 0 ws₁) addresses stored counts (refused_with x)
 stopped-is im ws s x ws₁ addresses counts stored e w lent fit =
     let o = walked-refused ws ws₁ x _ w.walked in
@@ -86,7 +86,7 @@ get_d-zeros (suc n) (suc k) = get_d-zeros n k
 
 -- the walk is done
 module _ (im ws : List ℕ) (s : Superblock) (count objects : ℕ) (ws₁ addresses counts : List ℕ)
-    (w : ImageWalked im ws s ws₁ addresses counts (Done count objects)) where
+    (w : ImageWalked im ws s ws₁ addresses counts (Ok (record { count = count; objects = objects }))) where
   abbrev os : List Linked
   os = linked_of objects addresses counts
 

@@ -23,7 +23,7 @@ use Rattle.superblock.specs.declared.Superblock.{Superblock}
 use Rattle.object.proofs.ObjectLaws.{room-lent, listed-ready}
 use Rattle.object.specs.Object.{Listed, FoundWalked}
 use Rattle.object.specs.declared.object.ObjectRead.{ObjectRead}
-use Rattle.object.specs.declared.object.ObjectRead.TheVariants.{Done, Stopped}
+use Rattle.std.specs.Prelude.{Result, Ok, Err}
 use Rattle.audit.specs.Audit.{ImageWalked}
 
 -- the superblock, where it was entered, is the only block
@@ -44,7 +44,7 @@ module _ (im ws : List ℕ) (s : Superblock) (room : ℕ) (is : room ≡ places_
 
   -- the superblock can't be entered
   pub superblock-stopped : (addresses counts : List ℕ) (x : Refusal) → Walked ws ws₁ (stopped x) (run im eof room (superblock_walk (superblock_of s)) []) →
-      ImageWalked im ws s ws₁ addresses counts (Stopped x)
+      ImageWalked im ws s ws₁ addresses counts (Err x)
   unfolding audit_walk blocks_of
   superblock-stopped addresses counts x h = record {
     walked = rw (← is) (callee-stopped ws₁ (superblock_walk (superblock_of s)) _
@@ -90,13 +90,13 @@ module _ (im ws : List ℕ) (s : Superblock) (room : ℕ) (is : room ≡ places_
       root-found : found_of addresses counts marks 1 ≡ root_found (superblock_of s)
       root-found = rw (t.ledger, zeros)
 
-      pub objects-read : (ws₂ addresses₂ counts₂ marks₂ : List ℕ) (r : ObjectRead) → length ws₂ ≡ length ws₁ →
+      pub objects-read : (ws₂ addresses₂ counts₂ marks₂ : List ℕ) (r : Result ObjectRead Refusal) → length ws₂ ≡ length ws₁ →
           FoundWalked im ws₁ addresses counts marks s room (objects_walk (superblock_of s) objects_most 0) n 1 ws₂ addresses₂ counts₂ marks₂ r →
           ImageWalked im ws s ws₂ addresses₂ counts₂ r
       unfolding blocks_of
-      objects-read ws₂ addresses₂ counts₂ marks₂ (Done count objects) long l =
+      objects-read ws₂ addresses₂ counts₂ marks₂ (Ok o) long l =
           let k = rw root-found at l.walked in
           record { walked = rw (← is) (returned (callee-done ws₂ _ _ at-objects long k)); ready = rw (← is) (listed-ready l.listed) }
-      objects-read ws₂ addresses₂ counts₂ marks₂ (Stopped x) long l =
+      objects-read ws₂ addresses₂ counts₂ marks₂ (Err x) long l =
           let k = rw root-found at l.walked in
           record { walked = rw (← is) (callee-stopped ws₂ _ _ at-objects k); ready = tt }

@@ -1,5 +1,5 @@
 -- What the audit returns and leaves, as document 01's reply.
-use Rattle.std.specs.Prelude.{ℕ, ◌≤◌, ◌<◌, true, List, [], ◌≡◌, length, get_or, replicate}
+use Rattle.std.specs.Prelude.{ℕ, ◌≤◌, ◌<◌, true, List, [], ◌≡◌, length, get_or, replicate, Result, Ok, Err}
 use Rattle.format.specs.Limits.{objects_most}
 use Rattle.format.specs.declared.Refusal.{Refusal}
 use Rattle.format.specs.Walk.{answer_of, met_of, run}
@@ -13,7 +13,6 @@ use Rattle.ledger.specs.Index.{index_words}
 use Rattle.ledger.specs.Table.{linked_of}
 use Rattle.group.specs.Group.{Ready}
 use Rattle.object.specs.declared.object.ObjectRead.{ObjectRead}
-use Rattle.object.specs.declared.object.ObjectRead.TheVariants.{Done, Stopped}
 use Rattle.ledger.specs.Report.{counted_places, counted_of, Readable}
 use Rattle.audit.specs.declared.Audited.{Audited}
 use Rattle.audit.specs.declared.Reply.{Reply}
@@ -23,16 +22,16 @@ abbrev pub refused_with : Refusal → Audited
 refused_with r = record { number = answer_of r; met = met_of r; block_count = 0; objects = 0 }
 
 -- the ledger, with the number of blocks then entered, or the refusal
-abbrev pub ledger_end : List ℕ → List ℕ → ObjectRead → Ended (List Linked)
-ledger_end addresses counts (Done count objects) = ended (linked_of objects addresses counts) count
-ledger_end addresses counts (Stopped r) = stopped r
+abbrev pub ledger_end : List ℕ → List ℕ → Result ObjectRead Refusal → Ended (List Linked)
+ledger_end addresses counts (Ok o) = ended (linked_of o.objects addresses counts) o.count
+ledger_end addresses counts (Err r) = stopped r
 
-abbrev pub ReadyIf : List ℕ → List ℕ → List ℕ → ℕ → ℕ → ObjectRead → Type 0
-ReadyIf ws addresses counts eof room (Done count objects) = Ready true ws addresses counts eof room count objects
-ReadyIf ws addresses counts eof room (Stopped r) = Unit {0}
+abbrev pub ReadyIf : List ℕ → List ℕ → List ℕ → ℕ → ℕ → Result ObjectRead Refusal → Type 0
+ReadyIf ws addresses counts eof room (Ok o) = Ready true ws addresses counts eof room o.count o.objects
+ReadyIf ws addresses counts eof room (Err r) = Unit {0}
 
 -- the walk of an opened image was walked, in the whole of the list lent, with this table of objects
-pub record ImageWalked (im ws : List ℕ) (s : Superblock) (ws' addresses' counts' : List ℕ) (r : ObjectRead) : Type 0 where
+pub record ImageWalked (im ws : List ℕ) (s : Superblock) (ws' addresses' counts' : List ℕ) (r : Result ObjectRead Refusal) : Type 0 where
   pub walked : Walked ws ws' (ledger_end addresses' counts' r) (run im s.end_of_file (places_of (length ws)) (audit_walk (superblock_of s)) [])
   pub ready : ReadyIf ws' addresses' counts' s.end_of_file (places_of (length ws)) r
 

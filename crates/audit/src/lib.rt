@@ -16,9 +16,9 @@ use ledger::search::TABLE_WORDS;
 use ledger::{report, table};
 use object::object::ObjectRead;
 use objects;
-use superblock::{Opening, Superblock};
+use superblock::Superblock;
 use walk::blocks;
-use walk::blocks::{Entry, WORK_WORDS};
+use walk::blocks::WORK_WORDS;
 
 // The answer, with 6 the first block met, and the numbers of blocks entered and of objects found, 0 where the answer isn't.
 #[derive(Clone, Copy)]
@@ -49,31 +49,26 @@ pub fn walk_image(
     addresses: &mut [u64],
     true_counts: &mut [u32],
     superblock: Superblock,
-) -> ObjectRead
+) -> Result<ObjectRead, Refusal>
     requires bounded { Bounded image.now superblock }
     requires table { Table addresses.old true_counts.old 0 }
     ensures { ImageWalked image.now list.old superblock list.new addresses.new true_counts.new result }
 {
     let room = blocks::places(list.len());
-    match superblock::enter_superblock(superblock, list, room) {
-        Entry::Refused(x) => ObjectRead::Stopped(x),
-        Entry::Entered(n) => {
-            let root = superblock.root;
-            table::start(addresses, true_counts, root);
-            let mut marks = [0u8; OBJECTS_MOST];
-            objects::read(
-                image,
-                list,
-                addresses,
-                true_counts,
-                &mut marks,
-                superblock,
-                room,
-                n,
-                1,
-            )
-        }
-    }
+    let entered = superblock::enter_superblock(superblock, list, room)?;
+    table::start(addresses, true_counts, superblock.root);
+    let mut marks = [0u8; OBJECTS_MOST];
+    objects::read(
+        image,
+        list,
+        addresses,
+        true_counts,
+        &mut marks,
+        superblock,
+        room,
+        entered,
+        1,
+    )
 }
 
 // The audit in a working list, with the table of objects and the stored counts lent: its objects stand at their heads, and its blocks at
@@ -91,16 +86,16 @@ pub fn audit_into(
         (handed lent result.block_count list.new) addresses.new stored.new true_counts.new result }
 {
     match superblock::open(image) {
-        Opening::NotOpened(x) => refused(Refusal::Fault(x, 0)),
-        Opening::Opened(s) => match walk_image(image, list, addresses, true_counts, s) {
-            ObjectRead::Stopped(x) => refused(x),
-            ObjectRead::Done { count, objects } => {
-                report::read_stored(image, addresses, stored, objects);
+        Err(answer) => refused(Refusal::Fault(answer, 0)),
+        Ok(superblock) => match walk_image(image, list, addresses, true_counts, superblock) {
+            Err(refusal) => refused(refusal),
+            Ok(read) => {
+                report::read_stored(image, addresses, stored, read.objects);
                 Audited {
                     number: answers::DONE,
                     met: 0,
-                    block_count: count,
-                    objects,
+                    block_count: read.count,
+                    objects: read.objects,
                 }
             }
         },

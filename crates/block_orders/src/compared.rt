@@ -3,7 +3,7 @@ ghost use Rattle.std.specs.Prelude.{ℕ, ◌+◌, ◌^◌, ◌<◌, ◌≤◌, l
 ghost use Rattle.walk.specs.Lent.{places_of};
 
 use block_index::index::find;
-use walk::blocks::{Entry, enter, places};
+use walk::blocks::{enter, places};
 use walk::kinds;
 
 // How many blocks were entered, and with how many others one of them was compared at most.
@@ -13,13 +13,11 @@ pub struct Compared {
     pub most: usize,
 }
 
+// The contract of `compare` bounds the highest number from above alone: that it is the highest is said here.
 fn larger(a: usize, b: usize) -> usize
     ensures { (a ≤ result) × (b ≤ result) × ((n : ℕ) → a ≤ n → b ≤ n → result ≤ n) }
 {
-    if a < b {
-        return b;
-    }
-    a
+    a.max(b)
 }
 
 // Enters blocks of `size` bytes at these addresses into a working list, up to the first that can't be entered.
@@ -27,38 +25,21 @@ pub fn compare(work: &mut [u64], addresses: &[u64], size: u64, end_of_file: u64)
     ensures { (m : ℕ) → places_of (length work.old) < 2 ^ m → result.most ≤ m + 10 }
 {
     let room = places(work.len());
-    let mut count = 0;
-    let mut most = 0;
-    while count < addresses.len() {
-        let at = addresses[count];
-        if end_of_file < at {
-            return Compared {
-                entered: count,
-                most,
-            };
+    let mut entered: usize = 0;
+    let mut most: usize = 0;
+    for at in addresses {
+        let at = *at;
+        if end_of_file < at || end_of_file - at < size {
+            break;
         }
-        if end_of_file - at < size {
-            return Compared {
-                entered: count,
-                most,
-            };
-        }
-        let found = find(work, count, at, size);
-        match enter(end_of_file, work, count, room, kinds::DATA, at, size) {
-            Entry::Refused(_) => {
-                return Compared {
-                    entered: count,
-                    most,
-                };
-            }
-            Entry::Entered(n) => {
+        let found = find(work, entered, at, size);
+        match enter(end_of_file, work, entered, room, kinds::DATA, at, size) {
+            Err(_) => break,
+            Ok(count) => {
                 most = larger(most, found.tests);
-                count = n;
+                entered = count;
             }
         }
     }
-    Compared {
-        entered: count,
-        most,
-    }
+    Compared { entered, most }
 }

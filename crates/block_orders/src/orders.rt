@@ -38,10 +38,8 @@ fn number(order: Order, n: usize, i: usize) -> usize {
 
 pub fn fill(out: &mut [u64], order: Order) {
     let n = out.len();
-    let mut i = 0;
-    while i < n {
-        out[i] = address(number(order, n, i));
-        i += 1;
+    for (i, word) in out.iter_mut().enumerate() {
+        *word = address(number(order, n, i));
     }
 }
 
@@ -62,24 +60,13 @@ fn below(x: u64, n: usize) -> usize
     0
 }
 
-fn swap(out: &mut [u64], i: usize, j: usize)
-    requires i_in_bounds { i < length out.old }
-    requires j_in_bounds { j < length out.old }
-{
-    let other = out[j];
-    out[j] = out[i];
-    out[i] = other;
-}
-
 // The rising order shuffled, always in the same way.
 pub fn shuffled(out: &mut [u64]) {
     fill(out, Order::Rising);
     let mut seed = 1;
-    let mut i = out.len();
-    while 1 < i {
+    for i in (1..out.len()).rev() {
         seed = next(seed);
-        let j = below(seed / 16, i);
-        i -= 1;
-        swap(out, i, j);
+        let j = below(seed / 16, i + 1);
+        out.swap(i, j);
     }
 }

@@ -7,10 +7,9 @@ ghost use Rattle.output.specs.Text.{output_most, Printed};
 ghost use Rattle.command.specs.Response.{Responds, TextWithin};
 
 use format::{COMMAND_BLOCKS, INPUT_MOST, OBJECTS_MOST, answers};
-use input::Input;
 use output::{FIRST_LINE, OBJECT_LINE};
 use source::Opened;
-use source::kept::{Kept, error_of};
+use std::io;
 use std::io::Read;
 
 // The first line, and one for each of the most objects.
@@ -38,37 +37,24 @@ pub fn report(input: &[u8], out: &mut [u8]) -> usize
     output::put_objects(out, FIRST_LINE, ledger)
 }
 
-// How many bytes are printed, or that the input couldn't be read.
-#[derive(Clone, Copy)]
-pub enum Response {
-    Text(usize),
-    Failed,
-}
-
-// Reads the input to its end, and writes what is printed for it.
-pub fn respond<R: Read>(reader: &mut R, buffer: &mut [u8], out: &mut [u8]) -> Response
+// Reads the input to its end, and writes what is printed for it: so many bytes.
+pub fn respond<R: Read>(reader: &mut R, buffer: &mut [u8], out: &mut [u8]) -> io::Result<usize>
     requires input_most_in_bounds { input_most < length buffer.old }
     requires output_most_in_bounds { output_most ≤ length out.old }
     ensures responds { Responds buffer.old buffer.new out.old out.new result }
     ensures text_within { TextWithin (length out.new) result }
 {
-    match input::read_to_end(reader, buffer) {
-        Input::Failed => Response::Failed,
-        Input::Read { length, last: _ } => Response::Text(report(&buffer[..length], out)),
-    }
+    let input = input::read_to_end(reader, buffer)?;
+    Ok(report(&buffer[..input.length], out))
 }
 
 // Answers on standard output. An input that can't be read is named on standard error.
-fn run<R: Read + Drop>(rt: &HostRuntime, reader: R, name: &[u8]) {
+fn run<R: Read + Drop>(rt: &HostRuntime, mut reader: R, name: &[u8]) {
     let mut buffer = [0u8; BUFFER];
     let mut out = [0u8; OUTPUT_MOST];
-    let mut kept = Kept {
-        reader,
-        error: None,
-    };
-    match respond(&mut kept, &mut buffer, &mut out) {
-        Response::Failed => source::fail(rt, name, error_of(kept)),
-        Response::Text(n) => source::print(rt, &out[..n]),
+    match respond(&mut reader, &mut buffer, &mut out) {
+        Ok(n) => source::print(rt, &out[..n]),
+        Err(error) => source::fail(rt, name, error),
     }
 }
 
@@ -78,8 +64,8 @@ pub fn start(rt: &HostRuntime) {
     let source = source::open(rt, &mut path, "usage: h5audit [FILE]");
     let named = source.named;
     match source.opened {
-        Opened::Nothing => {}
-        Opened::Input => run(rt, rt.stdin(), &path[..named]),
-        Opened::File(file) => run(rt, file, &path[..named]),
+        None => {}
+        Some(Opened::Input) => run(rt, rt.stdin(), &path[..named]),
+        Some(Opened::File(file)) => run(rt, file, &path[..named]),
     }
 }

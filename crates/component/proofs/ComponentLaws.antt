@@ -25,34 +25,34 @@ use Rattle.ledger.specs.Links.{link_sum}
 use Rattle.ledger.specs.Table.{linked_of}
 use Rattle.visit.specs.Visit.{Both, visit_both, both_of, link_of, no_link}
 use Rattle.symbol.specs.declared.entry.State.{State}
-use Rattle.symbol.specs.declared.entry.Step as steps
+use Rattle.std.specs.Prelude.{Result, Ok, Err}
 use Rattle.group.specs.Group.{Ready, group_end, GroupIs}
 use Rattle.group.proofs.Entries.{lookup-part}
 use Rattle.superblock.specs.Superblock.{superblock_of}
 use Rattle.superblock.specs.declared.Superblock.{Superblock}
 use Rattle.component.specs.Component.{target_of, EndsAs, FoundIs, ComponentIs}
 use Rattle.component.specs.declared.Target.{Target}
-use Rattle.component.specs.declared.Target.TheVariants.{Object, Symbolic, Stopped}
+use Rattle.component.specs.declared.Target.TheVariants.{Object, Symbolic}
 
 -- the code's visit is done, and with it the lookup's own walk of the group; the ledger stays as it was
 lookup-done : (ws ws' addresses counts : List ℕ) (os : List Linked) (s : State) (o : Outcome lookup.Link) (o' : Outcome Both) →
     Ran true (λ x b. (last : List ℕ) × (b ≡ record { ledger = os; link = x })) o o' →
-    Walked ws ws' (group_end addresses counts (steps.TheVariants.Done s)) o' →
+    Walked ws ws' (group_end addresses counts (Ok s)) o' →
     (bs : List Block) × (o ≡ done (link_of s.link) bs) × (linked_of s.objects addresses counts ≡ os)
 unfolding Ran
 lookup-done ws ws' addresses counts os s (done x bs) o' n w =
-    let u : Walked ws ws' (group_end addresses counts (steps.TheVariants.Done s)) (done n.0 bs) = rw n.1 at w in
+    let u : Walked ws ws' (group_end addresses counts (Ok s)) (done n.0 bs) = rw n.1 at w in
     let e : both_of addresses counts s.objects s.link ≡ n.0 = cc u.answer in
     let f : both_of addresses counts s.objects s.link ≡ record { ledger = os; link = x } = e ∙ n.2.1 in
     (bs, ap (λ (b : Both). done b.link bs) (sym f), ap (λ (b : Both). b.ledger) f)
 lookup-done ws ws' addresses counts os s (refused m bs) o' n w =
-    let u : Walked ws ws' (group_end addresses counts (steps.TheVariants.Done s)) (refused m bs) = rw n at w in
+    let u : Walked ws ws' (group_end addresses counts (Ok s)) (refused m bs) = rw n at w in
     let z : ◌≡◌ {A = ℕ} 0 1 = cc u.answer in
     absurd (omega arith)
 
 lookup-refused : (ws ws' addresses counts : List ℕ) (os : List Linked) (r : Refusal) (o : Outcome lookup.Link) (o' : Outcome Both) →
     Ran true (λ x b. (last : List ℕ) × (b ≡ record { ledger = os; link = x })) o o' →
-    Walked ws ws' (group_end addresses counts (steps.TheVariants.Stopped r)) o' →
+    Walked ws ws' (group_end addresses counts (Err r)) o' →
     (bs : List Block) × (o ≡ refused r bs)
 unfolding Ran
 lookup-refused ws ws' addresses counts os r (done x bs) o' n w =
@@ -65,11 +65,11 @@ lookup-refused ws ws' addresses counts os r (refused k bs) o' n w =
     (bs, rw e refl)
 
 -- a walk that is known to end so
-ends_as : (im : List ℕ) (eof room : ℕ) (r : Target) (bs : List Block) → EndsAs r (run im eof room (target_of r) bs)
+ends_as : (im : List ℕ) (eof room : ℕ) (r : Result Target Refusal) (bs : List Block) → EndsAs r (run im eof room (target_of r) bs)
 unfolding run
-ends_as im eof room (Object a) bs = (bs, refl)
-ends_as im eof room Symbolic bs = (bs, refl)
-ends_as im eof room (Stopped n) bs = (bs, refl)
+ends_as im eof room (Ok (Object a)) bs = (bs, refl)
+ends_as im eof room (Ok Symbolic) bs = (bs, refl)
+ends_as im eof room (Err n) bs = (bs, refl)
 
 module _ (im name ws addresses counts : List ℕ) (s : Superblock) (room tree heap count : ℕ) (last : Bool) (ws₁ addresses₁ counts₁ : List ℕ) where
   abbrev eof : ℕ
@@ -91,15 +91,15 @@ module _ (im name ws addresses counts : List ℕ) (s : Superblock) (room tree he
 
   -- the group is not sound
   pub group-stopped : (x : Refusal) → GroupIs im name ws addresses counts eof room s.leaf_k s.internal_k false tree heap count 0 ws₁ addresses₁
-      counts₁ (steps.TheVariants.Stopped x) →
-      FoundIs im name ws s room tree heap count last (Stopped x)
+      counts₁ (Err x) →
+      FoundIs im name ws s room tree heap count last (Err x)
   group-stopped x g =
       let o = lookup-refused ws ws₁ addresses₁ counts₁ (linked_of 0 addresses counts) x _ _ part g.walked in
       record { found = (o.0, bound o.1) }
 
   -- it is sound, and its entries say where the name leads
-  pub group-found : (st : State) (r : Target) → GroupIs im name ws addresses counts eof room s.leaf_k s.internal_k false tree heap count 0 ws₁
-      addresses₁ counts₁ (steps.TheVariants.Done st) →
+  pub group-found : (st : State) (r : Result Target Refusal) → GroupIs im name ws addresses counts eof room s.leaf_k s.internal_k false tree heap count 0 ws₁
+      addresses₁ counts₁ (Ok st) →
       target_of r ≡ target_walk last (link_of st.link) → FoundIs im name ws s room tree heap count last r
   unfolding linked_of
   group-found st r g e =
@@ -118,7 +118,7 @@ module _ (im name ws : List ℕ) (s : Superblock) (room at : ℕ) (last : Bool) 
 
   pub superblock-stopped : (x : Refusal) →
       Walked ws ws₁ (stopped x) (run im s.end_of_file room (superblock_walk (superblock_of s)) []) →
-      ComponentIs im name s room at last (Stopped x)
+      ComponentIs im name s room at last (Err x)
   unfolding component_walk blocks_of
   superblock-stopped x h =
       record {
@@ -133,7 +133,7 @@ module _ (im name ws : List ℕ) (s : Superblock) (room at : ℕ) (last : Bool) 
     module _ (ws₂ : List ℕ) where
       pub header-stopped : (x : Refusal) →
           Walked ws₁ ws₂ (stopped x) (run im s.end_of_file room (header_walk at) (blocks_of n ws₁)) →
-          ComponentIs im name s room at last (Stopped x)
+          ComponentIs im name s room at last (Err x)
       unfolding blocks_of
       header-stopped x k = record { found = walked-refused ws ws₂ x _ (callee-stopped ws₂ (header_walk at) _ at-header k) }
 
@@ -144,19 +144,19 @@ module _ (im name ws : List ℕ) (s : Superblock) (room at : ℕ) (last : Bool) 
 
         -- it is no group
         not-a-group : find_walk (superblock_of s) name o ≡ refuse (fault 17 0) →
-            ComponentIs im name s room at last (Stopped (fault 17 0))
+            ComponentIs im name s room at last (Err (fault 17 0))
         unfolding blocks_of run ◌>>=◌
         not-a-group e = record { found = (blocks_of m ws₂, at-kind.same_run ∙ rw e refl) }
 
       module _ (m : ℕ) (same₂ : length ws₂ ≡ length ws₁) where
         pub committed-found : Walked ws₁ ws₂ (ended headers.committed m) (run im s.end_of_file room (header_walk at) (blocks_of n ws₁)) →
-            ComponentIs im name s room at last (Stopped (fault 17 0))
+            ComponentIs im name s room at last (Err (fault 17 0))
         unfolding find_walk
         committed-found k = not-a-group headers.committed m same₂ k refl
 
         pub dataset-found : (space type layout : Message) →
             Walked ws₁ ws₂ (ended (headers.dataset space type layout) m) (run im s.end_of_file room (header_walk at) (blocks_of n ws₁)) →
-            ComponentIs im name s room at last (Stopped (fault 17 0))
+            ComponentIs im name s room at last (Err (fault 17 0))
         unfolding find_walk
         dataset-found space type layout k = not-a-group (headers.dataset space type layout) m same₂ k refl
 
@@ -169,7 +169,7 @@ module _ (im name ws : List ℕ) (s : Superblock) (room at : ℕ) (last : Bool) 
               let a = at-kind (headers.group tree heap) m same₂ k in
               record { lent = a.lent; table = λ e. no_table e; apart = grown-apart a.blocks tt; inside = grown-inside a.blocks tt; links = omega arith }
 
-          pub group-is : (r : Target) → FoundIs im name ws₂ s room tree heap m last r →
+          pub group-is : (r : Result Target Refusal) → FoundIs im name ws₂ s room tree heap m last r →
               ComponentIs im name s room at last r
           unfolding find_walk blocks_of
           group-is r f = record {

@@ -24,7 +24,7 @@ use Rattle.tally.specs.Tally.{message_at, Tallied}
 use Rattle.sharing.specs.Sharing.{found_of, visit_message}
 use Rattle.scan.specs.Scan.{Holds, TalliedWith, NextIs}
 use Rattle.continuations.specs.Continuations.{Later, blocks_from, block_walk, NewBlock, Waiting, Next, Sought}
-use Rattle.continuations.specs.Counting.{CountingIf}
+use Rattle.continuations.specs.Counting.{CountingIf, Lending}
 use Rattle.tally.specs.declared.Tally.{Tally}
 use Rattle.scan.specs.declared.Gathering.{Gathering}
 use Rattle.continuations.specs.declared.Reading.{Reading}
@@ -73,10 +73,6 @@ last_block im ws count b at end waiting l =
     let none = drop_of_length-le (blocks_of count ws) {i = b + 1} (rw length-blocks_of l) in
     inl (e.0, subst (λ (bs : List Block). Later im bs waiting) none e.1))
     (λ e. inr e)
-
-pub found_here : (im ws : List ℕ) (count b at end : ℕ) (waiting : List Message) → at < end → Searched im ws count (cursor b at end) waiting →
-    Sought im ws count (cursor b at end) waiting
-found_here im ws count b at end waiting l = ⊎_elim (λ e. absurd (omega (arith, e.0))) (λ e. inr e)
 
 -- A block more at the end of the list.
 later_more : (im : List ℕ) (bs : List Block) (later new : List Message) (b : Block) → Later im bs later → Holds im b.at (b.at + b.size) new →
@@ -238,3 +234,15 @@ pub record Loop (im ws₀ a₀ c₀ m₀ : List ℕ) (q : Reading) (count : ℕ)
   pub addresses_same : length a ≡ length a₀
   pub counts_same : length c ≡ length c₀
   pub marks_same : length m ≡ length m₀
+
+-- what is known in the loop, by what it was begun with
+module _ {im ws₀ a₀ c₀ m₀ : List ℕ} {q : Reading} {count : ℕ} {g₀ : Gathering} {k₀ : Cursor} {ws a c m : List ℕ} {n : ℕ} {g : Gathering} {k : Cursor}
+    (r : Loop im ws₀ a₀ c₀ m₀ q count g₀ k₀ ws a c m n g k) (p : Lending im ws₀ a₀ c₀ m₀ q count g₀.objects 16) {waiting sofar : List Message}
+    (o : Sought im ws₀ count k₀ waiting) (t : Tallied im sofar g₀.tally) where
+  pub loop-now : Following (visit_message q.auditing) im q.end_of_file q.room
+      (continuations (visit_message q.auditing) (blocks_most + 1) waiting (gathered sofar (found_of a₀ c₀ m₀ g₀.objects))) count ws₀ k g.tally
+      (found_of a c m g.objects) n ws
+  loop-now = r.going (blocks_most + 1) waiting sofar (omega arith) p.lent o t
+
+  pub loop-inside : k.at < k.end → (k.at + 8 + u16 im (k.at + 2) ≤ length im) × (16 ≤ u16 im (k.at + 2))
+  loop-inside l = message-inside _ _ _ _ _ _ _ _ _ _ _ _ p.most loop-now l

@@ -1,8 +1,9 @@
 -- What reading the continuations of a header returns.
-use Rattle.std.specs.Prelude.{ℕ, ◌+◌, ◌≤◌, ◌<◌, List, [], ◌∷◌, ◌++◌, ◌⊎◌, ◌≡◌, length, drop}
+use Rattle.std.specs.Prelude.{ℕ, ◌+◌, ◌≤◌, ◌<◌, List, [], ◌∷◌, ◌++◌, ◌⊎◌, ◌≡◌, length, drop, Result, Ok, Err}
 use Rattle.format.specs.Bytes.{u16}
 use Rattle.format.specs.Blocks.{Block, block_of}
-use Rattle.format.specs.Result.{Result}
+use Rattle.format.specs.Result as reader
+use Rattle.format.specs.declared.Refusal.{Refusal}
 use Rattle.format.specs.Walk.{Walk, kind_number, enter_block, continuation_block, run, ◌>>=◌}
 use Rattle.format.specs.Message.{Message, of_type}
 use Rattle.format.specs.Header.{Gathered, messages}
@@ -15,8 +16,6 @@ use Rattle.continuations.specs.Counting.{CountingIf}
 use Rattle.scan.specs.declared.Gathering.{Gathering}
 use Rattle.continuations.specs.declared.Reading.{Reading}
 use Rattle.continuations.specs.declared.Cursor.{Cursor}
-use Rattle.continuations.specs.declared.Continuing.{Continuing}
-use Rattle.continuations.specs.declared.Continuing.TheVariants.{Done, Stopped}
 
 -- the continuation messages that continuation blocks hold, one block after the other
 abbrev pub Later : List ℕ → List Block → List Message → Type 0
@@ -52,7 +51,7 @@ abbrev pub Sought : List ℕ → List ℕ → ℕ → Cursor → List Message �
 Sought im ws count c waiting = ((c.at ≡ c.end) × (waiting ≡ [])) ⊎ ((c.at < c.end) × Next im ws count c waiting)
 
 -- the walk of one continuation: it is entered, and its messages are read
-abbrev pub block_walk : {S : Type 0} → (Message → S → Result S) → ℕ → ℕ → S → Walk (Gathered S)
+abbrev pub block_walk : {S : Type 0} → (Message → S → reader.Result S) → ℕ → ℕ → S → Walk (Gathered S)
 block_walk visit a n found = enter_block continuation_block a n >>= λ b. messages visit (length b) a b found
 
 -- a block was entered, as the last of the list, and these are its messages
@@ -62,18 +61,20 @@ pub record NewBlock (im ws : List ℕ) (count address size : ℕ) (ws' : List �
   pub counted : n ≡ count + 1
 
 -- a walk of messages was run: all messages with their tally and what was found with them, or the refusal
-abbrev pub GatheredIs : List ℕ → Reading → List ℕ → ℕ → Walk (Gathered Found) → List ℕ → List ℕ → List ℕ → List ℕ → Continuing → Type 0
-GatheredIs im q ws count w ws' addresses' counts' marks' (Done g n) =
+abbrev pub GatheredIs : List ℕ → Reading → List ℕ → ℕ → Walk (Gathered Found) → List ℕ → List ℕ → List ℕ → List ℕ →
+    Result (Gathering × ℕ) Refusal → Type 0
+GatheredIs im q ws count w ws' addresses' counts' marks' (Ok g) =
     (all : List Message)
-    × Walked ws ws' (ended (record { all = all; found = found_of addresses' counts' marks' g.objects }) n)
+    × Walked ws ws' (ended (record { all = all; found = found_of addresses' counts' marks' g.0.objects }) g.1)
     (run im q.end_of_file q.room w (blocks_of count ws))
-    × Tallied im all g.tally
-GatheredIs im q ws count w ws' addresses' counts' marks' (Stopped r) = Walked ws ws' (stopped r) (run im q.end_of_file q.room w (blocks_of count ws))
+    × Tallied im all g.0.tally
+GatheredIs im q ws count w ws' addresses' counts' marks' (Err r) = Walked ws ws' (stopped r) (run im q.end_of_file q.room w (blocks_of count ws))
 
 -- what is counted is still bounded
-abbrev pub CountingOn : Reading → List ℕ → List ℕ → List ℕ → List ℕ → Continuing → Type 0
-CountingOn q ws addresses counts marks (Done g n) = CountingIf q.auditing ws addresses counts marks q.end_of_file n g.objects 16
-CountingOn q ws addresses counts marks (Stopped r) = Unit {0}
+abbrev pub CountingOn : Reading → List ℕ → List ℕ → List ℕ → List ℕ →
+    Result (Gathering × ℕ) Refusal → Type 0
+CountingOn q ws addresses counts marks (Ok g) = CountingIf q.auditing ws addresses counts marks q.end_of_file g.1 g.0.objects 16
+CountingOn q ws addresses counts marks (Err r) = Unit {0}
 
 -- a continuation was read
 pub record BlockDone (im ws addresses counts marks : List ℕ) (q : Reading) (count address size : ℕ) (g : Gathering) (ws' addresses' counts' marks' : List ℕ)
@@ -87,9 +88,10 @@ pub record BlockDone (im ws addresses counts marks : List ℕ) (q : Reading) (co
   pub counting : CountingIf q.auditing ws' addresses' counts' marks' q.end_of_file n g'.objects 16
 
 -- a continuation was read, or refused
-abbrev pub BlockRead : List ℕ → List ℕ → List ℕ → List ℕ → List ℕ → Reading → ℕ → ℕ → ℕ → Gathering → List ℕ → List ℕ → List ℕ → List ℕ → Continuing → Type 0
-BlockRead im ws addresses counts marks q count address size g ws' addresses' counts' marks' (Done g' n) =
-    BlockDone im ws addresses counts marks q count address size g ws' addresses' counts' marks' g' n
-BlockRead im ws addresses counts marks q count address size g ws' addresses' counts' marks' (Stopped r) =
+abbrev pub BlockRead : List ℕ → List ℕ → List ℕ → List ℕ → List ℕ → Reading → ℕ → ℕ → ℕ → Gathering → List ℕ → List ℕ → List ℕ → List ℕ →
+    Result (Gathering × ℕ) Refusal → Type 0
+BlockRead im ws addresses counts marks q count address size g ws' addresses' counts' marks' (Ok g') =
+    BlockDone im ws addresses counts marks q count address size g ws' addresses' counts' marks' g'.0 g'.1
+BlockRead im ws addresses counts marks q count address size g ws' addresses' counts' marks' (Err r) =
     Walked ws ws' (stopped r) (run im q.end_of_file q.room (block_walk (visit_message q.auditing) address size
     (found_of addresses counts marks g.objects)) (blocks_of count ws))

@@ -13,8 +13,7 @@ ghost use Rattle.continuations.specs.Continuations.{Waiting, Ready, Sought, Bloc
 
 use format::Refusal;
 use scan;
-use scan::{Gathering, Scan};
-use walk::blocks::Entry;
+use scan::Gathering;
 use walk::numbers::{u16_at, u64_at};
 use walk::{blocks, kinds};
 
@@ -58,13 +57,7 @@ fn seek(image: &[u8], list: &[u64], count: usize, cursor: Cursor) -> Cursor
     Cursor { block, at, end }
 }
 
-#[derive(Clone, Copy)]
-pub enum Continuing {
-    Done { gathering: Gathering, count: usize },
-    Stopped(Refusal),
-}
-
-// Enters a continuation of so many bytes, and reads its messages.
+// Enters a continuation of so many bytes, and reads its messages: what these come to, and the number of blocks then entered.
 fn read_block(
     image: &[u8],
     list: &mut [u64],
@@ -76,36 +69,25 @@ fn read_block(
     address: u64,
     size: u64,
     before: Gathering,
-) -> Continuing
+) -> Result<(Gathering, usize), Refusal>
     requires { Lending image.now list.old addresses.old counts.old marks.old reading count before.objects 16 }
     ensures { BlockRead image.now list.old addresses.old counts.old marks.old reading count
         address size before list.new addresses.new counts.new marks.new result }
 {
-    let end_of_file = reading.end_of_file;
-    let room = reading.room;
-    match blocks::enter(
-        end_of_file,
+    let count = blocks::enter(
+        reading.end_of_file,
         list,
         count,
-        room,
+        reading.room,
         kinds::CONTINUATION,
         address,
         size,
-    ) {
-        Entry::Refused(x) => Continuing::Stopped(x),
-        Entry::Entered(n) => {
-            let from = address as usize;
-            let end = from + size as usize;
-            let auditing = reading.auditing;
-            match scan::scan_block(image, addresses, counts, marks, auditing, from, end, before) {
-                Scan::Stopped(x) => Continuing::Stopped(x),
-                Scan::Done(gathering) => Continuing::Done {
-                    gathering,
-                    count: n,
-                },
-            }
-        }
-    }
+    )?;
+    let from = address as usize;
+    let end = from + size as usize;
+    let auditing = reading.auditing;
+    let gathering = scan::scan_block(image, addresses, counts, marks, auditing, from, end, before)?;
+    Ok((gathering, count))
 }
 
 // Enters and reads the continuations that the messages from the cursor on name, and those that these name in turn.
@@ -119,7 +101,7 @@ pub fn follow(
     count: usize,
     cursor: Cursor,
     before: Gathering,
-) -> Continuing
+) -> Result<(Gathering, usize), Refusal>
     requires lending { Lending image.now list.old addresses.old counts.old marks.old reading count before.objects 16 }
     requires ready { Ready image.now list.old count cursor }
     requires has_tally { HasTally image.now before.tally }
@@ -137,34 +119,11 @@ pub fn follow(
         let at = c.at;
         let address = u64_at(image, at + 8);
         let size = u64_at(image, at + 16);
-        match read_block(
+        (sofar, n) = read_block(
             image, list, addresses, counts, marks, reading, n, address, size, sofar,
-        ) {
-            Continuing::Stopped(x) => return Continuing::Stopped(x),
-            Continuing::Done {
-                gathering,
-                count: m,
-            } => {
-                sofar = gathering;
-                n = m;
-                let next = at + 8 + u16_at(image, at + 2) as usize;
-                let block = c.block;
-                let end = c.end;
-                c = seek(
-                    image,
-                    list,
-                    n,
-                    Cursor {
-                        block,
-                        at: next,
-                        end,
-                    },
-                );
-            }
-        }
+        )?;
+        let next = at + 8 + u16_at(image, at + 2) as usize;
+        c = seek(image, list, n, Cursor { at: next, ..c });
     }
-    Continuing::Done {
-        gathering: sofar,
-        count: n,
-    }
+    Ok((sofar, n))
 }

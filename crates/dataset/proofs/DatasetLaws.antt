@@ -24,10 +24,6 @@ use Rattle.message.specs.declared.Body.{Body}
 use Rattle.message.specs.Message.{message_of}
 use Rattle.dataset.specs.declared.dataset.Dataset.{Dataset}
 use Rattle.dataset.specs.declared.dataset.Parts.{Parts}
-use Rattle.dataset.specs.declared.dataset.PartsRead.{PartsRead}
-use Rattle.dataset.specs.declared.dataset.PartsRead.TheVariants as parts
-use Rattle.dataset.specs.declared.dataset.MessagesRead.{MessagesRead}
-use Rattle.dataset.specs.declared.dataset.MessagesRead.TheVariants as kept
 use Rattle.datatype.specs.declared.Datatype.TheVariants.{Own}
 use Rattle.datatype.specs.Datatype.{type_of}
 use Rattle.layout.specs.declared.Layout.{Layout}
@@ -42,7 +38,7 @@ body-part im a n = let e : a + n - a ≡ n = omega arith in rw e
 
 -- an unshared datatype, a data size, and the sizes in the part b' of the image
 pub own-fills : {b b' : List ℕ} (d : Dataset) {class version bits size stored : ℕ} {r : Bool} → b' ≡ b → d.datatype ≡ Own class version bits size →
-    stored ≡ (layout_of d.layout).size → r ≡ eqb (product (to_words d.rank (drop 8 b')) * size) stored → r ≡ data_fills (dataset_of b d)
+    stored ≡ (layout_of d.layout).size → r ≡ eqb (product (to_words d.dimensions.rank (drop 8 b')) * size) stored → r ≡ data_fills (dataset_of b d)
 own-fills d p e f h = rw (e, ← f, ← p) h
 
 -- The data's block: contiguous data at a defined address, of a length above 0.
@@ -116,11 +112,11 @@ module _ (im : List ℕ) (eof room n : ℕ) (ws : List ℕ) (lent : Lent ws n ro
       same-walk _ (storage-split (parts_of (body_of im space) p).space (type_of p.datatype) (message_of im 0x0008 layout))
       (start im eof room storage n ws lent)
 
-  module _ {m : MessagesRead} (e : messages_read (body_of im space) m ≡ layouts) where
-    pub messages-refused : {x : Refusal} → m ≡ kept.Refused x → Walked ws ws (stopped x) (run im eof room storage (blocks_of n ws))
+  module _ {m : Result Dataset Refusal} (e : messages_read (body_of im space) m ≡ layouts) where
+    pub messages-refused : {x : Refusal} → m ≡ Err x → Walked ws ws (stopped x) (run im eof room storage (blocks_of n ws))
     messages-refused {x} f = callee-refusal layouts (λ d. data_walk d.layout >> ret d) x (rw f at (sym e)) begun
 
-    module _ {d : Dataset} (f : m ≡ kept.Read d) where
+    module _ {d : Dataset} (f : m ≡ Ok d) where
       abbrev value : Rattle.format.specs.Dataset.Dataset
       value = dataset_of (body_of im space) d
 
@@ -148,10 +144,10 @@ module _ (im : List ℕ) (eof room n : ℕ) (ws : List ℕ) (lent : Lent ws n ro
   opened : Simulation im eof room whole n ws (both >>= behind) n ws
   opened = same-walk _ (dataset-split (message_of im 0x0001 space) (message_of im 0x0003 type) (message_of im 0x0008 layout)) (start im eof room whole n ws lent)
 
-  module _ {m : PartsRead} (e : parts_result (body_of im space) m ≡ both) where
-    pub parts-refused : {x : Refusal} → m ≡ parts.Refused x → Walked ws ws (stopped x) (run im eof room whole (blocks_of n ws))
+  module _ {m : Result Parts Refusal} (e : parts_result (body_of im space) m ≡ both) where
+    pub parts-refused : {x : Refusal} → m ≡ Err x → Walked ws ws (stopped x) (run im eof room whole (blocks_of n ws))
     parts-refused {x} f = callee-refusal both behind x (rw f at (sym e)) opened
 
-    pub parts-read : {p : Parts} → m ≡ parts.Read p → (ws₁ : List ℕ) {r : Ended Rattle.format.specs.Dataset.Dataset} →
+    pub parts-read : {p : Parts} → m ≡ Ok p → (ws₁ : List ℕ) {r : Ended Rattle.format.specs.Dataset.Dataset} →
         Walked ws ws₁ r (run im eof room (storage_of im space p layout) (blocks_of n ws)) → Walked ws ws₁ r (run im eof room whole (blocks_of n ws))
     parts-read {p} f ws₁ h = callee-last ws₁ (callee-value both behind (parts_of (body_of im space) p) (rw f at (sym e)) opened) h

@@ -1,5 +1,5 @@
 -- What the dataset walk's answer means.
-use Rattle.std.specs.Prelude.{ℕ, ◌+◌, ◌*◌, ◌≤◌, List, Bool, length}
+use Rattle.std.specs.Prelude.{ℕ, ◌+◌, ◌*◌, ◌≤◌, List, Bool, length, Result, Ok, Err}
 use Rattle.format.specs.Bytes.{part}
 use Rattle.format.specs.Message.{Message}
 use Rattle.format.specs.Dataspace.{Dataspace, read_dataspace}
@@ -10,17 +10,11 @@ use Rattle.walk.specs.Lent.{Ended, ended, stopped}
 use Rattle.message.specs.declared.Body.{Body}
 use Rattle.message.specs.Message.{message_of}
 use Rattle.dataspace.specs.Dataspace.{space_of, SpaceInside}
-use Rattle.dataspace.specs.declared.DataspaceRead.TheVariants.{Read}
 use Rattle.datatype.specs.Datatype.{type_of}
 use Rattle.layout.specs.Layout.{layout_of}
 use Rattle.dataset.specs.declared.dataset.Dataset.{Dataset}
 use Rattle.dataset.specs.declared.dataset.Parts.{Parts}
-use Rattle.dataset.specs.declared.dataset.PartsRead.{PartsRead}
-use Rattle.dataset.specs.declared.dataset.PartsRead.TheVariants as parts
-use Rattle.dataset.specs.declared.dataset.MessagesRead.{MessagesRead}
-use Rattle.dataset.specs.declared.dataset.MessagesRead.TheVariants as messages
-use Rattle.dataset.specs.declared.dataset.DatasetRead.{DatasetRead}
-use Rattle.dataset.specs.declared.dataset.DatasetRead.TheVariants as dataset
+use Rattle.format.specs.declared.Refusal.{Refusal}
 
 -- a message's body lies in the image
 abbrev pub Inside : List ℕ → Body → Type 0
@@ -39,11 +33,11 @@ pub record BodiesInside (im : List ℕ) (space type layout : Body) : Type 0 wher
 -- the dataspace message's body lies in the image, and the sizes in the body
 pub record SizesInside (im : List ℕ) (space : Body) (d : Dataset) : Type 0 where
   pub space_inside : Inside im space
-  pub sizes_inside : 8 + 8 * d.rank ≤ length (body_of im space)
+  pub sizes_inside : 8 + 8 * d.dimensions.rank ≤ length (body_of im space)
 
 -- a dataset by what was read of its messages; b is the body of the dataspace message
 abbrev pub dataset_of : List ℕ → Dataset → Rattle.format.specs.Dataset.Dataset
-dataset_of b d = record { space = space_of b d.rank d.maxima_stored; type = type_of d.datatype; layout = layout_of d.layout }
+dataset_of b d = record { space = space_of b d.dimensions.rank d.dimensions.maxima_stored; type = type_of d.datatype; layout = layout_of d.layout }
 
 -- "elements times element size .. equals the stored size"
 abbrev pub data_fills : Rattle.format.specs.Dataset.Dataset → Bool
@@ -63,23 +57,23 @@ parts_walk space type = do
 
 -- what was read of the dataspace and the datatype message; b is the body of the first
 abbrev pub parts_of : List ℕ → Parts → SpaceAndType
-parts_of b p = record { space = space_of b p.rank p.maxima_stored; type = type_of p.datatype }
+parts_of b p = record { space = space_of b p.dimensions.rank p.dimensions.maxima_stored; type = type_of p.datatype }
 
 -- the answer as the end of that walk
-abbrev pub parts_result : List ℕ → PartsRead → Walk SpaceAndType
-parts_result b (parts.Read p) = ret (parts_of b p)
-parts_result b (parts.Refused r) = refuse r
+abbrev pub parts_result : List ℕ → Result Parts Refusal → Walk SpaceAndType
+parts_result b (Ok p) = ret (parts_of b p)
+parts_result b (Err r) = refuse r
 
 -- the sizes and maxima of the dataspace stand in the body b of its message
-abbrev pub PartsShaped : List ℕ → PartsRead → Type 0
-PartsShaped b (parts.Read p) = SpaceInside b (Read p.rank p.maxima_stored)
-PartsShaped b (parts.Refused r) = Unit {0}
+abbrev pub PartsShaped : List ℕ → Result Parts Refusal → Type 0
+PartsShaped b (Ok p) = SpaceInside b (Ok p.dimensions)
+PartsShaped b (Err r) = Unit {0}
 
 -- dataspace and layout lie in the image, and the dataspace's sizes and maxima in its body
 pub record StorageInside (im : List ℕ) (space : Body) (p : Parts) (layout : Body) : Type 0 where
   pub space_inside : Inside im space
   pub layout_inside : Inside im layout
-  pub shaped : SpaceInside (body_of im space) (Read p.rank p.maxima_stored)
+  pub shaped : SpaceInside (body_of im space) (Ok p.dimensions)
 
 -- the storage walk before its data's block
 unfoldable pub layout_walk : Dataspace → Rattle.format.specs.Datatype.Datatype → Message → Walk Rattle.format.specs.Dataset.Dataset
@@ -96,22 +90,22 @@ storage_of im space p layout =
 
 -- the sizes and maxima of a dataset stand in the body b of its dataspace message
 abbrev pub Shaped : List ℕ → Dataset → Type 0
-Shaped b d = SpaceInside b (Read d.rank d.maxima_stored)
+Shaped b d = SpaceInside b (Ok d.dimensions)
 
-abbrev pub MessagesShaped : List ℕ → MessagesRead → Type 0
-MessagesShaped b (messages.Read d) = Shaped b d
-MessagesShaped b (messages.Refused r) = Unit {0}
+abbrev pub MessagesShaped : List ℕ → Result Dataset Refusal → Type 0
+MessagesShaped b (Ok d) = Shaped b d
+MessagesShaped b (Err r) = Unit {0}
 
-abbrev pub DatasetShaped : List ℕ → DatasetRead → Type 0
-DatasetShaped b (dataset.Read d count) = Shaped b d
-DatasetShaped b (dataset.Stopped r) = Unit {0}
+abbrev pub DatasetShaped : List ℕ → Result (Dataset × ℕ) Refusal → Type 0
+DatasetShaped b (Ok d) = Shaped b d.0
+DatasetShaped b (Err r) = Unit {0}
 
 -- the messages' answer as the end of their walk
-abbrev pub messages_read : List ℕ → MessagesRead → Walk Rattle.format.specs.Dataset.Dataset
-messages_read b (messages.Read d) = ret (dataset_of b d)
-messages_read b (messages.Refused r) = refuse r
+abbrev pub messages_read : List ℕ → Result Dataset Refusal → Walk Rattle.format.specs.Dataset.Dataset
+messages_read b (Ok d) = ret (dataset_of b d)
+messages_read b (Err r) = refuse r
 
 -- how the dataset walk ended
-abbrev pub dataset_end : List ℕ → DatasetRead → Ended Rattle.format.specs.Dataset.Dataset
-dataset_end b (dataset.Read d count) = ended (dataset_of b d) count
-dataset_end b (dataset.Stopped r) = stopped r
+abbrev pub dataset_end : List ℕ → Result (Dataset × ℕ) Refusal → Ended Rattle.format.specs.Dataset.Dataset
+dataset_end b (Ok d) = ended (dataset_of b d.0) d.1
+dataset_end b (Err r) = stopped r

@@ -13,20 +13,18 @@ ghost use Rattle.dataset.specs.Dataset.{Inside, BodiesInside, SizesInside, Stora
 ghost use Rattle.dataset.specs.Dataset.{parts_of, parts_walk, parts_result, PartsShaped, layout_walk, messages_read, MessagesShaped};
 ghost use Rattle.dataset.specs.Dataset.{storage_of, dataset_end, DatasetShaped};
 
-use dataspace::DataspaceRead;
-use datatype::{Datatype, DatatypeRead};
+use dataspace::Dimensions;
+use datatype::Datatype;
 use format::{Refusal, answers};
-use layout::{Layout, LayoutRead};
+use layout::Layout;
 use message::Body;
-use walk::blocks::Entry;
 use walk::numbers::UNDEFINED_ADDRESS;
 use walk::{blocks, kinds};
 
-// What the messages say. The sizes and maxima themselves stay in the body of the dataspace message.
+// What the messages say.
 #[derive(Clone, Copy)]
 pub struct Dataset {
-    pub rank: usize,
-    pub maxima_stored: bool,
+    pub dimensions: Dimensions,
     pub datatype: Datatype,
     pub layout: Layout,
 }
@@ -34,42 +32,19 @@ pub struct Dataset {
 // What the first two of them say: the dataset before its layout.
 #[derive(Clone, Copy)]
 pub struct Parts {
-    pub rank: usize,
-    pub maxima_stored: bool,
+    pub dimensions: Dimensions,
     pub datatype: Datatype,
-}
-
-#[derive(Clone, Copy)]
-pub enum PartsRead {
-    Read(Parts),
-    Refused(Refusal),
-}
-
-#[derive(Clone, Copy)]
-pub enum MessagesRead {
-    Read(Dataset),
-    Refused(Refusal),
-}
-
-#[derive(Clone, Copy)]
-pub enum DatasetRead {
-    Read(Dataset, usize),
-    Stopped(Refusal),
 }
 
 // Where the message of a body stands: 8 bytes before it.
 pub fn head_of(body: Body) -> usize
     ensures { result ≡ body.place - 8 }
 {
-    let place = body.place;
-    if place < 8 {
-        return 0;
-    }
-    place - 8
+    body.place.saturating_sub(8)
 }
 
 // Each reader is handed its message's body as a part of the image.
-fn read_space(image: &[u8], body: Body) -> DataspaceRead
+fn read_space(image: &[u8], body: Body) -> Result<Dimensions, u8>
     requires { Inside image.now body }
     ensures { SpaceRead (body_of image.now body) result }
 {
@@ -78,7 +53,7 @@ fn read_space(image: &[u8], body: Body) -> DataspaceRead
     dataspace::read(&image[place..end])
 }
 
-fn read_type(image: &[u8], body: Body) -> DatatypeRead
+fn read_type(image: &[u8], body: Body) -> Result<Datatype, u8>
     requires { Inside image.now body }
     ensures { type_result result ≡ read_type (message_of image.now 0x0003 body) }
 {
@@ -90,7 +65,7 @@ fn read_type(image: &[u8], body: Body) -> DatatypeRead
     datatype::read(&image[place..end])
 }
 
-fn read_layout(image: &[u8], body: Body) -> LayoutRead
+fn read_layout(image: &[u8], body: Body) -> Result<Layout, u8>
     requires { Inside image.now body }
     ensures { layout_result result ≡ read_layout body.place (body_of image.now body) }
 {
@@ -103,8 +78,7 @@ fn data_size(layout: Layout) -> u64
     ensures { result ≡ (layout_of layout).size }
 {
     match layout {
-        Layout::Compact { address: _, size } => size,
-        Layout::Contiguous { address: _, size } => size,
+        Layout::Compact { size, .. } | Layout::Contiguous { size, .. } => size,
     }
 }
 
@@ -113,78 +87,64 @@ fn filled(image: &[u8], space: Body, dataset: Dataset) -> bool
     requires { SizesInside image.now space dataset }
     ensures { result ≡ data_fills (dataset_of (body_of image.now space) dataset) }
 {
-    let datatype = dataset.datatype;
-    match datatype {
+    match dataset.datatype {
         Datatype::Shared(_) => true,
-        Datatype::Own {
-            class: _,
-            version: _,
-            bits: _,
-            size,
-        } => {
-            let layout = dataset.layout;
-            let stored = data_size(layout);
-            let rank = dataset.rank;
+        Datatype::Own { size, .. } => {
+            let stored = data_size(dataset.layout);
             let place = space.place;
             let end = place + space.size;
-            dataspace::fills(&image[place..end], rank, size as u64, stored)
+            dataspace::fills(
+                &image[place..end],
+                dataset.dimensions.rank,
+                size as u64,
+                stored,
+            )
         }
     }
 }
 
 // Reads the dataspace message and then the datatype message, each whole: what they say, or 3 or 11.
-pub fn read_parts(image: &[u8], space: Body, datatype: Body) -> PartsRead
+pub fn read_parts(image: &[u8], space: Body, datatype: Body) -> Result<Parts, Refusal>
     requires inside { Inside image.now space }
     requires inside_2 { Inside image.now datatype }
     ensures result_value { parts_result (body_of image.now space) result
         ≡ parts_walk (message_of image.now 0x0001 space) (message_of image.now 0x0003 datatype) }
     ensures parts_shaped { PartsShaped (body_of image.now space) result }
 {
-    match read_space(image, space) {
-        DataspaceRead::Refused(n) => PartsRead::Refused(Refusal::Fault(n, head_of(space))),
-        DataspaceRead::Read {
-            rank,
-            maxima_stored,
-        } => match read_type(image, datatype) {
-            DatatypeRead::Refused(n) => PartsRead::Refused(Refusal::Fault(n, head_of(datatype))),
-            DatatypeRead::Read(t) => {
-                let parts = Parts {
-                    rank: rank,
-                    maxima_stored: maxima_stored,
-                    datatype: t,
-                };
-                PartsRead::Read(parts)
-            }
-        },
-    }
+    let dimensions = read_space(image, space).map_err(|answer| Refusal::Fault(
+        answer,
+        head_of(space),
+    ))?;
+    let own = read_type(image, datatype).map_err(|answer| Refusal::Fault(
+        answer,
+        head_of(datatype),
+    ))?;
+    Ok(Parts {
+        dimensions,
+        datatype: own,
+    })
 }
 
 // Reads the layout message behind the other two, and compares the data's size: what all three say, or 3 or 11.
-fn messages(image: &[u8], space: Body, parts: Parts, layout: Body) -> MessagesRead
+fn messages(image: &[u8], space: Body, parts: Parts, layout: Body) -> Result<Dataset, Refusal>
     requires { StorageInside image.now space parts layout }
     ensures result_value { messages_read (body_of image.now space) result
         ≡ layout_walk (parts_of (body_of image.now space) parts).space (type_of parts.datatype) (message_of image.now 0x0008 layout) }
     ensures messages_shaped { MessagesShaped (body_of image.now space) result }
 {
-    match read_layout(image, layout) {
-        LayoutRead::Refused(n) => MessagesRead::Refused(Refusal::Fault(n, head_of(layout))),
-        LayoutRead::Read(l) => {
-            let t = parts.datatype;
-            let dataset = Dataset {
-                rank: parts.rank,
-                maxima_stored: parts.maxima_stored,
-                datatype: t,
-                layout: l,
-            };
-            if !filled(image, space, dataset) {
-                return MessagesRead::Refused(Refusal::Fault(
-                    answers::DATASET_UNSOUND,
-                    head_of(layout),
-                ));
-            }
-            MessagesRead::Read(dataset)
-        }
+    let stored = read_layout(image, layout).map_err(|answer| Refusal::Fault(
+        answer,
+        head_of(layout),
+    ))?;
+    let dataset = Dataset {
+        dimensions: parts.dimensions,
+        datatype: parts.datatype,
+        layout: stored,
+    };
+    if !filled(image, space, dataset) {
+        return Err(Refusal::Fault(answers::DATASET_UNSOUND, head_of(layout)));
     }
+    Ok(dataset)
 }
 
 // Enters the data's block: that of contiguous data with a defined address and a length above 0. No byte of the image is
@@ -195,23 +155,20 @@ fn enter_data(
     count: usize,
     room: usize,
     layout: Layout,
-) -> Entry
+) -> Result<usize, Refusal>
     requires { Lent blocks.old count room }
     ensures { (im : List ℕ) → Walked blocks.old blocks.new (entry_end result)
         (run im end_of_file room (data_walk (layout_of layout)) (blocks_of count blocks.old)) }
 {
     match layout {
-        Layout::Compact {
-            address: _,
-            size: _,
-        } => Entry::Entered(count),
+        Layout::Compact { .. } => Ok(count),
         Layout::Contiguous { address, size } => {
             let undefined = address == UNDEFINED_ADDRESS;
             if undefined {
-                return Entry::Entered(count);
+                return Ok(count);
             }
             if size < 1 {
-                return Entry::Entered(count);
+                return Ok(count);
             }
             blocks::enter(end_of_file, blocks, count, room, kinds::DATA, address, size)
         }
@@ -228,23 +185,16 @@ pub fn read_storage(
     space: Body,
     parts: Parts,
     layout: Body,
-) -> DatasetRead
+) -> Result<(Dataset, usize), Refusal>
     requires lent { Lent blocks.old count room }
     requires storage_inside { StorageInside image.now space parts layout }
     ensures walked { Walked blocks.old blocks.new (dataset_end (body_of image.now space) result)
         (run image.now end_of_file room (storage_of image.now space parts layout) (blocks_of count blocks.old)) }
     ensures dataset_shaped { DatasetShaped (body_of image.now space) result }
 {
-    match messages(image, space, parts, layout) {
-        MessagesRead::Refused(n) => DatasetRead::Stopped(n),
-        MessagesRead::Read(dataset) => {
-            let data = dataset.layout;
-            match enter_data(end_of_file, blocks, count, room, data) {
-                Entry::Refused(n) => DatasetRead::Stopped(n),
-                Entry::Entered(entered) => DatasetRead::Read(dataset, entered),
-            }
-        }
-    }
+    let dataset = messages(image, space, parts, layout)?;
+    let entered = enter_data(end_of_file, blocks, count, room, dataset.layout)?;
+    Ok((dataset, entered))
 }
 
 // The dataset walk: reads the messages and enters the data's block. The count of blocks is the new one.
@@ -257,7 +207,7 @@ pub fn read(
     space: Body,
     datatype: Body,
     layout: Body,
-) -> DatasetRead
+) -> Result<(Dataset, usize), Refusal>
     requires lent { Lent blocks.old count room }
     requires bodies_inside { BodiesInside image.now space datatype layout }
     ensures walked { Walked blocks.old blocks.new (dataset_end (body_of image.now space) result)
@@ -265,17 +215,15 @@ pub fn read(
         (message_of image.now 0x0003 datatype) (message_of image.now 0x0008 layout)) (blocks_of count blocks.old)) }
     ensures dataset_shaped { DatasetShaped (body_of image.now space) result }
 {
-    match read_parts(image, space, datatype) {
-        PartsRead::Refused(n) => DatasetRead::Stopped(n),
-        PartsRead::Read(parts) => read_storage(
-            image,
-            end_of_file,
-            blocks,
-            count,
-            room,
-            space,
-            parts,
-            layout,
-        ),
-    }
+    let parts = read_parts(image, space, datatype)?;
+    read_storage(
+        image,
+        end_of_file,
+        blocks,
+        count,
+        room,
+        space,
+        parts,
+        layout,
+    )
 }

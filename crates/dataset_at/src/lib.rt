@@ -12,23 +12,19 @@ ghost use Rattle.dataset.specs.Dataset.{BodiesInside};
 ghost use Rattle.object.specs.Object.{Opened};
 ghost use Rattle.dataset_at.specs.Reader.{dataset_at_walk, ReaderIs};
 
-use dataset::dataset::{Dataset, DatasetRead};
+use dataset::dataset::Dataset;
 use format::{NO_PLACE, Refusal, answers};
 use image::header;
 use kind::HeaderRead;
 use message::Body;
 use superblock::Superblock;
-use walk::blocks::Entry;
 
-// What the messages of a dataset say, with the body of its dataspace message and the number of blocks entered, or the refusal.
+// What the messages of a dataset say, with the body of its dataspace message and the number of blocks entered.
 #[derive(Clone, Copy)]
-pub enum DatasetAt {
-    Read {
-        dataset: Dataset,
-        space: Body,
-        count: usize,
-    },
-    Stopped(Refusal),
+pub struct DatasetAt {
+    pub dataset: Dataset,
+    pub space: Body,
+    pub count: usize,
 }
 
 // A dataset with these messages.
@@ -41,14 +37,14 @@ fn read_messages(
     space: Body,
     datatype: Body,
     layout: Body,
-) -> DatasetAt
+) -> Result<DatasetAt, Refusal>
     requires lent { Lent list.old count room }
     requires bodies_inside { BodiesInside image.now space datatype layout }
     ensures { ReaderIs image.now end_of_file room (dataset_walk (message_of image.now 0x0001 space)
         (message_of image.now 0x0003 datatype) (message_of image.now 0x0008 layout)) (blocks_of count list.old)
         list.old list.new result }
 {
-    match dataset::dataset::read(
+    let read = dataset::dataset::read(
         image,
         end_of_file,
         list,
@@ -57,14 +53,12 @@ fn read_messages(
         space,
         datatype,
         layout,
-    ) {
-        DatasetRead::Stopped(x) => DatasetAt::Stopped(x),
-        DatasetRead::Read(d, n) => DatasetAt::Read {
-            dataset: d,
-            space,
-            count: n,
-        },
-    }
+    )?;
+    Ok(DatasetAt {
+        dataset: read.0,
+        space,
+        count: read.1,
+    })
 }
 
 // The object whose header stands at `at`: 20 where it isn't a dataset.
@@ -75,24 +69,17 @@ fn read_object(
     count: usize,
     room: usize,
     at: u64,
-) -> DatasetAt
+) -> Result<DatasetAt, Refusal>
     requires lent { Lent list.old count room }
     requires room_le_blocks_most { room ≤ blocks_most }
     requires end_of_file_in_bounds { end_of_file ≤ length image.now }
     ensures { ReaderIs image.now end_of_file room (describe_walk at) (blocks_of count list.old) list.old
         list.new result }
 {
-    match header::read(image, end_of_file, list, count, room, at) {
-        HeaderRead::Stopped(x) => DatasetAt::Stopped(x),
-        HeaderRead::Committed(_) => DatasetAt::Stopped(Refusal::Fault(
-            answers::NOT_A_DATASET,
-            NO_PLACE,
-        )),
-        HeaderRead::Group {
-            tree: _,
-            heap: _,
-            count: _,
-        } => DatasetAt::Stopped(Refusal::Fault(answers::NOT_A_DATASET, NO_PLACE)),
+    let header = header::read(image, end_of_file, list, count, room, at)?;
+    match header {
+        HeaderRead::Committed(_) => Err(Refusal::Fault(answers::NOT_A_DATASET, NO_PLACE)),
+        HeaderRead::Group { .. } => Err(Refusal::Fault(answers::NOT_A_DATASET, NO_PLACE)),
         HeaderRead::Dataset {
             space,
             datatype,
@@ -109,17 +96,12 @@ pub fn dataset_at(
     superblock: Superblock,
     room: usize,
     at: u64,
-) -> DatasetAt
+) -> Result<DatasetAt, Refusal>
     requires opened { Opened image.now superblock room }
     requires lent { Lent list.old 0 room }
     ensures { ReaderIs image.now superblock.end_of_file room (dataset_at_walk (superblock_of superblock) at) [] list.old
         list.new result }
 {
-    match superblock::enter_superblock(superblock, list, room) {
-        Entry::Refused(x) => DatasetAt::Stopped(x),
-        Entry::Entered(n) => {
-            let end_of_file = superblock.end_of_file;
-            read_object(image, end_of_file, list, n, room, at)
-        }
-    }
+    let entered = superblock::enter_superblock(superblock, list, room)?;
+    read_object(image, superblock.end_of_file, list, entered, room, at)
 }

@@ -13,7 +13,7 @@ use Rattle.format.specs.Bytes.{◌implies◌, u8, to_words}
 use Rattle.format.specs.Dataspace.{Dataspace, all_at_most, read_dataspace}
 use Rattle.format.specs.Result.{Result, value, answer, check, ◌>>◌}
 use Rattle.laws.proofs.Results.{passes, fails}
-use Rattle.dataspace.specs.declared.DataspaceRead.TheVariants.{Read, Refused}
+use Rattle.std.specs.Prelude.{Ok, Err}
 use Rattle.dataspace.specs.Dataspace.{space_of, SpaceRead}
 
 -- what follows the check of the length, of the version, of the rank, of the flags, of the sizes
@@ -66,11 +66,11 @@ module _ (b : List ℕ) {k : ℕ} (e : k ≡ u8 b 1) where
       maxima-stored g = rw (← e, eq-eqb (u8 b 2) 1 h) (passes 11 _ (le-leb (8 + 16 * k) (length b) (omega arith)) (passes 11 _ (sym f ∙ g) refl))
 
 -- what each return shows
-pub refused-space : {b : List ℕ} {n : ℕ} → answer n ≡ read_dataspace b → SpaceRead b (Refused n)
+pub refused-space : {b : List ℕ} {n : ℕ} → answer n ≡ read_dataspace b → SpaceRead b (Err n)
 refused-space e = record { walk = e; ranked = omega arith; sizes = omega arith; maxima = omega arith }
 
-pub plain-space : {b : List ℕ} {k : ℕ} → value (space_of b k false) ≡ read_dataspace b → k ≤ rank_most → 8 + 8 * k ≤ length b → SpaceRead b (Read k false)
+pub plain-space : {b : List ℕ} {k : ℕ} → value (space_of b k false) ≡ read_dataspace b → k ≤ rank_most → 8 + 8 * k ≤ length b → SpaceRead b (Ok (record { rank = k; maxima_stored = false }))
 plain-space e r h = record { walk = e; ranked = r; sizes = h; maxima = h }
 
-pub stored-space : {b : List ℕ} {k : ℕ} → value (space_of b k true) ≡ read_dataspace b → k ≤ rank_most → 8 + 8 * k + 8 * k ≤ length b → SpaceRead b (Read k true)
+pub stored-space : {b : List ℕ} {k : ℕ} → value (space_of b k true) ≡ read_dataspace b → k ≤ rank_most → 8 + 8 * k + 8 * k ≤ length b → SpaceRead b (Ok (record { rank = k; maxima_stored = true }))
 stored-space e r h = record { walk = e; ranked = r; sizes = omega arith; maxima = omega arith }

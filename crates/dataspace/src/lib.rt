@@ -10,10 +10,11 @@ ghost use Rattle.dataspace.specs.Dataspace.{SpaceRead, Sizes};
 use format::answers;
 use walk::numbers::u64_at;
 
+// The rank, and whether maxima are stored. The sizes and maxima themselves stay in the message's body.
 #[derive(Clone, Copy)]
-pub enum DataspaceRead {
-    Read { rank: usize, maxima_stored: bool },
-    Refused(u8),
+pub struct Dimensions {
+    pub rank: usize,
+    pub maxima_stored: bool,
 }
 
 fn wide(x: u8) -> usize
@@ -38,45 +39,45 @@ fn at_most(body: &[u8], sizes: usize, maxima: usize, rank: usize) -> bool
     true
 }
 
-// Reads the message: the rank and whether maxima are stored, or 3 or 11.
-pub fn read(body: &[u8]) -> DataspaceRead
+// Reads the message: what it says of the dimensions, or 3 or 11.
+pub fn read(body: &[u8]) -> Result<Dimensions, u8>
     ensures { SpaceRead body.now result }
 {
     let limits = format::the_limits();
     if body.len() < 8 {
-        return DataspaceRead::Refused(answers::DATASET_UNSOUND);
+        return Err(answers::DATASET_UNSOUND);
     }
     if body[0] != 1 {
-        return DataspaceRead::Refused(answers::NOT_READ);
+        return Err(answers::NOT_READ);
     }
     let rank = wide(body[1]);
     if limits.rank_most < rank {
-        return DataspaceRead::Refused(answers::DATASET_UNSOUND);
+        return Err(answers::DATASET_UNSOUND);
     }
     let flags = body[2];
     if 1 < flags {
-        return DataspaceRead::Refused(answers::NOT_READ);
+        return Err(answers::NOT_READ);
     }
     let maxima = 8 + 8 * rank;
     if body.len() < maxima {
-        return DataspaceRead::Refused(answers::DATASET_UNSOUND);
+        return Err(answers::DATASET_UNSOUND);
     }
     if flags != 1 {
-        return DataspaceRead::Read {
-            rank: rank,
+        return Ok(Dimensions {
+            rank,
             maxima_stored: false,
-        };
+        });
     }
     if body.len() < maxima + 8 * rank {
-        return DataspaceRead::Refused(answers::DATASET_UNSOUND);
+        return Err(answers::DATASET_UNSOUND);
     }
     if !at_most(body, 8, maxima, rank) {
-        return DataspaceRead::Refused(answers::DATASET_UNSOUND);
+        return Err(answers::DATASET_UNSOUND);
     }
-    DataspaceRead::Read {
-        rank: rank,
+    Ok(Dimensions {
+        rank,
         maxima_stored: true,
-    }
+    })
 }
 
 // The `rank` words at `from`, and zeros behind them.

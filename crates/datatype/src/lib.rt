@@ -21,12 +21,6 @@ pub enum Datatype {
     Shared(u64),
 }
 
-#[derive(Clone, Copy)]
-pub enum DatatypeRead {
-    Read(Datatype),
-    Refused(u8),
-}
-
 fn class_read(class: u8) -> bool
     ensures { result ≡ class_read class }
 {
@@ -103,40 +97,39 @@ fn sound(body: &[u8], class: u8, size: u64) -> bool
 }
 
 // Reads the message: the datatype, or 3 or 11.
-pub fn read(body: &[u8]) -> DatatypeRead
+pub fn read(body: &[u8]) -> Result<Datatype, u8>
     ensures { type_result result ≡ read_datatype body.now }
 {
     if body.len() < 8 {
-        return DatatypeRead::Refused(answers::DATASET_UNSOUND);
+        return Err(answers::DATASET_UNSOUND);
     }
     let version = body[0] / 16;
     if version < 1 {
-        return DatatypeRead::Refused(answers::NOT_READ);
+        return Err(answers::NOT_READ);
     }
     if 3 < version {
-        return DatatypeRead::Refused(answers::NOT_READ);
+        return Err(answers::NOT_READ);
     }
     let class = body[0] % 16;
     if !class_read(class) {
-        return DatatypeRead::Refused(answers::NOT_READ);
+        return Err(answers::NOT_READ);
     }
     let size = u32_at(body, 4);
     if size < 1 {
-        return DatatypeRead::Refused(answers::DATASET_UNSOUND);
+        return Err(answers::DATASET_UNSOUND);
     }
     if body.len() < needed(class) {
-        return DatatypeRead::Refused(answers::DATASET_UNSOUND);
+        return Err(answers::DATASET_UNSOUND);
     }
     if !sound(body, class, size) {
-        return DatatypeRead::Refused(answers::DATASET_UNSOUND);
+        return Err(answers::DATASET_UNSOUND);
     }
-    let datatype = Datatype::Own {
-        class: class,
-        version: version,
+    Ok(Datatype::Own {
+        class,
+        version,
         bits: class_bits(body),
         size: size as u32,
-    };
-    DatatypeRead::Read(datatype)
+    })
 }
 
 // Whether the shared message is one that is read: version 2, or version 3 with type 2.
@@ -154,18 +147,17 @@ pub fn shared_read(body: &[u8]) -> bool
 }
 
 // Reads a shared message: the address of the datatype, or 3 or 11.
-pub fn read_shared(body: &[u8]) -> DatatypeRead
+pub fn read_shared(body: &[u8]) -> Result<Datatype, u8>
     ensures { type_result result ≡ read_shared body.now }
 {
     if body.len() < 8 {
-        return DatatypeRead::Refused(answers::DATASET_UNSOUND);
+        return Err(answers::DATASET_UNSOUND);
     }
     if !shared_read(body) {
-        return DatatypeRead::Refused(answers::NOT_READ);
+        return Err(answers::NOT_READ);
     }
     if body.len() < 10 {
-        return DatatypeRead::Refused(answers::DATASET_UNSOUND);
+        return Err(answers::DATASET_UNSOUND);
     }
-    let datatype = Datatype::Shared(u64_at(body, 2));
-    DatatypeRead::Read(datatype)
+    Ok(Datatype::Shared(u64_at(body, 2)))
 }

@@ -27,7 +27,8 @@ use Rattle.dataset.specs.declared.dataset.Dataset.{Dataset}
 use Rattle.dataspace.proofs.DataspaceLaws.{length-to_words}
 use Rattle.component.specs.Component.{EndsAs}
 use Rattle.follow.specs.Follow.{target_run}
-use Rattle.component.specs.declared.Target as targets
+use Rattle.std.specs.Prelude.{Ok, Err}
+use Rattle.component.specs.declared.Target.TheVariants.{Object, Symbolic}
 use Rattle.follow.proofs.FollowLaws.{follow-target}
 use Rattle.dataset_at.specs.Reader.{dataset_at_walk, ReaderIs}
 use Rattle.describe.specs.Fields.{TypeIs, LayoutIs}
@@ -35,18 +36,17 @@ use Rattle.describe.specs.Describe.{reply_of}
 use Rattle.describe.specs.declared.fields.TypeFields.{TypeFields}
 use Rattle.describe.specs.declared.fields.LayoutFields.{LayoutFields}
 use Rattle.describe.specs.declared.Description.{Description}
-use Rattle.dataset_at.specs.declared.DatasetAt.TheVariants.{Read, Stopped}
 
 -- the fields of the reply, each as its reader gave it
 pub fields-are : (b : List ℕ) (d : Dataset) (count : ℕ) (sizes maxima : List ℕ) (t : TypeFields) (l : LayoutFields) → sizes ≡ padded rank_most
-    (to_words d.rank (drop 8 b)) →
-    maxima ≡ padded rank_most (space_of b d.rank d.maxima_stored).maxima → TypeIs d.datatype t → LayoutIs d.layout l → (lent : ℕ)
+    (to_words d.dimensions.rank (drop 8 b)) →
+    maxima ≡ padded rank_most (space_of b d.dimensions.rank d.dimensions.maxima_stored).maxima → TypeIs d.datatype t → LayoutIs d.layout l → (lent : ℕ)
     (bs : List Block) → length bs ≡ count →
     reply_of (block_list lent bs) (record {
       number = 0;
       met = 0;
       block_count = count;
-      rank = d.rank;
+      rank = d.dimensions.rank;
       sizes = sizes;
       maxima = maxima;
       class = t.class;
@@ -60,7 +60,7 @@ pub fields-are : (b : List ℕ) (d : Dataset) (count : ℕ) (sizes maxima : List
     }) ≡
     describe_end lent (done (dataset_of b d) bs)
 fields-are b d count sizes maxima t l p q u v lent bs e =
-    rw (e, p, q, length-to_words d.rank (drop 8 b), u.class, u.version, u.bits, u.size, u.shared, v.class, v.address, v.size)
+    rw (e, p, q, length-to_words d.dimensions.rank (drop 8 b), u.class, u.version, u.bits, u.size, u.shared, v.class, v.address, v.size)
 
 -- what was returned and left in a working list is the reply of this run, with any number of words lent
 abbrev pub Replies : List ℕ → Description → Outcome datasets.Dataset → Type 0
@@ -77,12 +77,12 @@ none_within r x room f = let none : r.block_count ≡ 0 = ap (λ (y : DescribeRe
 -- the walk of a dataset, on a working list
 module _ (im : List ℕ) (eof room : ℕ) (w : Walk datasets.Dataset) (ws ws₁ : List ℕ) (is : room ≡ places_of (length ws)) where
   -- it was refused
-  pub object-stopped : (x : Refusal) → ReaderIs im eof room w [] ws ws₁ (Stopped x) → (r : Description) → Refuses r x →
+  pub object-stopped : (x : Refusal) → ReaderIs im eof room w [] ws ws₁ (Err x) → (r : Description) → Refuses r x →
       Replies ws₁ r (run im eof (places_of (length ws)) w [])
   object-stopped x h r f lent = let o = walked-refused ws ws₁ x _ h.walked in rw (← is, o.1) (f lent ws₁ o.0)
 
   -- it is done
-  module _ (d : Dataset) (space : Body) (count : ℕ) (h : ReaderIs im eof room w [] ws ws₁ (Read d space count)) (r : Description)
+  module _ (d : Dataset) (space : Body) (count : ℕ) (h : ReaderIs im eof room w [] ws ws₁ (Ok (record { dataset = d; space = space; count = count }))) (r : Description)
       (f : (lent : ℕ) (bs : List Block) → length bs ≡ count → reply_of (block_list lent bs) r ≡ describe_end lent (done (dataset_of (body_of im space) d) bs)) where
     fields : (lent : ℕ) → reply_of (block_list lent (blocks_of count ws₁)) r ≡ describe_end lent (done (dataset_of (body_of im space) d) (blocks_of count ws₁))
     fields lent = f lent (blocks_of count ws₁) (length-blocks_of count ws₁)
@@ -107,13 +107,13 @@ module _ (im : List ℕ) (s : definitions.Superblock) (room : ℕ) (ps : List (L
   abbrev followed : Outcome datasets.Dataset
   followed = follow im s room describe_walk (refused (fault 20 0) []) ps s.root
 
-  pub path-stopped : (x : Refusal) → EndsAs (targets.TheVariants.Stopped x) target → Refuses r x → Replies ws r followed
+  pub path-stopped : (x : Refusal) → EndsAs (Err x) target → Refuses r x → Replies ws r followed
   path-stopped x o f lent = rw (follow-target im s room describe_walk (refused (fault 20 0) []) ps s.root, o.1) (f lent ws o.0)
 
-  pub path-symbolic : EndsAs targets.TheVariants.Symbolic target → Refuses r (fault 20 0) → Replies ws r followed
+  pub path-symbolic : EndsAs (Ok Symbolic) target → Refuses r (fault 20 0) → Replies ws r followed
   path-symbolic o f lent = rw (follow-target im s room describe_walk (refused (fault 20 0) []) ps s.root, o.1) (f lent ws [])
 
-  pub path-object : (a room₁ : ℕ) → room₁ ≡ room → EndsAs (targets.TheVariants.Object a) target →
+  pub path-object : (a room₁ : ℕ) → room₁ ≡ room → EndsAs (Ok (Object a)) target →
       Replies ws r (run im s.end_of_file room₁ (dataset_at_walk s a) []) → Replies ws r followed
   path-object a room₁ same o f lent = rw (follow-target im s room describe_walk (refused (fault 20 0) []) ps s.root, o.1, ← same) (f lent)
 

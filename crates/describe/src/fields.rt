@@ -88,10 +88,10 @@ pub fn words_in(image: &[u8], body: Body, from: usize, rank: usize) -> [u64; RAN
 // The maxima, or the sizes where none are stored.
 pub fn maxima_in(image: &[u8], space: Body, dataset: Dataset) -> [u64; RANK_MOST]
     requires { Readable image.now space dataset }
-    ensures { result ≡ padded rank_most (space_of (body_of image.now space) dataset.rank dataset.maxima_stored).maxima }
+    ensures { result ≡ padded rank_most (space_of (body_of image.now space) dataset.dimensions.rank dataset.dimensions.maxima_stored).maxima }
 {
-    let rank = dataset.rank;
-    if dataset.maxima_stored {
+    let rank = dataset.dimensions.rank;
+    if dataset.dimensions.maxima_stored {
         return words_in(image, space, 8 + 8 * rank, rank);
     }
     words_in(image, space, 8, rank)

@@ -19,11 +19,11 @@ ghost use Rattle.describe.specs.Describe.{reply_of};
 
 use component::Target;
 use dataset::dataset::Dataset;
-use dataset_at::{DatasetAt, dataset_at};
+use dataset_at::dataset_at;
 use follow;
 use format::{NO_PLACE, RANK_MOST, Refusal, answers, met_of, number_of};
 use message::Body;
-use superblock::{Opening, Superblock};
+use superblock::Superblock;
 use walk::blocks;
 use walk::blocks::WORK_WORDS;
 
@@ -78,13 +78,11 @@ fn described(image: &[u8], space: Body, dataset: Dataset, count: usize) -> Descr
     ensures { (lent : ℕ) (bs : List Block) → length bs ≡ count → reply_of (block_list lent bs) result ≡ describe_end lent
         (done (dataset_of (body_of image.now space) dataset) bs) }
 {
-    let rank = dataset.rank;
-    let datatype = dataset.datatype;
-    let layout = dataset.layout;
+    let rank = dataset.dimensions.rank;
     let sizes = fields::words_in(image, space, 8, rank);
     let maxima = fields::maxima_in(image, space, dataset);
-    let types = fields::type_fields(datatype);
-    let layouts = fields::layout_fields(layout);
+    let types = fields::type_fields(dataset.datatype);
+    let layouts = fields::layout_fields(dataset.layout);
     Description {
         number: answers::DONE,
         met: 0,
@@ -112,12 +110,8 @@ fn describe_object(image: &[u8], list: &mut [u64], superblock: Superblock, at: u
 {
     let room = blocks::places(list.len());
     match dataset_at(image, list, superblock, room, at) {
-        DatasetAt::Stopped(x) => refused(x),
-        DatasetAt::Read {
-            dataset,
-            space,
-            count,
-        } => described(image, space, dataset, count),
+        Err(refusal) => refused(refusal),
+        Ok(read) => described(image, read.space, read.dataset, read.count),
     }
 }
 
@@ -131,9 +125,9 @@ fn describe_path(image: &[u8], path: &[u8], list: &mut [u64], superblock: Superb
         (components_of path.now) superblock.root) }
 {
     match follow::find_object(image, path, list, superblock) {
-        Target::Stopped(x) => refused(x),
-        Target::Symbolic => refused(Refusal::Fault(answers::NOT_A_DATASET, NO_PLACE)),
-        Target::Object(a) => describe_object(image, list, superblock, a),
+        Err(refusal) => refused(refusal),
+        Ok(Target::Symbolic) => refused(Refusal::Fault(answers::NOT_A_DATASET, NO_PLACE)),
+        Ok(Target::Object(address)) => describe_object(image, list, superblock, address),
     }
 }
 
@@ -147,8 +141,8 @@ pub fn describe_in(image: &[u8], path: &[u8], list: &mut [u64]) -> Description
         return refused(Refusal::Fault(answers::BAD_PATH, NO_PLACE));
     }
     match superblock::open(image) {
-        Opening::NotOpened(x) => refused(Refusal::Fault(x, 0)),
-        Opening::Opened(s) => describe_path(image, path, list, s),
+        Err(answer) => refused(Refusal::Fault(answer, 0)),
+        Ok(superblock) => describe_path(image, path, list, superblock),
     }
 }
 

@@ -19,7 +19,8 @@ use Rattle.walk.proofs.BlockList.{lent_none}
 use Rattle.path.specs.Form.{EndsAt, components_of}
 use Rattle.component.specs.Component.{EndsAs}
 use Rattle.follow.specs.Follow.{target_run, rest_of}
-use Rattle.component.specs.declared.Target as targets
+use Rattle.std.specs.Prelude.{Ok, Err}
+use Rattle.component.specs.declared.Target.TheVariants.{Object, Symbolic}
 
 -- there is always a part, if only an empty one
 parts-some : (bs : List ℕ) → is_empty (path_parts bs) ≡ false
@@ -83,24 +84,24 @@ module _ (im path : List ℕ) (s : Superblock) (room start end at : ℕ) (h : st
   unfolding target_run
   next q = rw (rest-next path start end h e, rest-last path start end h e, q) refl
 
-  pub object-next : (a : ℕ) → EndsAs (targets.TheVariants.Object a) found → target_run im s room (rest_of path start) at ≡ target_run im s room
+  pub object-next : (a : ℕ) → EndsAs (Ok (Object a)) found → target_run im s room (rest_of path start) at ≡ target_run im s room
       (rest_of path (end + 1)) a
   object-next a q = next q.1
 
-  pub symbolic-next : EndsAs targets.TheVariants.Symbolic found → EndsAs targets.TheVariants.Symbolic (target_run im s room (rest_of path start) at)
+  pub symbolic-next : EndsAs (Ok Symbolic) found → EndsAs (Ok Symbolic) (target_run im s room (rest_of path start) at)
   symbolic-next q = ([], next q.1)
 
-  pub stopped-next : (r : Refusal) → EndsAs (targets.TheVariants.Stopped r) found → EndsAs (targets.TheVariants.Stopped r)
+  pub stopped-next : (r : Refusal) → EndsAs (Err r) found → EndsAs (Err r)
       (target_run im s room (rest_of path start) at)
   stopped-next r q = (q.0, next q.1)
 
 -- no component is left
-pub none_left : (im path : List ℕ) (s : Superblock) (room start at : ℕ) → length path < start → EndsAs (targets.TheVariants.Object at)
+pub none_left : (im path : List ℕ) (s : Superblock) (room start at : ℕ) → length path < start → EndsAs (Ok (Object at))
     (target_run im s room (rest_of path start) at)
 unfolding target_run
 none_left im path s room start at h = ([], rw (rest_end path start h) refl)
 
-pub root-alone : (im path : List ℕ) (s : Superblock) (room at : ℕ) → length path ≡ 1 → EndsAs (targets.TheVariants.Object at)
+pub root-alone : (im path : List ℕ) (s : Superblock) (room at : ℕ) → length path ≡ 1 → EndsAs (Ok (Object at))
     (target_run im s room (components_of path) at)
 unfolding target_run
 root-alone im path s room at h = ([], rw (rest-root path h) refl)

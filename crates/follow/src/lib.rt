@@ -10,6 +10,7 @@ ghost use Rattle.component.specs.Component.{EndsAs};
 ghost use Rattle.follow.specs.Follow.{target_run};
 
 use component::Target;
+use format::Refusal;
 use superblock::Superblock;
 use walk::blocks;
 
@@ -20,7 +21,7 @@ fn follow(
     list: &mut [u64],
     superblock: Superblock,
     room: usize,
-) -> Target
+) -> Result<Target, Refusal>
     requires opened { Opened image.now superblock room }
     requires lent { Lent list.old 0 room }
     requires in_bounds { 1 ≤ length path.now }
@@ -28,26 +29,27 @@ fn follow(
 {
     let mut at = superblock.root;
     if path.len() == 1 {
-        return Target::Object(at);
+        return Ok(Target::Object(at));
     }
     let mut from: usize = 1;
     while from <= path.len() {
         let end = path::component_end(path, from);
         let last = end == path.len();
-        match component::component(image, &path[from..end], list, superblock, room, at, last) {
-            Target::Stopped(x) => return Target::Stopped(x),
-            Target::Symbolic => return Target::Symbolic,
-            Target::Object(a) => {
-                at = a;
+        let target =
+            component::component(image, &path[from..end], list, superblock, room, at, last)?;
+        match target {
+            Target::Symbolic => return Ok(Target::Symbolic),
+            Target::Object(address) => {
+                at = address;
                 from = end + 1;
             }
         }
     }
-    Target::Object(at)
+    Ok(Target::Object(at))
 }
 
 // Where a path leads in an opened image, with the whole list lent for the blocks of each component.
-pub fn find_object(image: &[u8], path: &[u8], list: &mut [u64], superblock: Superblock) -> Target
+pub fn find_object(image: &[u8], path: &[u8], list: &mut [u64], superblock: Superblock) -> Result<Target, Refusal>
     requires bounded { Bounded image.now superblock }
     requires in_bounds { 1 ≤ length path.now }
     ensures { EndsAs result (target_run image.now (superblock_of superblock) (places_of (length list.old))

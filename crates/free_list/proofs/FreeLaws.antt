@@ -16,8 +16,7 @@ use Rattle.format.specs.Result.{Result, value, answer, check, ◌>>=◌, ◌>>�
 use Rattle.format.specs.FreeList.{free_blocks, free_list}
 use Rattle.free_map.proofs.RangeLaws.{map-none}
 use Rattle.free_list.specs.Spanned.{Spanned}
-use Rattle.free_list.specs.FreeBlocks.{chain, block_sound, Held, BlockAdded, ListRead}
-use Rattle.free_list.specs.declared.FreeList.{FreeList}
+use Rattle.free_list.specs.FreeBlocks.{chain, block_sound, Held, BlockAdded}
 use Rattle.free_list.proofs.ChainLaws.{follow, follow-next, chain_snoc, chained-snoc}
 
 -- a sound block lies in the segment, and begins with its two fields
@@ -124,7 +123,3 @@ module _ {seg map map' : List ℕ} {head at met : ℕ} {r : Bool} (f : Following
 pub free-long : {seg map : List ℕ} {head at met : ℕ} → Following seg map head at met → length seg ≤ met → free_list seg head ≡ answer 9
 unfolding free_blocks
 free-long {seg} {map} {head} {at} {met} f h = let z : length seg - met ≡ 0 = omega arith in f.left ∙ rw z
-
--- what was read of a segment, by the case that it is
-pub same-list : {seg seg' map map' : List ℕ} {head : ℕ} {r r' : FreeList} → seg ≡ seg' → r ≡ r' → ListRead seg map head map' r → ListRead seg' map head map' r'
-same-list e f h = rw f at (rw e at h)

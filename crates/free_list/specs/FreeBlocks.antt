@@ -1,12 +1,10 @@
 -- The free blocks of a segment as the chain that code follows.
-use Rattle.std.specs.Prelude.{ℕ, zero, suc, ◌+◌, ◌*◌, ◌≤◌, ◌<◌, ◌≡◌, Bool, true, not, List, [], ◌∷◌, ◌++◌, leb, length, get_or}
+use Rattle.std.specs.Prelude.{ℕ, zero, suc, ◌+◌, ◌*◌, ◌≤◌, ◌<◌, ◌≡◌, Bool, true, not, List, [], ◌∷◌, ◌++◌, leb, length, get_or, Option, Some, None}
 use Rattle.format.specs.Bytes.{all_hold, u64}
 use Rattle.format.specs.Blocks.{Block, block, overlaps_any}
 use Rattle.format.specs.Result.{Result, value, answer}
 use Rattle.format.specs.FreeList.{free_list}
 use Rattle.free_map.specs.FreeMap.{MapOf}
-use Rattle.free_list.specs.declared.FreeList.{FreeList}
-use Rattle.free_list.specs.declared.FreeList.TheVariants.{Sound, Unsound}
 
 -- n free blocks, from the one at the offset off on
 unfoldable pub chain : ℕ → List ℕ → ℕ → List Block
@@ -25,9 +23,9 @@ block_sound seg met off =
     all_hold (leb (off + 16) (length seg) ∷ leb 16 own ∷ leb (off + own) (length seg) ∷ not (overlaps_any met off own) ∷ [])
 
 -- the free list that a reader's answer stands for
-abbrev pub free_of : List ℕ → ℕ → FreeList → Result (List Block)
-free_of seg head (Sound n) = value (chain n seg head)
-free_of seg head Unsound = answer 9
+abbrev pub free_of : List ℕ → ℕ → Option ℕ → Result (List Block)
+free_of seg head (Some n) = value (chain n seg head)
+free_of seg head None = answer 9
 
 -- A map that is lent for the free list: no byte is free, and each byte of the segment has a cell; or it has no cells.
 pub record Sized (map seg : List ℕ) : Type 0 where
@@ -46,12 +44,12 @@ pub record BlockAdded (seg map : List ℕ) (head met off : ℕ) (map' : List ℕ
   pub long : length map' ≡ length map
 
 -- the blocks of a sound list are held
-abbrev pub HeldIf : List ℕ → ℕ → List ℕ → FreeList → Type 0
-HeldIf seg head map (Sound n) = Held seg map head n
-HeldIf seg head map Unsound = Unit {0}
+abbrev pub HeldIf : List ℕ → ℕ → List ℕ → Option ℕ → Type 0
+HeldIf seg head map (Some n) = Held seg map head n
+HeldIf seg head map None = Unit {0}
 
 -- the list was read as the definition has it, with a map that became another of the same length
-pub record ListRead (seg map : List ℕ) (head : ℕ) (map' : List ℕ) (r : FreeList) : Type 0 where
+pub record ListRead (seg map : List ℕ) (head : ℕ) (map' : List ℕ) (r : Option ℕ) : Type 0 where
   pub value : free_list seg head ≡ free_of seg head r
   pub held : HeldIf seg head map' r
   pub long : length map' ≡ length map

@@ -12,13 +12,6 @@ use crate::span::{Span, meets_block, widened};
 use free_map::adding::add;
 use walk::numbers::{UNDEFINED_ADDRESS, u64_at};
 
-#[derive(Clone, Copy)]
-pub enum FreeList {
-    // So many blocks.
-    Sound(usize),
-    Unsound,
-}
-
 // Whether the free block at `at` lies in the segment and shares no byte with the `met` blocks before it. It is then added to a map that has cells.
 fn add_block(segment: &[u8], map: &mut [u8], span: Span, head: u64, met: usize, at: u64) -> bool
     requires segment_len_bound { 0 < length map.old → length segment.now ≤ 16 * length map.old }
@@ -51,17 +44,14 @@ fn add_block(segment: &[u8], map: &mut [u8], span: Span, head: u64, met: usize, 
     true
 }
 
-// Follows the list to its end and adds its blocks to the map, which has none. A list that comes back to a block is refused. Without cells in the
-// map a list takes the square of its length, unless it rises or falls.
-pub fn free_list(segment: &[u8], map: &mut [u8], head: u64) -> FreeList
+// Follows the list to its end and adds its blocks to the map, which has none: the number of its blocks, or nothing where it is unsound. A list that comes
+// back to a block is refused. Without cells in the map a list takes the square of its length, unless it rises or falls.
+pub fn free_list(segment: &[u8], map: &mut [u8], head: u64) -> Option<usize>
     requires { Sized map.old segment.now }
     ensures { ListRead segment.now map.old head map.new result }
 {
-    if head == 1 {
-        return FreeList::Sound(0);
-    }
-    if head == UNDEFINED_ADDRESS {
-        return FreeList::Sound(0);
+    if head == 1 || head == UNDEFINED_ADDRESS {
+        return Some(0);
     }
     let mut at = head;
     let mut met = 0;
@@ -71,16 +61,16 @@ pub fn free_list(segment: &[u8], map: &mut [u8], head: u64) -> FreeList
     };
     while met < segment.len() {
         if !add_block(segment, map, span, head, met, at) {
-            return FreeList::Unsound;
+            return None;
         }
         let off = at as usize;
         span = widened(span, off, u64_at(segment, off + 8) as usize);
         let next = u64_at(segment, off);
         met += 1;
         if next == 1 {
-            return FreeList::Sound(met);
+            return Some(met);
         }
         at = next;
     }
-    FreeList::Unsound
+    None
 }

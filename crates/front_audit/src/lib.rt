@@ -9,7 +9,7 @@ ghost use Rattle.ledger.specs.Report.{counted_places};
 ghost use Rattle.audit.specs.Audit.{EmptyTable};
 ghost use Rattle.front_audit.specs.Room.{Roomy};
 ghost use Rattle.front_audit.specs.With.{AuditsWith};
-ghost use Rattle.front.specs.Few.{few_blocks};
+ghost use Rattle.ledger.specs.Index.{index_words};
 ghost use Rattle.walk.specs.Lent.{work_words};
 
 use format::{OBJECTS_MOST, answers};
@@ -93,28 +93,23 @@ fn audit_with(
 }
 
 // The audit with a list for few blocks and a table without guesses, and with both for all. A small file is audited as quickly without
+// The audit with a list and a table of so many words. A list of another length has a frame of its own. A small file is audited as quickly without
 // guesses, and the shorter table stays in the processor's nearest memory.
-fn audit_few(image: &[u8], blocks: &mut [u8], reply: &mut [u8], room: usize) -> u32
-    requires room_le_few_blocks { room ≤ few_blocks }
+fn audit_sized<const WORDS: usize, const TABLE: usize>(
+    image: &[u8],
+    blocks: &mut [u8],
+    reply: &mut [u8],
+    room: usize,
+) -> u32
+    requires words { work_words room ≤ WORDS }
+    requires table { index_words ≤ TABLE }
     requires room_in_bounds { 4 * room ≤ length blocks.old / 8 }
     requires objects_most_in_bounds { 2 + 3 * objects_most ≤ length reply.old / 8 }
     ensures { AuditsWith image.now (length blocks.old) (length reply.old) room
         (record { number = result; list = blocks.new; reply = reply.new }) }
 {
-    let mut list = [0u64; FEW_WORDS];
-    let mut addresses = [0u64; INDEX_WORDS];
-    audit_with(image, &mut list, &mut addresses, blocks, reply, room)
-}
-
-fn audit_all(image: &[u8], blocks: &mut [u8], reply: &mut [u8], room: usize) -> u32
-    requires room_le_blocks_most { room ≤ blocks_most }
-    requires room_in_bounds { 4 * room ≤ length blocks.old / 8 }
-    requires objects_most_in_bounds { 2 + 3 * objects_most ≤ length reply.old / 8 }
-    ensures { AuditsWith image.now (length blocks.old) (length reply.old) room
-        (record { number = result; list = blocks.new; reply = reply.new }) }
-{
-    let mut list = [0u64; WORK_WORDS];
-    let mut addresses = [0u64; TABLE_WORDS];
+    let mut list = [0u64; WORDS];
+    let mut addresses = [0u64; TABLE];
     audit_with(image, &mut list, &mut addresses, blocks, reply, room)
 }
 
@@ -127,7 +122,7 @@ fn audit_in(image: &[u8], blocks: &mut [u8], reply: &mut [u8], room: usize) -> u
         (record { number = result; list = blocks.new; reply = reply.new }) }
 {
     if room <= FEW_BLOCKS {
-        return audit_few(image, blocks, reply, room);
+        return audit_sized::<FEW_WORDS, INDEX_WORDS>(image, blocks, reply, room);
     }
     if image.len() <= SMALL_IMAGE {
         let number = audit_in(image, blocks, reply, front::few_room(image.len()));
@@ -135,7 +130,7 @@ fn audit_in(image: &[u8], blocks: &mut [u8], reply: &mut [u8], room: usize) -> u
             return number;
         }
     }
-    audit_all(image, blocks, reply, room)
+    audit_sized::<WORK_WORDS, TABLE_WORDS>(image, blocks, reply, room)
 }
 
 // The audit of an image. `blocks` gets the block list, `reply` the other fields; the number is returned.

@@ -6,7 +6,6 @@ ghost use Rattle.format.specs.Bytes.{overwrite};
 ghost use Rattle.format.specs.Limits.{rank_most, blocks_most};
 ghost use Rattle.format.specs.Front.{word_bytes, padded_bytes, description_words, CReply, c_describe};
 ghost use Rattle.describe.specs.Describe.{reply_of};
-ghost use Rattle.front.specs.Few.{few_blocks};
 ghost use Rattle.front_describe.specs.With.{DescribesWith};
 ghost use Rattle.walk.specs.Lent.{work_words};
 
@@ -78,26 +77,21 @@ fn describe_with(
     0
 }
 
-// The description with a list for few blocks, and with one for all.
-fn describe_few(image: &[u8], path: &[u8], blocks: &mut [u8], reply: &mut [u8], room: usize) -> u32
-    requires room_le_few_blocks { room ≤ few_blocks }
+// The description with a list of so many words. A list of another length has a frame of its own.
+fn describe_sized<const WORDS: usize>(
+    image: &[u8],
+    path: &[u8],
+    blocks: &mut [u8],
+    reply: &mut [u8],
+    room: usize,
+) -> u32
+    requires words { work_words room ≤ WORDS }
     requires room_in_bounds { 4 * room ≤ length blocks.old / 8 }
     requires rank_most_in_bounds { 10 + 2 * rank_most ≤ length reply.old / 8 }
     ensures { DescribesWith image.now path.now (length blocks.old) (length reply.old) room
         (record { number = result; list = blocks.new; reply = reply.new }) }
 {
-    let mut list = [0u64; FEW_WORDS];
-    describe_with(image, path, &mut list, blocks, reply, room)
-}
-
-fn describe_all(image: &[u8], path: &[u8], blocks: &mut [u8], reply: &mut [u8], room: usize) -> u32
-    requires room_le_blocks_most { room ≤ blocks_most }
-    requires room_in_bounds { 4 * room ≤ length blocks.old / 8 }
-    requires rank_most_in_bounds { 10 + 2 * rank_most ≤ length reply.old / 8 }
-    ensures { DescribesWith image.now path.now (length blocks.old) (length reply.old) room
-        (record { number = result; list = blocks.new; reply = reply.new }) }
-{
-    let mut list = [0u64; WORK_WORDS];
+    let mut list = [0u64; WORDS];
     describe_with(image, path, &mut list, blocks, reply, room)
 }
 
@@ -110,7 +104,7 @@ fn describe_in(image: &[u8], path: &[u8], blocks: &mut [u8], reply: &mut [u8], r
         (record { number = result; list = blocks.new; reply = reply.new }) }
 {
     if room <= FEW_BLOCKS {
-        return describe_few(image, path, blocks, reply, room);
+        return describe_sized::<FEW_WORDS>(image, path, blocks, reply, room);
     }
     if image.len() <= SMALL_IMAGE {
         let number = describe_in(image, path, blocks, reply, front::few_room(image.len()));
@@ -118,7 +112,7 @@ fn describe_in(image: &[u8], path: &[u8], blocks: &mut [u8], reply: &mut [u8], r
             return number;
         }
     }
-    describe_all(image, path, blocks, reply, room)
+    describe_sized::<WORK_WORDS>(image, path, blocks, reply, room)
 }
 
 // The description of what a path leads to. `blocks` gets the block list, `reply` the other fields; the number is returned.

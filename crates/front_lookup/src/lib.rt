@@ -4,7 +4,6 @@
 ghost use Rattle.std.specs.Prelude.{◌≡◌, ◌*◌, ◌/◌, ◌≤◌, length};
 ghost use Rattle.format.specs.Limits.{blocks_most};
 ghost use Rattle.format.specs.Front.{CReply, c_lookup};
-ghost use Rattle.front.specs.Few.{few_blocks};
 ghost use Rattle.front_lookup.specs.With.{LooksUpWith};
 ghost use Rattle.walk.specs.Lent.{work_words};
 
@@ -42,26 +41,21 @@ fn lookup_with(
     0
 }
 
-// The lookup with a list for few blocks, and with one for all.
-fn lookup_few(image: &[u8], path: &[u8], blocks: &mut [u8], reply: &mut [u8], room: usize) -> u32
-    requires room_le_few_blocks { room ≤ few_blocks }
+// The lookup with a list of so many words. A list of another length has a frame of its own.
+fn lookup_sized<const WORDS: usize>(
+    image: &[u8],
+    path: &[u8],
+    blocks: &mut [u8],
+    reply: &mut [u8],
+    room: usize,
+) -> u32
+    requires words { work_words room ≤ WORDS }
     requires room_in_bounds { 4 * room ≤ length blocks.old / 8 }
     requires in_bounds { 3 ≤ length reply.old / 8 }
     ensures { LooksUpWith image.now path.now (length blocks.old) (length reply.old) room
         (record { number = result; list = blocks.new; reply = reply.new }) }
 {
-    let mut list = [0u64; FEW_WORDS];
-    lookup_with(image, path, &mut list, blocks, reply, room)
-}
-
-fn lookup_all(image: &[u8], path: &[u8], blocks: &mut [u8], reply: &mut [u8], room: usize) -> u32
-    requires room_le_blocks_most { room ≤ blocks_most }
-    requires room_in_bounds { 4 * room ≤ length blocks.old / 8 }
-    requires in_bounds { 3 ≤ length reply.old / 8 }
-    ensures { LooksUpWith image.now path.now (length blocks.old) (length reply.old) room
-        (record { number = result; list = blocks.new; reply = reply.new }) }
-{
-    let mut list = [0u64; WORK_WORDS];
+    let mut list = [0u64; WORDS];
     lookup_with(image, path, &mut list, blocks, reply, room)
 }
 
@@ -83,7 +77,7 @@ fn lookup_in(image: &[u8], path: &[u8], blocks: &mut [u8], reply: &mut [u8], roo
         (record { number = result; list = blocks.new; reply = reply.new }) }
 {
     if room <= FEW_BLOCKS {
-        return lookup_few(image, path, blocks, reply, room);
+        return lookup_sized::<FEW_WORDS>(image, path, blocks, reply, room);
     }
     if few_first(image.len(), path.len()) {
         let number = lookup_in(image, path, blocks, reply, front::few_room(image.len()));
@@ -92,7 +86,7 @@ fn lookup_in(image: &[u8], path: &[u8], blocks: &mut [u8], reply: &mut [u8], roo
             return number;
         }
     }
-    lookup_all(image, path, blocks, reply, room)
+    lookup_sized::<WORK_WORDS>(image, path, blocks, reply, room)
 }
 
 // The lookup of a path. `blocks` is only lent, and is zeros at the end; `reply` gets the other fields; the number is returned.

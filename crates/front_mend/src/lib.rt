@@ -4,7 +4,6 @@
 ghost use Rattle.std.specs.Prelude.{◌≡◌, ◌*◌, ◌/◌, ◌≤◌, min, length, replicate};
 ghost use Rattle.format.specs.Limits.{objects_most, blocks_most};
 ghost use Rattle.format.specs.Front.{padded_bytes, refusal_words, CMend, c_mend};
-ghost use Rattle.front.specs.Few.{few_blocks};
 ghost use Rattle.front_mend.specs.With.{MendsWith};
 ghost use Rattle.walk.specs.Lent.{work_words};
 
@@ -80,8 +79,8 @@ fn mend_with(
     0
 }
 
-// The mending with a list for few blocks, and with one for all.
-fn mend_few(
+// The mending with a list of so many words. A list of another length has a frame of its own.
+fn mend_sized<const WORDS: usize>(
     image: &mut [u8],
     blocks: &mut [u8],
     log: &mut [u8],
@@ -89,31 +88,13 @@ fn mend_few(
     limit: u64,
     room: usize,
 ) -> u32
-    requires room_le_few_blocks { room ≤ few_blocks }
+    requires words { work_words room ≤ WORDS }
     requires room_in_bounds { 4 * room ≤ length blocks.old / 8 }
     requires in_bounds { 3 ≤ length reply.old / 8 }
     ensures { MendsWith image.old (length blocks.old) (length log.old) (length reply.old) limit room
         (record { number = result; list = blocks.new; log = log.new; reply = reply.new; image = image.new }) }
 {
-    let mut list = [0u64; FEW_WORDS];
-    mend_with(image, &mut list, blocks, log, reply, limit, room)
-}
-
-fn mend_all(
-    image: &mut [u8],
-    blocks: &mut [u8],
-    log: &mut [u8],
-    reply: &mut [u8],
-    limit: u64,
-    room: usize,
-) -> u32
-    requires room_le_blocks_most { room ≤ blocks_most }
-    requires room_in_bounds { 4 * room ≤ length blocks.old / 8 }
-    requires in_bounds { 3 ≤ length reply.old / 8 }
-    ensures { MendsWith image.old (length blocks.old) (length log.old) (length reply.old) limit room
-        (record { number = result; list = blocks.new; log = log.new; reply = reply.new; image = image.new }) }
-{
-    let mut list = [0u64; WORK_WORDS];
+    let mut list = [0u64; WORDS];
     mend_with(image, &mut list, blocks, log, reply, limit, room)
 }
 
@@ -134,7 +115,7 @@ fn mend_in(
         (record { number = result; list = blocks.new; log = log.new; reply = reply.new; image = image.new }) }
 {
     if room <= FEW_BLOCKS {
-        return mend_few(image, blocks, log, reply, limit, room);
+        return mend_sized::<FEW_WORDS>(image, blocks, log, reply, limit, room);
     }
     if image.len() <= SMALL_IMAGE {
         let few = front::few_room(image.len());
@@ -143,7 +124,7 @@ fn mend_in(
             return number;
         }
     }
-    mend_all(image, blocks, log, reply, limit, room)
+    mend_sized::<WORK_WORDS>(image, blocks, log, reply, limit, room)
 }
 
 // The mending of an image. `blocks` gets the block list, `log` the undo log, `reply` the other fields; the number is returned.

@@ -6,8 +6,8 @@ ghost use Rattle.format.specs.Limits.{blocks_most};
 ghost use Rattle.format.specs.Front.{padded_bytes, CReply};
 ghost use Rattle.format.specs.Report.{c_report};
 ghost use Rattle.audit.specs.Audit.{EmptyTable};
-ghost use Rattle.front.specs.Few.{few_blocks};
 ghost use Rattle.front_report.specs.With.{words_of, ReportsWith};
+ghost use Rattle.ledger.specs.Index.{index_words};
 ghost use Rattle.walk.specs.Lent.{work_words};
 
 use format::OBJECTS_MOST;
@@ -73,28 +73,22 @@ fn report_with(
     r.answer as u32
 }
 
-// The report with a list for few blocks and a table without guesses, and with both for all, as the audit has them.
-fn report_few(image: &[u8], blocks: &mut [u8], reply: &mut [u8], room: usize) -> u32
-    requires room_le_few_blocks { room ≤ few_blocks }
+// The report with a list and a table of so many words, as the audit has them.
+fn report_sized<const WORDS: usize, const TABLE: usize>(
+    image: &[u8],
+    blocks: &mut [u8],
+    reply: &mut [u8],
+    room: usize,
+) -> u32
+    requires words { work_words room ≤ WORDS }
+    requires table { index_words ≤ TABLE }
     requires room_in_bounds { 4 * room ≤ length blocks.old / 8 }
     requires in_bounds { 8 ≤ length reply.old / 8 }
     ensures { ReportsWith image.now (length blocks.old) (length reply.old) room
         (record { answer = result; list = blocks.new; reply = reply.new }) }
 {
-    let mut list = [0u64; FEW_WORDS];
-    let mut addresses = [0u64; INDEX_WORDS];
-    report_with(image, &mut list, &mut addresses, blocks, reply, room)
-}
-
-fn report_all(image: &[u8], blocks: &mut [u8], reply: &mut [u8], room: usize) -> u32
-    requires room_le_blocks_most { room ≤ blocks_most }
-    requires room_in_bounds { 4 * room ≤ length blocks.old / 8 }
-    requires in_bounds { 8 ≤ length reply.old / 8 }
-    ensures { ReportsWith image.now (length blocks.old) (length reply.old) room
-        (record { answer = result; list = blocks.new; reply = reply.new }) }
-{
-    let mut list = [0u64; WORK_WORDS];
-    let mut addresses = [0u64; TABLE_WORDS];
+    let mut list = [0u64; WORDS];
+    let mut addresses = [0u64; TABLE];
     report_with(image, &mut list, &mut addresses, blocks, reply, room)
 }
 
@@ -107,7 +101,7 @@ fn report_in(image: &[u8], blocks: &mut [u8], reply: &mut [u8], room: usize) -> 
         (record { answer = result; list = blocks.new; reply = reply.new }) }
 {
     if room <= FEW_BLOCKS {
-        return report_few(image, blocks, reply, room);
+        return report_sized::<FEW_WORDS, INDEX_WORDS>(image, blocks, reply, room);
     }
     if image.len() <= SMALL_IMAGE {
         let answer = report_in(image, blocks, reply, front::few_room(image.len()));
@@ -115,7 +109,7 @@ fn report_in(image: &[u8], blocks: &mut [u8], reply: &mut [u8], room: usize) -> 
             return answer;
         }
     }
-    report_all(image, blocks, reply, room)
+    report_sized::<WORK_WORDS, TABLE_WORDS>(image, blocks, reply, room)
 }
 
 // The damage report of an image. `blocks` gets the list of the blocks entered, also those before a fault; `reply` gets the other

@@ -1,5 +1,5 @@
 -- The steps of the code that reads a header's messages against the steps of their walk.
-use Prim.Native.Nat.{ℕ, ◌+◌, ◌≤◌, ◌<◌}
+use Prim.Native.Nat.{ℕ, ◌+◌, ◌-◌, ◌≤◌, ◌<◌}
 use mathlib.Core.List.{List, []}
 use mathlib.Core.Logic.{inl}
 use mathlib.Core.Path.{◌≡◌, sym, ◌∙◌}
@@ -11,28 +11,28 @@ use Rattle.format.specs.Limits.{blocks_most}
 use Rattle.format.specs.Bytes.{part, u8, u16, u32}
 use Rattle.format.specs.Blocks.{entry_answer}
 use Rattle.format.specs.declared.Refusal.{Refusal}
-use Rattle.format.specs.Result.{Result}
+use Rattle.format.specs.Result as reader
 use Rattle.format.specs.Walk.{Walk, ret, refuse, fault, not_entered, enter, stored, check, header_block, shown, ◌>>=◌, ◌>>◌, run}
 use Rattle.format.specs.Header.{Gathered, messages, continuations, header_contents, header_messages}
 use Rattle.format.specs.Sharing.{Found}
 use Rattle.format.specs.Message.{Message, of_type}
 use Rattle.walk.specs.Lent.{blocks_of, Lent, ended, stopped, Walked, entering, IsEntered}
 use Rattle.walk.specs.Numbers.{Number}
-use Rattle.std.specs.Prelude.{Ok, Err}
-use Rattle.walk.proofs.BlockList.{entered-zero}
+use Rattle.std.specs.Prelude.{Result, Ok, Err}
 use Rattle.laws.proofs.Simulation.{Simulation, start, returned, passed, failed, outside, block-entered, block_refused, callee-value, callee-refusal}
 use Rattle.laws.proofs.Simulation.{callee-last, callee-stopped, callee-done}
 use Rattle.tally.specs.Tally.{Tallied}
-use Rattle.scan.specs.Scan.{MessagesAre, Holds}
-use Rattle.continuations.specs.Continuations.{GatheredIs}
+use Rattle.scan.specs.Scan.{MessagesAre}
+use Rattle.continuations.specs.Continuations.{GatheredIs, Waiting}
+use Rattle.continuations.proofs.ContinuationLaws.{cursor}
 use Rattle.tally.specs.declared.Tally.{Tally}
 use Rattle.continuations.specs.declared.Reading.{Reading}
-use Rattle.continuations.specs.declared.Continuing.{Continuing}
-use Rattle.continuations.specs.declared.Continuing.TheVariants.{Done, Stopped}
+use Rattle.scan.specs.declared.Gathering.{Gathering}
 use Rattle.scan.proofs.ScanLaws.{messages-held}
-use Rattle.header_messages.proofs.HeaderBlock.{version-shown, field-shown, header-length, header-known, block-messages, total-equal, total-unequal}
+use Rattle.header_messages.proofs.HeaderBlock.{version-shown, field-shown, header-length, header-known, block-messages, first-waiting}
+use Rattle.header_messages.proofs.HeaderBlock.{total-equal, total-unequal}
 
-module _ {S : Type 0} (visit : Message → S → Result S) (im : List ℕ) (eof room : ℕ) (ws : List ℕ) (count at : ℕ) (found : S) (l : Lent ws count room) where
+module _ {S : Type 0} (visit : Message → S → reader.Result S) (im : List ℕ) (eof room : ℕ) (ws : List ℕ) (count at : ℕ) (found : S) (l : Lent ws count room) where
   -- The header block: its prefix isn't inside, it isn't entered, or it is.
   at-start : Simulation im eof room (header_messages visit at found) count ws (enter header_block at (stored 16 (λ p. u32 p 8)) (header_contents visit at found))
       count ws
@@ -53,20 +53,14 @@ module _ {S : Type 0} (visit : Message → S → Result S) (im : List ℕ) (eof 
         Simulation im eof room (header_messages visit at found) count ws (header_contents visit at found (shown header_block (part im at (16 + size)))) m ws₁
     header-entered m e = block-entered (16 + size) (header-length im at size h n) (header-known im eof at size h k n) ws₁ at-start q m e
 
--- the header block is one more
-pub header-counted : (eof room : ℕ) (ws : List ℕ) (count at size m : ℕ) →
-    Ok m ≡ entering (entry_answer eof room (blocks_of count ws) at (16 + size)) 2 at (16 + size) (blocks_of count ws) count → m ≡ count + 1
-header-counted eof room ws count at size m e = (entered-zero 2 at (16 + size) (blocks_of count ws) (entry_answer eof room (blocks_of count ws) at (16 + size))
-    count m e).1
-
 -- a callee that gathers the messages of what is left
-pub gathered-last : (im : List ℕ) (q : Reading) (w₀ w : Walk (Gathered Found)) (n₀ n : ℕ) (ws₀ ws ws₁ a c m : List ℕ) (r : Continuing) →
+pub gathered-last : (im : List ℕ) (q : Reading) (w₀ w : Walk (Gathered Found)) (n₀ n : ℕ) (ws₀ ws ws₁ a c m : List ℕ) (r : Result (Gathering × ℕ) Refusal) →
     Simulation im q.end_of_file q.room w₀ n₀ ws₀ w n ws → GatheredIs im q ws n w ws₁ a c m r → GatheredIs im q ws₀ n₀ w₀ ws₁ a c m r
-gathered-last im q w₀ w n₀ n ws₀ ws ws₁ a c m (Done g k) s h = (h.0, callee-last ws₁ s h.1, h.2)
-gathered-last im q w₀ w n₀ n ws₀ ws ws₁ a c m (Stopped x) s h = callee-last ws₁ s h
+gathered-last im q w₀ w n₀ n ws₀ ws ws₁ a c m (Ok g) s h = (h.0, callee-last ws₁ s h.1, h.2)
+gathered-last im q w₀ w n₀ n ws₀ ws ws₁ a c m (Err x) s h = callee-last ws₁ s h
 
 -- What stands in the header block.
-module _ {S : Type 0} (visit : Message → S → Result S) (im : List ℕ) (eof room : ℕ) (ws : List ℕ) (count at size : ℕ) (found : S) (l : Lent ws count room)
+module _ {S : Type 0} (visit : Message → S → reader.Result S) (im : List ℕ) (eof room : ℕ) (ws : List ℕ) (count at size : ℕ) (found : S) (l : Lent ws count room)
     (i : at + (16 + size) ≤ length im) where
   abbrev b : List ℕ
   b = shown header_block (part im at (16 + size))
@@ -122,7 +116,10 @@ module _ {S : Type 0} (visit : Message → S → Result S) (im : List ℕ) (eof 
             returned (passed (eqb (length g.all) (u16 b 2)) (fault 10 at) _
             (rw count-shown (total-equal (length g.all) t.total r a.total o.bound z)) at-total)
 
--- the header block's messages, which may name continuations
-pub first_holds : {S : Type 0} (visit : Message → S → Result S) (im : List ℕ) (at size : ℕ) (found : S) (first : Gathered S) → at + (16 + size) ≤ length im →
-    MessagesAre visit im (at + 16) (at + 16 + size) found (ret first) → Holds im (at + 16) (at + 16 + size) first.all
-first_holds visit im at size found first i h = messages-held visit im (at + 16) (at + 16 + size) found first (omega arith) (omega arith) h
+-- the continuations that the header block's messages name wait behind it
+pub first-waits : {S : Type 0} (visit : Message → S → reader.Result S) (im ws : List ℕ) (count at size : ℕ) (found : S) (first : Gathered S) → 0 < count →
+    at + (16 + size) ≤ length im → MessagesAre visit im (at + 16) (at + 16 + size) found (ret first) →
+    Waiting im ws count (cursor (count - 1) (at + 16) (at + 16 + size)) (of_type 0x0010 first.all)
+first-waits visit im ws count at size found first h i m =
+    first-waiting im ws count (at + 16) (at + 16 + size) first.all h
+    (messages-held visit im (at + 16) (at + 16 + size) found first (omega arith) (omega arith) m)

@@ -8,7 +8,7 @@ use borrow.Author.Tests.{ltb-true, leb-true, leb-false}
 use lib.Dec.{ltb, leb, eqb}
 use lib.ListN.{length, take, drop}
 use Rattle.format.specs.Limits.{name_most}
-use Rattle.std.specs.Prelude.{if◌then◌else◌}
+use Rattle.std.specs.Prelude.{if◌then◌else◌, Ok, Err}
 use Rattle.format.specs.Bytes.{part, u64}
 use Rattle.format.specs.Blocks.{Block}
 use Rattle.format.specs.Result.{value}
@@ -25,10 +25,8 @@ use Rattle.names.specs.Texts.{fault_of, CheckedAs}
 use Rattle.nul.specs.Nul.{NulWithin}
 use Rattle.names.specs.declared.NameFault.{NameFault}
 use Rattle.names.specs.declared.NameFault.TheVariants.{Outside, NoNul, BadForm, InFreeBlock}
-use Rattle.names.specs.declared.Checked.TheVariants.{Sound, Fault}
 use Rattle.range.proofs.FirstBytes.{name_at, string-inside}
 use Rattle.key.specs.Key.{KeysAre, KeyAt, KeyIs}
-use Rattle.key.specs.declared.Keys.TheVariants.{Sound as AllSound, Unsound}
 
 -- every fault gives 9
 pub fault-nine : (f : NameFault) → 9 ≡ fault_number (fault_of f)
@@ -100,7 +98,7 @@ keys-start im seg from n h m e k l =
     let d : m - 16 * 0 ≡ m = omega arith in
     rw (a, b, d)
 
-pub keys-end : (im seg : List ℕ) (from n i : ℕ) → KeysFrom im seg from n i → n ≤ i → KeysAre im seg from n AllSound
+pub keys-end : (im seg : List ℕ) (from n i : ℕ) → KeysFrom im seg from n i → n ≤ i → KeysAre im seg from n (Ok tt)
 unfolding keys_walk
 keys-end im seg from n i f g h m e k l =
     let a : n - i ≡ 0 = omega arith in
@@ -120,15 +118,15 @@ module _ (im seg : List ℕ) (from n i : ℕ) (f : KeysFrom im seg from n i) (g 
       ∙ keys-more h (n - (i + 1)) im (from + 16 * i) (m - 16 * i) (omega arith)
       ∙ rw (← o, key-segment h seg off e [], b, d)
 
-  pub keys-fault : {r : _} (x : NameFault) (y : ℕ) → r ≡ Fault x → ((free : List Block) → CheckedAs r (key_text (heap_with seg free) off)) →
-      y ≡ fault_number (fault_of x) → KeysAre im seg from n (Unsound (fault_at y (from + 16 * i)))
-  keys-fault x y p t q h m e k l =
-      let u : CheckedAs (Fault x) (key_text (heap_with seg []) off) = rw p at (t []) in
-      sym (here h m e k l ∙ rw (← u, q) (refuse-bind (fault_at _ (from + 16 * i)) _))
+  pub keys-fault : {r : _} (x : NameFault) → r ≡ Err x → ((free : List Block) → CheckedAs r (key_text (heap_with seg free) off)) →
+      KeysAre im seg from n (Err (fault_at (fault_number (fault_of x)) (from + 16 * i)))
+  keys-fault x p t h m e k l =
+      let u : CheckedAs (Err x) (key_text (heap_with seg []) off) = rw p at (t []) in
+      sym (here h m e k l ∙ rw (← u) (refuse-bind (fault_at _ (from + 16 * i)) _))
 
-  pub keys-next : {r : _} → r ≡ Sound → ((free : List Block) → CheckedAs r (key_text (heap_with seg free) off)) → KeysFrom im seg from n (i + 1)
+  pub keys-next : {r : _} → r ≡ Ok tt → ((free : List Block) → CheckedAs r (key_text (heap_with seg free) off)) → KeysFrom im seg from n (i + 1)
   keys-next p t h m e k l =
-      let u : CheckedAs Sound (key_text (heap_with seg []) off) = rw p at (t []) in
+      let u : CheckedAs (Ok tt) (key_text (heap_with seg []) off) = rw p at (t []) in
       here h m e k l ∙ rw (← u.1) (ret-bind _ _)
 
 -- where the walk of n keys is done, each of them is a string of the segment

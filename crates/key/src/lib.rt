@@ -8,7 +8,7 @@ ghost use Rattle.nul.specs.Nul.{LastNul};
 ghost use Rattle.key.specs.Key.{KeysAre, KeyAt, KeyIs};
 
 use format::{Refusal, answers};
-use names::{Checked, NameFault};
+use names::NameFault;
 use order::{first_number, second_number};
 use range::Name;
 use walk::numbers::u64_at;
@@ -18,36 +18,30 @@ pub fn fault_number(fault: NameFault) -> u8
     ensures { result ≡ fault_number (fault_of fault) }
 {
     match fault {
-        NameFault::Outside => answers::HEAP_UNSOUND,
-        NameFault::NoNul => answers::HEAP_UNSOUND,
-        NameFault::BadForm => answers::HEAP_UNSOUND,
-        NameFault::InFreeBlock => answers::HEAP_UNSOUND,
+        NameFault::Outside | NameFault::NoNul | NameFault::BadForm | NameFault::InFreeBlock =>
+            answers::HEAP_UNSOUND,
     }
-}
-
-#[derive(Clone, Copy)]
-pub enum Keys {
-    Sound,
-    Unsound(Refusal),
 }
 
 // Whether `n` keys are strings of the segment, of which `ended` bytes reach to the last NUL. The first stands at `from`, and a child's
 // address behind each but the last.
-pub fn check_keys(image: &[u8], segment: &[u8], ended: usize, from: usize, n: usize) -> Keys
+pub fn check_keys(
+    image: &[u8],
+    segment: &[u8],
+    ended: usize,
+    from: usize,
+    n: usize,
+) -> Result<(), Refusal>
     requires last_nul { LastNul segment.now ended }
     requires n_in_bounds { from + 16 * n ≤ length image.now + 8 }
     ensures { KeysAre image.now segment.now from n result }
 {
-    let mut i: usize = 0;
-    while i < n {
-        match names::key(segment, ended, u64_at(image, from + 16 * i)) {
-            Checked::Fault(f) => {
-                return Keys::Unsound(Refusal::Fault(fault_number(f), from + 16 * i))
-            }
-            Checked::Sound => i += 1,
-        }
+    for i in 0..n {
+        let at = from + 16 * i;
+        let off = u64_at(image, at);
+        names::key(segment, ended, off).map_err(|f| Refusal::Fault(fault_number(f), at))?;
     }
-    Keys::Sound
+    Ok(())
 }
 
 // The key at `at`, which has been found sound before, as far as a name can reach and one byte more.

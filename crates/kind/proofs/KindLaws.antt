@@ -7,7 +7,7 @@ use native.Mathlib.Omega.{arith}
 use borrow.Author.Tests.{eq-eqb, ne_eqb, eqb-true, eqb-false}
 use lib.Dec.{eqb}
 use lib.ListN.{length}
-use Rattle.format.specs.Bytes.{all_hold, little_endian, u8, u16, u64}
+use Rattle.format.specs.Bytes.{all_hold, little_endian, u16, u64}
 use Rattle.format.specs.Walk.{ret, refuse, fault, ◌>>=◌}
 use Rattle.format.specs.Header.{group, dataset, committed, has_counts, object_of}
 use Rattle.format.specs.Message.{Message, is_shared, of_type, the_message}
@@ -98,15 +98,15 @@ pub table-field : (im : List ℕ) (ms : List Message) (place k r : ℕ) → the_
 table-field im ms place k r e l n =
     ap (λ (m : Message). u64 m.body k) e ∙ ap little_endian (part-part im place (u16 im (place - 6)) k 8 l) ∙ sym n.value
 
--- The body at a place.
-pub body_is : (im : List ℕ) (place size : ℕ) → size ≡ u16 im (place - 6) → Located im place →
-    BodyAt im place (record { place = place; size = size; flags = u8 im (place - 4) })
-body_is im place size e l = record { is = λ type. rw e; inside = rw e l.body }
-
 -- The kinds that carry something.
 module _ (im : List ℕ) (at : ℕ) (ms : List Message) (t : Tally) (a : Tallied im ms t) where
-  pub table-placed : has_counts ms 0 0 0 1 ≡ true → Placed im 0x0011 t.table.place
+  table-placed : has_counts ms 0 0 0 1 ≡ true → Placed im 0x0011 t.table.place
   table-placed h = a.table.placed (there im ms 0x0011 t.table a.table (count-11 ms 0 0 0 1 h))
+
+  pub table-room : has_counts ms 0 0 0 1 ≡ true → t.table.place + 16 ≤ length im
+  table-room h =
+      let p = table-placed h in
+      omega (arith, p.body, p.long refl)
 
   pub known-group : (tree heap : ℕ) → has_counts ms 0 0 0 1 ≡ true → Number im t.table.place 8 tree → Number im (t.table.place + 8) 8 heap →
       object_of at ms ≡ ret (group tree heap)

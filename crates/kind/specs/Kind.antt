@@ -1,6 +1,7 @@
 -- What the kind of an object is.
-use Rattle.std.specs.Prelude.{ℕ, ◌+◌, ◌-◌, ◌≤◌, List, ◌≡◌, length}
+use Rattle.std.specs.Prelude.{ℕ, ◌+◌, ◌-◌, ◌≤◌, List, ◌≡◌, length, Result, Ok, Err}
 use Rattle.format.specs.Bytes.{u16}
+use Rattle.format.specs.declared.Refusal.{Refusal}
 use Rattle.format.specs.Walk.{Walk, ret, refuse}
 use Rattle.format.specs.Message.{Message}
 use Rattle.format.specs.Header.{Object, group, dataset, committed, object_of}
@@ -10,7 +11,7 @@ use Rattle.tally.specs.Tally.{message_at, Tallied}
 use Rattle.message.specs.declared.Body.{Body}
 use Rattle.tally.specs.declared.Tally.{Tally}
 use Rattle.kind.specs.declared.HeaderRead.{HeaderRead}
-use Rattle.kind.specs.declared.HeaderRead.TheVariants.{Group, Dataset, Committed, Stopped}
+use Rattle.kind.specs.declared.HeaderRead.TheVariants.{Group, Dataset, Committed}
 
 -- a message's head stands before the place, and its body lies inside the image
 pub record Located (im : List ℕ) (place : ℕ) : Type 0 where
@@ -23,25 +24,25 @@ pub record BodyAt (im : List ℕ) (place : ℕ) (b : Body) : Type 0 where
   pub inside : b.place + b.size ≤ length im
 
 -- the object, with the number of blocks then entered, or the refusal
-abbrev pub header_end : List ℕ → HeaderRead → Ended Object
-header_end im (Group tree heap count) = ended (group tree heap) count
-header_end im (Dataset space type layout count) = ended (dataset (message_of im 0x0001 space) (message_of im 0x0003 type) (message_of im 0x0008 layout)) count
-header_end im (Committed count) = ended committed count
-header_end im (Stopped r) = stopped r
+abbrev pub header_end : List ℕ → Result HeaderRead Refusal → Ended Object
+header_end im (Ok (Group tree heap count)) = ended (group tree heap) count
+header_end im (Ok (Dataset space type layout count)) = ended (dataset (message_of im 0x0001 space) (message_of im 0x0003 type) (message_of im 0x0008 layout)) count
+header_end im (Ok (Committed count)) = ended committed count
+header_end im (Err r) = stopped r
 
 -- the bodies of a dataset lie inside the image
-abbrev pub BodiesInside : List ℕ → HeaderRead → Type 0
-BodiesInside im (Group tree heap count) = Unit {0}
-BodiesInside im (Dataset space type layout count) =
+abbrev pub BodiesInside : List ℕ → Result HeaderRead Refusal → Type 0
+BodiesInside im (Ok (Group tree heap count)) = Unit {0}
+BodiesInside im (Ok (Dataset space type layout count)) =
     (space.place + space.size ≤ length im) × (type.place + type.size ≤ length im) × (layout.place + layout.size ≤ length im)
-BodiesInside im (Committed count) = Unit {0}
-BodiesInside im (Stopped r) = Unit {0}
+BodiesInside im (Ok (Committed count)) = Unit {0}
+BodiesInside im (Err r) = Unit {0}
 
 -- the walk of an object that is known, with so many blocks entered
 abbrev pub KnownAs : Walk Object → ℕ → Ended Object → Type 0
 KnownAs w count (ended o n) = (w ≡ ret o) × (n ≡ count)
 KnownAs w count (stopped r) = w ≡ refuse r
 
-pub record KindIs (im : List ℕ) (at : ℕ) (t : Tally) (count : ℕ) (r : HeaderRead) : Type 0 where
+pub record KindIs (im : List ℕ) (at : ℕ) (t : Tally) (count : ℕ) (r : Result HeaderRead Refusal) : Type 0 where
   pub known : (ms : List Message) → Tallied im ms t → KnownAs (object_of at ms) count (header_end im r)
   pub bodies : BodiesInside im r

@@ -17,20 +17,16 @@ fn counts_are(tally: Tally, spaces: usize, datatypes: usize, layouts: usize, tab
     requires { (spaces < 2) × (datatypes < 2) × (layouts < 2) × (tables < 2) }
     ensures { (im : List ℕ) (ms : List Message) → Tallied im ms tally → result ≡ has_counts ms spaces datatypes layouts tables }
 {
-    let space = tally.space;
-    let datatype = tally.datatype;
-    let layout = tally.layout;
-    let table = tally.table;
-    if space.count != spaces {
+    if tally.space.count != spaces {
         return false;
     }
-    if datatype.count != datatypes {
+    if tally.datatype.count != datatypes {
         return false;
     }
-    if layout.count != layouts {
+    if tally.layout.count != layouts {
         return false;
     }
-    table.count == tables
+    tally.table.count == tables
 }
 
 // The body at a place, with its length and its flags from the message's head.
@@ -45,7 +41,7 @@ fn body_at(image: &[u8], place: usize) -> Body
     }
 }
 
-// The object that a header tells of, with the number of blocks then entered, or the refusal.
+// The object that a header tells of, with the number of blocks then entered.
 #[derive(Clone, Copy)]
 pub enum HeaderRead {
     Group {
@@ -60,41 +56,35 @@ pub enum HeaderRead {
         count: usize,
     },
     Committed(usize),
-    Stopped(Refusal),
 }
 
 // What the object is, by its messages.
-pub fn kind_of(image: &[u8], at: usize, tally: Tally, count: usize) -> HeaderRead
+pub fn kind_of(image: &[u8], at: usize, tally: Tally, count: usize) -> Result<HeaderRead, Refusal>
     requires { HasTally image.now tally }
     ensures { KindIs image.now at tally count result }
 {
     if counts_are(tally, 0, 0, 0, 1) {
-        let table = tally.table;
-        let place = table.place;
-        return HeaderRead::Group {
+        let place = tally.table.place;
+        return Ok(HeaderRead::Group {
             tree: u64_at(image, place),
             heap: u64_at(image, place + 8),
             count,
-        };
+        });
     }
     if counts_are(tally, 1, 1, 1, 0) {
-        let space = tally.space;
-        let datatype = tally.datatype;
-        let layout = tally.layout;
-        return HeaderRead::Dataset {
-            space: body_at(image, space.place),
-            datatype: body_at(image, datatype.place),
-            layout: body_at(image, layout.place),
+        return Ok(HeaderRead::Dataset {
+            space: body_at(image, tally.space.place),
+            datatype: body_at(image, tally.datatype.place),
+            layout: body_at(image, tally.layout.place),
             count,
-        };
+        });
     }
     if counts_are(tally, 0, 1, 0, 0) {
-        let datatype = tally.datatype;
-        let body = body_at(image, datatype.place);
+        let body = body_at(image, tally.datatype.place);
         if body.flags / 2 % 2 == 1 {
-            return HeaderRead::Stopped(Refusal::Fault(answers::HEADER_UNSOUND, at));
+            return Err(Refusal::Fault(answers::HEADER_UNSOUND, at));
         }
-        return HeaderRead::Committed(count);
+        return Ok(HeaderRead::Committed(count));
     }
-    HeaderRead::Stopped(Refusal::Fault(answers::HEADER_UNSOUND, at))
+    Err(Refusal::Fault(answers::HEADER_UNSOUND, at))
 }

@@ -15,7 +15,7 @@ use Rattle.laws.proofs.Simulation.{Simulation, start, callee-done, callee-stoppe
 use Rattle.superblock.specs.Superblock.{superblock_of}
 use Rattle.superblock.specs.declared.Superblock.{Superblock}
 use Rattle.last_object.specs.Last.{KindIs}
-use Rattle.last_object.specs.declared.Kind.TheVariants.{Known, Stopped}
+use Rattle.std.specs.Prelude.{Ok, Err}
 
 module _ (im ws : List ℕ) (s : Superblock) (room at : ℕ) (l : Lent ws 0 room) (ws₁ : List ℕ) where
   abbrev eof : ℕ
@@ -24,7 +24,7 @@ module _ (im ws : List ℕ) (s : Superblock) (room at : ℕ) (l : Lent ws 0 room
   abbrev whole : Walk lookup.Located
   whole = superblock_walk (superblock_of s) >> locate_walk at
 
-  pub superblock-stopped : (x : Refusal) → Walked ws ws₁ (stopped x) (run im eof room (superblock_walk (superblock_of s)) []) → KindIs im s room at (Stopped x)
+  pub superblock-stopped : (x : Refusal) → Walked ws ws₁ (stopped x) (run im eof room (superblock_walk (superblock_of s)) []) → KindIs im s room at (Err x)
   unfolding blocks_of
   superblock-stopped x h = walked-refused ws ws₁ x _ (callee-stopped ws₁ (superblock_walk (superblock_of s)) _ (start im eof room whole 0 ws l) h)
 
@@ -34,11 +34,11 @@ module _ (im ws : List ℕ) (s : Superblock) (room at : ℕ) (l : Lent ws 0 room
     at-header = callee-done ws₁ (superblock_walk (superblock_of s)) _ (start im eof room whole 0 ws l) same h
 
     module _ (ws₂ : List ℕ) where
-      pub header-stopped : (x : Refusal) → Walked ws₁ ws₂ (stopped x) (run im eof room (header_walk at) (blocks_of n ws₁)) → KindIs im s room at (Stopped x)
+      pub header-stopped : (x : Refusal) → Walked ws₁ ws₂ (stopped x) (run im eof room (header_walk at) (blocks_of n ws₁)) → KindIs im s room at (Err x)
       unfolding blocks_of
       header-stopped x k = walked-refused ws ws₂ x _ (callee-stopped ws₂ (header_walk at) _ at-header k)
 
       pub header-known : (o : headers.Object) (m : ℕ) → length ws₂ ≡ length ws₁ → Walked ws₁ ws₂ (ended o m)
-          (run im eof room (header_walk at) (blocks_of n ws₁)) → KindIs im s room at (Known (kind_number o))
+          (run im eof room (header_walk at) (blocks_of n ws₁)) → KindIs im s room at (Ok (kind_number o))
       unfolding blocks_of run
       header-known o m same₂ k = (blocks_of m ws₂, (callee-done ws₂ (header_walk at) _ at-header same₂ k).same_run)

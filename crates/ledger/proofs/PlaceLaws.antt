@@ -14,7 +14,7 @@ use Rattle.format.specs.Ledger.{Linked, linked, in_ledger, add_link, count_link}
 use Rattle.format.specs.Sharing.{place_of}
 use Rattle.ledger.specs.Index.{Found}
 use Rattle.ledger.specs.Table.{linked_of, Table, Discovered}
-use Rattle.ledger.specs.declared.table.Discovery.TheVariants.{Counted}
+use Rattle.std.specs.Prelude.{Some}
 use Rattle.ledger.proofs.LedgerLaws.{count-cases, count-in}
 use Rattle.ledger.proofs.TableLaws.{length-linked_of}
 
@@ -84,7 +84,7 @@ module _ (xs ts : List ℕ) (n a r : ℕ) (t : Table xs ts n) (f : Found xs n a 
   pub found-place : place_of a (linked_of n xs ts) ≡ r
   found-place = linked-place a r n xs ts (omega (arith, t.fits, t.addresses_long)) (omega (arith, t.fits, t.counts_long)) f.within f.before f.there
 
-  module _ (xs' ts' : List ℕ) (m : ℕ) (d : Discovered xs ts n a xs' ts' (Counted m)) where
+  module _ (xs' ts' : List ℕ) (m : ℕ) (d : Discovered xs ts n a xs' ts' (Some m)) where
     pub discovered-place : place_of a (linked_of m xs' ts') ≡ r
     discovered-place = count-place a (linked_of n xs ts) (linked_of m xs' ts') (sym d.walk) ∙ found-place
 

@@ -1,4 +1,5 @@
 -- Laws of the search for an address: the halving, and what the place and a guess decide.
+use Rattle.std.specs.Prelude.{Some}
 use Prim.Native.Nat.{ℕ, ◌+◌, ◌-◌, ◌/◌, ◌≤◌, ◌<◌}
 use mathlib.Core.List.{List}
 use mathlib.Core.Logic.{⊎_elim}
@@ -117,12 +118,8 @@ module _ (xs : List ℕ) (n a : ℕ) (x : Indexed xs n) where
           (below_or_not j.0 order)
 
   -- what a search ends with: the guess that has the address
-  pub sought-guess : (p : ℕ) → Guessed xs n a p → p < n → Sought xs n a 2 (record { place = p; order = 0; tests = 1 })
-  sought-guess p g h = record { found = one_found p h (g.there h); placed = λ l. absurd (omega arith); tests = λ m l. omega arith }
-
-  -- or what the order has, after one comparison more
-  pub sought-more : (r : Search) → Sought xs n a 1 r → Sought xs n a 2 (record { place = r.place; order = r.order; tests = r.tests + 1 })
-  sought-more r s = record { found = s.found; placed = s.placed; tests = λ m l. omega (arith, s.tests m l) }
+  pub sought-guess : (p : ℕ) → Guessed xs n a (Some p) → Sought xs n a 2 (record { place = p; order = 0; tests = 1 })
+  sought-guess p g = record { found = one_found p g.0 g.1; placed = λ l. absurd (omega (arith, g.0)); tests = λ m l. omega arith }
 
   module _ (from : ℕ) (is : from ≡ objects_most) where
     pub from_sorted : Sorted xs from n

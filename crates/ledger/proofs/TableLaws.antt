@@ -16,7 +16,7 @@ use Rattle.ledger.specs.Links.{link_sum}
 use Rattle.ordering.proofs.RunLaws.{ordering-none}
 use Rattle.ledger.specs.Index.{index_words, with_guess, Indexed, Placed, Found, Addable, Added}
 use Rattle.ledger.specs.Table.{linked_of, Table, Discovered, Started}
-use Rattle.ledger.specs.declared.table.Discovery.TheVariants.{Counted, Full}
+use Rattle.std.specs.Prelude.{Some, None}
 use Rattle.ledger.proofs.LedgerLaws.{add-here, add-later, in-here, in-later, count-known}
 use Rattle.ledger.proofs.LedgerLaws.{count-new, count-full, count-sum}
 use Rattle.ledger.proofs.AddLaws.{guess-kept, guess-long, order_same}
@@ -139,7 +139,7 @@ module _ (xs ts : List ℕ) (n a : ℕ) (xs' : List ℕ) (t : Table xs ts n) (l 
 -- A search that found a place or none, and what is then done to the table.
 module _ (xs ts : List ℕ) (n a r : ℕ) (t : Table xs ts n) (f : Found xs n a r) where
   -- one link more, and the object is the guess for its address, where there are guesses
-  pub discover-known : (xs' : List ℕ) (o : ℕ) → xs' ≡ with_guess xs a o → r < n → Discovered xs ts n a xs' (set ts r (get_or ts r 0 + 1)) (Counted n)
+  pub discover-known : (xs' : List ℕ) (o : ℕ) → xs' ≡ with_guess xs a o → r < n → Discovered xs ts n a xs' (set ts r (get_or ts r 0 + 1)) (Some n)
   discover-known xs' o e h =
       let i : n ≤ length xs = omega (arith, t.fits, t.addresses_long) in
       let j : n ≤ length ts = omega (arith, t.fits, t.counts_long) in
@@ -168,7 +168,7 @@ module _ (xs ts : List ℕ) (n a r : ℕ) (t : Table xs ts n) (f : Found xs n a 
   out : n ≤ r → in_ledger a (linked_of n xs ts) ≡ false
   out h = linked-out a n xs ts (omega (arith, t.fits, t.addresses_long)) (omega (arith, t.fits, t.counts_long)) (λ k m. f.before k (omega arith))
 
-  pub discover-full : n ≤ r → objects_most ≤ n → Discovered xs ts n a xs ts Full
+  pub discover-full : n ≤ r → objects_most ≤ n → Discovered xs ts n a xs ts None
   discover-full h l =
       let m : objects_most ≤ length (linked_of n xs ts) = rw length-linked_of l in
       record { walk = sym (count-full a (linked_of n xs ts) (out h) m); table = (refl, refl); addresses_same = refl; counts_same = refl }
@@ -177,7 +177,7 @@ module _ (xs ts : List ℕ) (n a r : ℕ) (t : Table xs ts n) (f : Found xs n a 
   pub discover-addable : (order : ℕ) → n ≤ r → n < objects_most → Placed xs objects_most n a order → Addable xs n a order
   discover-addable order h l p = record { indexed = table-indexed t; room = l; absent = λ k m. f.before k (omega arith); placed = p }
 
-  pub discover-new : (xs' : List ℕ) → n ≤ r → n < objects_most → Added xs n a xs' → Discovered xs ts n a xs' (set ts n 1) (Counted (n + 1))
+  pub discover-new : (xs' : List ℕ) → n ≤ r → n < objects_most → Added xs n a xs' → Discovered xs ts n a xs' (set ts n 1) (Some (n + 1))
   discover-new xs' h l d =
       let m : length (linked_of n xs ts) < objects_most = rw length-linked_of l in
       record {
@@ -192,7 +192,7 @@ module _ (xs ts : List ℕ) (n a r : ℕ) (t : Table xs ts n) (f : Found xs n a 
   discover-fits most h l = omega (arith, count-bound r n xs ts (omega (arith, t.fits, t.addresses_long)) (omega (arith, t.fits, t.counts_long)) h)
 
 -- a link that was counted is one more of all
-pub discovered-sum : (xs ts : List ℕ) (n a : ℕ) (xs' ts' : List ℕ) (m : ℕ) → Discovered xs ts n a xs' ts' (Counted m) →
+pub discovered-sum : (xs ts : List ℕ) (n a : ℕ) (xs' ts' : List ℕ) (m : ℕ) → Discovered xs ts n a xs' ts' (Some m) →
     link_sum (linked_of m xs' ts') ≡ link_sum (linked_of n xs ts) + 1
 discovered-sum xs ts n a xs' ts' m d = count-sum a (linked_of n xs ts) (linked_of m xs' ts') (sym d.walk)
 

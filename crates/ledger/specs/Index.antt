@@ -1,5 +1,5 @@
 -- The addresses of the objects in a list of words. Behind them stands their order, and behind that, in a longer list, a table of guesses.
-use Rattle.std.specs.Prelude.{ℕ, ◌+◌, ◌*◌, ◌/◌, ◌%◌, ◌^◌, ◌≤◌, ◌<◌, List, ◌≡◌, leb, length, get_or, set, if◌then◌else◌}
+use Rattle.std.specs.Prelude.{ℕ, ◌+◌, ◌*◌, ◌/◌, ◌%◌, ◌^◌, ◌≤◌, ◌<◌, List, ◌≡◌, leb, length, get_or, set, if◌then◌else◌, Option, Some, None}
 use Rattle.format.specs.Limits.{objects_most}
 use Rattle.ordering.specs.Order.{Ordering, words_from}
 use Rattle.ledger.specs.declared.search.Place.{Place}
@@ -62,9 +62,9 @@ pub record Found (addresses : List ℕ) (objects address place : ℕ) : Type 0 w
   pub there : place < objects → get_or addresses place 0 ≡ address
 
 -- an object that has the address, if it is one in use
-pub record Guessed (addresses : List ℕ) (objects address place : ℕ) : Type 0 where
-  pub within : place ≤ objects
-  pub there : place < objects → get_or addresses place 0 ≡ address
+abbrev pub Guessed : List ℕ → ℕ → ℕ → Option ℕ → Type 0
+Guessed addresses objects address (Some place) = (place < objects) × (get_or addresses place 0 ≡ address)
+Guessed addresses objects address None = Unit {0}
 
 -- What a search finds: the object with the address, or where a new one stands in the order. It compares an address for each time that the
 -- number of objects doubles, and so many more.

@@ -1,12 +1,10 @@
 -- The table of objects as two lists of words hold it, and what the functions over it return and leave.
-use Rattle.std.specs.Prelude.{ℕ, zero, suc, ◌≤◌, ◌<◌, List, [], ◌∷◌, ◌≡◌, length, get_or, drop}
+use Rattle.std.specs.Prelude.{ℕ, zero, suc, ◌≤◌, ◌<◌, List, [], ◌∷◌, ◌≡◌, length, get_or, drop, Option, Some, None}
 use Rattle.format.specs.Limits.{objects_most}
 use Rattle.format.specs.Result.{Result, value, answer}
 use Rattle.format.specs.Ledger.{Linked, linked, count_link}
 use Rattle.ordering.specs.Order.{Ordering, words_from}
 use Rattle.ledger.specs.Index.{index_words, Lower}
-use Rattle.ledger.specs.declared.table.Discovery.{Discovery}
-use Rattle.ledger.specs.declared.table.Discovery.TheVariants.{Counted, Full}
 
 -- the first n places, as the definition's list
 unfoldable pub linked_of : ℕ → List ℕ → List ℕ → List Linked
@@ -24,17 +22,17 @@ pub record Table (addresses counts : List ℕ) (objects : ℕ) : Type 0 where
   pub ordering : Ordering (Lower addresses) (words_from addresses objects_most) objects
 
 -- a discovery as the definition has it: the ledger with the link, or answer 12
-abbrev pub discovery_of : List ℕ → List ℕ → Discovery → Result (List Linked)
-discovery_of addresses counts (Counted objects) = value (linked_of objects addresses counts)
-discovery_of addresses counts Full = answer 12
+abbrev pub discovery_of : List ℕ → List ℕ → Option ℕ → Result (List Linked)
+discovery_of addresses counts (Some objects) = value (linked_of objects addresses counts)
+discovery_of addresses counts None = answer 12
 
 -- the lists left are again a table; a table that is full is left as it was
-abbrev pub TableIf : List ℕ → List ℕ → List ℕ → List ℕ → Discovery → Type 0
-TableIf addresses counts addresses' counts' (Counted objects) = Table addresses' counts' objects
-TableIf addresses counts addresses' counts' Full = (addresses' ≡ addresses) × (counts' ≡ counts)
+abbrev pub TableIf : List ℕ → List ℕ → List ℕ → List ℕ → Option ℕ → Type 0
+TableIf addresses counts addresses' counts' (Some objects) = Table addresses' counts' objects
+TableIf addresses counts addresses' counts' None = (addresses' ≡ addresses) × (counts' ≡ counts)
 
 -- a link to the address was counted as the definition counts it
-pub record Discovered (addresses counts : List ℕ) (objects address : ℕ) (addresses' counts' : List ℕ) (r : Discovery) : Type 0 where
+pub record Discovered (addresses counts : List ℕ) (objects address : ℕ) (addresses' counts' : List ℕ) (r : Option ℕ) : Type 0 where
   pub walk : discovery_of addresses' counts' r ≡ count_link address (linked_of objects addresses counts)
   pub table : TableIf addresses counts addresses' counts' r
   pub addresses_same : length addresses' ≡ length addresses

@@ -23,22 +23,22 @@ fn guess_at(address: u64) -> usize
     INDEX_WORDS + spread as usize % GUESSES
 }
 
-// The object that the guess for an address is, or `objects` if that one has another address or there are no guesses.
-fn guessed(addresses: &[u64], objects: usize, address: u64) -> usize
+// The object that the guess for an address is; none if that one has another address or there are no guesses.
+fn guessed(addresses: &[u64], objects: usize, address: u64) -> Option<usize>
     requires { Indexed addresses.now objects }
     ensures { Guessed addresses.now objects address result }
 {
     if addresses.len() < TABLE_WORDS {
-        return objects;
+        return None;
     }
     let guess = addresses[guess_at(address)] as usize;
     if objects <= guess {
-        return objects;
+        return None;
     }
     if addresses[guess] != address {
-        return objects;
+        return None;
     }
-    guess
+    Some(guess)
 }
 
 // How many objects have an address below this one, and how many are compared for that.
@@ -109,8 +109,7 @@ pub fn find(addresses: &[u64], objects: usize, address: u64) -> Search
     requires { Indexed addresses.now objects }
     ensures { Sought addresses.now objects address 2 result }
 {
-    let place = guessed(addresses, objects, address);
-    if place < objects {
+    if let Some(place) = guessed(addresses, objects, address) {
         return Search {
             place,
             order: 0,
@@ -119,9 +118,8 @@ pub fn find(addresses: &[u64], objects: usize, address: u64) -> Search
     }
     let found = find_in_order(addresses, objects, address);
     Search {
-        place: found.place,
-        order: found.order,
         tests: found.tests + 1,
+        ..found
     }
 }
 

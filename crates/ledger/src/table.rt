@@ -8,22 +8,15 @@ ghost use Rattle.ledger.specs.Table.{linked_of, Table, Discovered, Started};
 use crate::search;
 use crate::search::Search;
 
-// The number of objects after the link, or that the table holds as many as it may.
-#[derive(Clone, Copy)]
-pub enum Discovery {
-    Counted(usize),
-    Full,
-}
-
 // Counts a hard link to the address, or a sharing of it, where a search for the address ended: one more for an object of
-// the table, or a new object with one.
+// the table, or a new object with one. The number of objects then, or none where the table holds as many as it may.
 pub fn count_at(
     addresses: &mut [u64],
     counts: &mut [u32],
     objects: usize,
     address: u64,
     found: Search,
-) -> Discovery
+) -> Option<usize>
     requires table { Table addresses.old counts.old objects }
     requires counts_bound { link_sum (linked_of objects addresses.old counts.old) + 1 < 2 ^ 32 }
     requires sought { Sought addresses.old objects address 2 found }
@@ -34,15 +27,15 @@ pub fn count_at(
         let links = counts[place];
         counts[place] = links + 1;
         search::remember(addresses, address, place);
-        return Discovery::Counted(objects);
+        return Some(objects);
     }
     let limits = format::the_limits();
     if limits.objects_most <= objects {
-        return Discovery::Full;
+        return None;
     }
     search::add(addresses, objects, address, found.order);
     counts[objects] = 1;
-    Discovery::Counted(objects + 1)
+    Some(objects + 1)
 }
 
 // Counts a hard link to the address, or a sharing of it.
@@ -51,7 +44,7 @@ pub fn discover(
     counts: &mut [u32],
     objects: usize,
     address: u64,
-) -> Discovery
+) -> Option<usize>
     requires table { Table addresses.old counts.old objects }
     requires counts_bound { link_sum (linked_of objects addresses.old counts.old) + 1 < 2 ^ 32 }
     ensures { Discovered addresses.old counts.old objects address addresses.new counts.new result }

@@ -18,8 +18,8 @@ use Rattle.component.specs.Component.{EndsAs}
 use Rattle.follow.specs.Follow.{target_run}
 use Rattle.last_object.specs.Last.{KindIs}
 use Rattle.lookup.specs.Lookup.{reply_of, LocatedIs}
-use Rattle.component.specs.declared.Target as targets
-use Rattle.last_object.specs.declared.Kind as kinds
+use Rattle.std.specs.Prelude.{Ok, Err}
+use Rattle.component.specs.declared.Target.TheVariants.{Object, Symbolic}
 use Rattle.lookup.specs.declared.lookup.Located.{Located}
 use Rattle.follow.proofs.FollowLaws.{after_target, follow-target}
 
@@ -48,17 +48,17 @@ module _ (im path : List ℕ) (room : ℕ) (s : Superblock) where
       (components_of path) s.root ≡ o → ((lent : ℕ) → reply_of (replicate lent 0) r ≡ lookup_end lent o) → Replies r
   ends e q lent fit = rw fit (q lent ∙ ap (lookup_end lent) (sym e))
 
-  pub stopped-is : (x : Refusal) → EndsAs (targets.TheVariants.Stopped x) target → Replies (refused_with x)
+  pub stopped-is : (x : Refusal) → EndsAs (Err x) target → Replies (refused_with x)
   stopped-is x h = ends (followed _ h.1) (λ _. refl)
 
-  pub symbolic-is : EndsAs targets.TheVariants.Symbolic target → Replies (record { number = 0; met = 0; kind = 4; address = 0 })
+  pub symbolic-is : EndsAs (Ok Symbolic) target → Replies (record { number = 0; met = 0; kind = 4; address = 0 })
   symbolic-is h = ends (followed _ h.1) (λ _. refl)
 
-  module _ (a : ℕ) (h : EndsAs (targets.TheVariants.Object a) target) where
-    pub last-stopped : (x : Refusal) → KindIs im s room a (kinds.TheVariants.Stopped x) → Replies (refused_with x)
+  module _ (a : ℕ) (h : EndsAs (Ok (Object a)) target) where
+    pub last-stopped : (x : Refusal) → KindIs im s room a (Err x) → Replies (refused_with x)
     last-stopped x k = ends (followed _ h.1 ∙ k.1) (λ _. refl)
 
-    pub last-known : (n : ℕ) → KindIs im s room a (kinds.TheVariants.Known n) → Replies (record { number = 0; met = 0; kind = n; address = a })
+    pub last-known : (n : ℕ) → KindIs im s room a (Ok n) → Replies (record { number = 0; met = 0; kind = n; address = a })
     last-known n k = ends (followed _ h.1 ∙ k.1) (λ _. refl)
 
 module _ (im path : List ℕ) (lent : ℕ) where

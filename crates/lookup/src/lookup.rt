@@ -11,8 +11,7 @@ use component::Target;
 use follow;
 use format::{NO_PLACE, Refusal, answers, met_of, number_of};
 use last_object;
-use last_object::Kind;
-use superblock::{Opening, Superblock};
+use superblock::Superblock;
 use walk::blocks;
 use walk::blocks::WORK_WORDS;
 
@@ -47,22 +46,22 @@ fn locate(image: &[u8], path: &[u8], list: &mut [u64], superblock: Superblock) -
         LocatedIs image.now path.now lent superblock result }
 {
     match follow::find_object(image, path, list, superblock) {
-        Target::Stopped(x) => refused(x),
-        Target::Symbolic => Located {
+        Err(refusal) => refused(refusal),
+        Ok(Target::Symbolic) => Located {
             number: answers::DONE,
             met: 0,
             kind: SYMBOLIC_LINK,
             address: 0,
         },
-        Target::Object(a) => {
+        Ok(Target::Object(address)) => {
             let room = blocks::places(list.len());
-            match last_object::kind_at(image, list, superblock, room, a) {
-                Kind::Stopped(x) => refused(x),
-                Kind::Known(k) => Located {
+            match last_object::kind_at(image, list, superblock, room, address) {
+                Err(refusal) => refused(refusal),
+                Ok(kind) => Located {
                     number: answers::DONE,
                     met: 0,
-                    kind: k,
-                    address: a,
+                    kind,
+                    address,
                 },
             }
         }
@@ -78,8 +77,8 @@ pub fn lookup_in(image: &[u8], path: &[u8], list: &mut [u64]) -> Located
         return refused(Refusal::Fault(answers::BAD_PATH, NO_PLACE));
     }
     match superblock::open(image) {
-        Opening::NotOpened(x) => refused(Refusal::Fault(x, 0)),
-        Opening::Opened(s) => locate(image, path, list, s),
+        Err(answer) => refused(Refusal::Fault(answer, 0)),
+        Ok(superblock) => locate(image, path, list, superblock),
     }
 }
 

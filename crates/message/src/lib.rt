@@ -24,6 +24,7 @@ pub enum Treatment {
     NotRead,
 }
 
+#[tactic(auto, unfolding(format::specs::Message::treatment))]
 fn treatment_of(kind: u64) -> Treatment
     ensures { treatment_of result ≡ treatment kind }
 {
@@ -38,11 +39,7 @@ fn treatment_of(kind: u64) -> Treatment
 fn type_allowed(kind: u64) -> bool
     ensures { result ≡ allowed (treatment kind) }
 {
-    match treatment_of(kind) {
-        Treatment::SteppedOver => true,
-        Treatment::IsRead => true,
-        Treatment::NotRead => false,
-    }
+    !matches!(treatment_of(kind), Treatment::NotRead)
 }
 
 // The shared flag is allowed on a datatype only.
@@ -79,41 +76,43 @@ fn continuation_sound(image: &[u8], kind: u64, body: usize) -> bool
     8 <= u64_at(image, body + 8)
 }
 
+// What stands in a message's head: its type, the length of its body and its flags.
 #[derive(Clone, Copy)]
-pub enum MessageRead {
-    Read { kind: u64, size: usize, flags: u8 },
-    Refused(u8),
+pub struct MessageRead {
+    pub kind: u64,
+    pub size: usize,
+    pub flags: u8,
 }
 
 // The message at `at`, in a block whose messages end at `end`.
-pub fn message(image: &[u8], at: usize, end: usize) -> MessageRead
+pub fn message(image: &[u8], at: usize, end: usize) -> Result<MessageRead, u8>
     requires at_lt_end { at < end }
     requires end_in_bounds { end ≤ length image.now }
     ensures { MessageIs image.now at end result }
 {
     if end - at < 8 {
-        return MessageRead::Refused(answers::HEADER_UNSOUND);
+        return Err(answers::HEADER_UNSOUND);
     }
     let kind = u16_at(image, at);
     if !type_allowed(kind) {
-        return MessageRead::Refused(answers::NOT_READ);
+        return Err(answers::NOT_READ);
     }
     let size = u16_at(image, at + 2) as usize;
     if size % 8 != 0 {
-        return MessageRead::Refused(answers::HEADER_UNSOUND);
+        return Err(answers::HEADER_UNSOUND);
     }
     if end - at - 8 < size {
-        return MessageRead::Refused(answers::HEADER_UNSOUND);
+        return Err(answers::HEADER_UNSOUND);
     }
     let flags = image[at + 4];
     if !flags_allowed(kind, flags) {
-        return MessageRead::Refused(answers::NOT_READ);
+        return Err(answers::NOT_READ);
     }
     if !fields_there(kind, size) {
-        return MessageRead::Refused(answers::HEADER_UNSOUND);
+        return Err(answers::HEADER_UNSOUND);
     }
     if !continuation_sound(image, kind, at + 8) {
-        return MessageRead::Refused(answers::HEADER_UNSOUND);
+        return Err(answers::HEADER_UNSOUND);
     }
-    MessageRead::Read { kind, size, flags }
+    Ok(MessageRead { kind, size, flags })
 }

@@ -1,7 +1,7 @@
 -- Laws of the strings of a segment whose last NUL is known.
 use Prim.Native.Nat.{ℕ, ◌+◌, ◌≤◌, ◌<◌}
 use mathlib.Core.Bool.{Bool, true, false}
-use mathlib.Core.List.{List}
+use mathlib.Core.List.{List, []}
 use mathlib.Core.Path.{◌≡◌, refl}
 use native.Mathlib.Omega.{arith}
 use borrow.Author.Tests.{lt-ltb, le-ltb, ltb-true, ltb-false}
@@ -9,14 +9,12 @@ use lib.Dec.{ltb}
 use lib.ListN.{length, drop}
 use Rattle.format.specs.Blocks.{Block, overlaps_any}
 use Rattle.format.specs.Heap.{Heap}
-use Rattle.format.specs.Names.{NameFault, outside, no_nul, bad_form, in_free_block, Text, text}
+use Rattle.format.specs.Names.{NameFault, outside, no_nul, bad_form, in_free_block, text}
 use Rattle.format.specs.Names.{fault, before_nul, string_at, key_text, name_text, value_text, outside_free, is_name}
 use Rattle.walk.proofs.Parts.{part_length}
 use Rattle.heap.specs.Segment.{heap_with}
 use Rattle.nul.specs.Nul.{LastNul}
 use Rattle.nul.proofs.NulLaws.{ends, no_end}
-use Rattle.names.specs.Texts.{TextRead, CheckedAs}
-use Rattle.names.specs.declared.Checked.{Checked}
 
 -- A key, by the tests that lead to each answer.
 module _ (seg : List ℕ) (ended off : ℕ) (free : List Block) where
@@ -35,8 +33,7 @@ module _ (seg : List ℕ) (ended off : ℕ) (free : List Block) where
     unfolding key_text
     key-sound h = rw (lt-ltb off (length seg) (omega (arith, l.within)), lt-ltb (off + before_nul (drop off seg)) (length seg) (ends seg ended off l h))
 
-    -- a key that is no fault begins before the last NUL or at it
-    pub key-inside : {s : List ℕ} → text s ≡ key_text (heap_with seg free) off → off < ended
+    key-inside : {s : List ℕ} → text s ≡ key_text (heap_with seg free) off → off < ended
     key-inside {s} e = go (ltb off ended) refl (ltb off (length seg)) refl
       where
         never : {f : NameFault} → fault f ≡ key_text (heap_with seg free) off → off < ended
@@ -46,6 +43,11 @@ module _ (seg : List ℕ) (ended off : ℕ) (free : List Block) where
         go true p u q = ltb-true off ended p
         go false p true q = never (key-no-nul (ltb-true off (length seg) q) (ltb-false off ended p))
         go false p false q = never (key-outside (ltb-false off (length seg) q))
+
+-- a key that was checked begins before the last NUL or at it
+pub key-checked : {seg : List ℕ} {ended : ℕ} (off : ℕ) → LastNul seg ended →
+    ((free : List Block) → (s : List ℕ) × (text s ≡ key_text (heap_with seg free) off)) → off < ended
+key-checked {seg} {ended} off l k = key-inside seg ended off [] l (k []).1
 
 -- A name and a link value, by the string that stands there.
 module _ (h : Heap) (off : ℕ) where
@@ -83,11 +85,3 @@ module _ (h : Heap) (off : ℕ) (t : List ℕ) where
 pub string-length : (seg : List ℕ) (off : ℕ) → off + before_nul (drop off seg) ≤ length seg → length (string_at seg off) ≡ before_nul (drop off seg)
 unfolding string_at
 string-length seg off h = part_length seg off (before_nul (drop off seg)) h
-
--- what was read or checked, by the case that it is
-pub same_read : {seg : List ℕ} {off : ℕ} {r r' : Rattle.names.specs.declared.Text.Text} {t : Text} → r ≡ r' → TextRead seg off r t →
-    TextRead seg off r' t
-same_read e h = rw e at h
-
-pub same_check : {r r' : Checked} (t : Text) → r ≡ r' → CheckedAs r t → CheckedAs r' t
-same_check t e h = rw e at h

@@ -1,13 +1,9 @@
 -- What the readers of strings return, as the definitions have it.
-use Rattle.std.specs.Prelude.{ℕ, ◌+◌, ◌<◌, ◌≡◌, List, length}
+use Rattle.std.specs.Prelude.{ℕ, ◌+◌, ◌<◌, ◌≡◌, List, length, Result, Ok, Err}
 use Rattle.format.specs.Bytes.{part}
 use Rattle.format.specs.Names.{text, fault, outside, no_nul, bad_form, in_free_block}
 use Rattle.names.specs.declared.NameFault.{NameFault}
 use Rattle.names.specs.declared.NameFault.TheVariants.{Outside, NoNul, BadForm, InFreeBlock}
-use Rattle.names.specs.declared.Text.{Text}
-use Rattle.names.specs.declared.Text.TheVariants.{Sound, Fault}
-use Rattle.names.specs.declared.Checked.{Checked}
-use Rattle.names.specs.declared.Checked.TheVariants as checked
 
 -- the fault that the reader's fault stands for
 abbrev pub fault_of : NameFault → Rattle.format.specs.Names.NameFault
@@ -17,21 +13,21 @@ fault_of BadForm = bad_form
 fault_of InFreeBlock = in_free_block
 
 -- what a reader's answer for the string at off stands for
-abbrev pub text_of : List ℕ → ℕ → Text → Rattle.format.specs.Names.Text
-text_of seg off (Sound n) = text (part seg off n)
-text_of seg off (Fault f) = fault (fault_of f)
+abbrev pub text_of : List ℕ → ℕ → Result ℕ NameFault → Rattle.format.specs.Names.Text
+text_of seg off (Ok n) = text (part seg off n)
+text_of seg off (Err f) = fault (fault_of f)
 
 -- the string and its NUL lie in the segment
-abbrev pub Inside : List ℕ → ℕ → Text → Type 0
-Inside seg off (Sound n) = off + n < length seg
-Inside seg off (Fault f) = Unit {0}
+abbrev pub Inside : List ℕ → ℕ → Result ℕ NameFault → Type 0
+Inside seg off (Ok n) = off + n < length seg
+Inside seg off (Err f) = Unit {0}
 
 -- the string at off was read as t
-pub record TextRead (seg : List ℕ) (off : ℕ) (r : Text) (t : Rattle.format.specs.Names.Text) : Type 0 where
+pub record TextRead (seg : List ℕ) (off : ℕ) (r : Result ℕ NameFault) (t : Rattle.format.specs.Names.Text) : Type 0 where
   pub value : text_of seg off r ≡ t
   pub inside : Inside seg off r
 
 -- the string, of which only the fault is told, was checked as t
-abbrev pub CheckedAs : Checked → Rattle.format.specs.Names.Text → Type 0
-CheckedAs checked.Sound t = (s : List ℕ) × (text s ≡ t)
-CheckedAs (checked.Fault f) t = fault (fault_of f) ≡ t
+abbrev pub CheckedAs : Result (Unit {0}) NameFault → Rattle.format.specs.Names.Text → Type 0
+CheckedAs (Ok u) t = (s : List ℕ) × (text s ≡ t)
+CheckedAs (Err f) t = fault (fault_of f) ≡ t

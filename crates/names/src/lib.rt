@@ -27,32 +27,18 @@ pub enum NameFault {
     InFreeBlock,
 }
 
-#[derive(Clone, Copy)]
-pub enum Text {
-    // The length of the string, without its NUL.
-    Sound(usize),
-    Fault(NameFault),
-}
-
-// A string whose length isn't asked for.
-#[derive(Clone, Copy)]
-pub enum Checked {
-    Sound,
-    Fault(NameFault),
-}
-
 // A key: any string that ends in a NUL inside the segment.
-pub fn key(segment: &[u8], ended: usize, off: u64) -> Checked
+pub fn key(segment: &[u8], ended: usize, off: u64) -> Result<(), NameFault>
     requires { LastNul segment.now ended }
     ensures { (free : List Block) → CheckedAs result (key_text (heap_with segment.now free) off) }
 {
     if segment.len() as u64 <= off {
-        return Checked::Fault(NameFault::Outside);
+        return Err(NameFault::Outside);
     }
     if ended as u64 <= off {
-        return Checked::Fault(NameFault::NoNul);
+        return Err(NameFault::NoNul);
     }
-    Checked::Sound
+    Ok(())
 }
 
 // How many bytes a name has, where the string has so many, at most as many as a name may have, and no '/'; 0 if it is empty or ".".
@@ -152,29 +138,29 @@ fn name_size(segment: &[u8], off: usize) -> usize
     size_unless_dot(segment, off, n)
 }
 
-// A name of a group. `head` is where the segment's free list begins, and `free` how many blocks it has.
-pub fn name(segment: &[u8], map: &[u8], head: u64, free: usize, ended: usize, off: u64) -> Text
+// A name of a group: how many bytes it has, without its NUL. `head` is where the segment's free list begins, and `free` how many blocks it has.
+pub fn name(
+    segment: &[u8],
+    map: &[u8],
+    head: u64,
+    free: usize,
+    ended: usize,
+    off: u64,
+) -> Result<usize, NameFault>
     requires last_nul { LastNul segment.now ended }
     requires held { Held segment.now map.now head free }
     ensures { TextRead segment.now off result (name_text (heap_with segment.now (chain free segment.now head)) off) }
 {
-    match key(segment, ended, off) {
-        Checked::Fault(f) => Text::Fault(f),
-        Checked::Sound => {
-            let start = off as usize;
-            let size = name_size(segment, start);
-            if size == 0 {
-                return Text::Fault(NameFault::BadForm);
-            }
-            if free == 0 {
-                return Text::Sound(size);
-            }
-            if meets_free(segment, map, head, free, start, size + 1) {
-                return Text::Fault(NameFault::InFreeBlock);
-            }
-            Text::Sound(size)
-        }
+    key(segment, ended, off)?;
+    let start = off as usize;
+    let size = name_size(segment, start);
+    if size == 0 {
+        return Err(NameFault::BadForm);
     }
+    if free != 0 && meets_free(segment, map, head, free, start, size + 1) {
+        return Err(NameFault::InFreeBlock);
+    }
+    Ok(size)
 }
 
 // Whether the string at `off`, which ends in the segment, has no byte in a free block, its NUL included.
@@ -192,22 +178,22 @@ fn outside_free(segment: &[u8], map: &[u8], head: u64, free: usize, off: usize) 
 }
 
 // The value of a symbolic link.
-pub fn value(segment: &[u8], map: &[u8], head: u64, free: usize, ended: usize, off: u64) -> Checked
+pub fn value(
+    segment: &[u8],
+    map: &[u8],
+    head: u64,
+    free: usize,
+    ended: usize,
+    off: u64,
+) -> Result<(), NameFault>
     requires last_nul { LastNul segment.now ended }
     requires held { Held segment.now map.now head free }
     requires marked { Marked map.now segment.now (chain free segment.now head) }
     ensures { CheckedAs result (value_text (heap_with segment.now (chain free segment.now head)) off) }
 {
-    match key(segment, ended, off) {
-        Checked::Fault(f) => Checked::Fault(f),
-        Checked::Sound => {
-            if free == 0 {
-                return Checked::Sound;
-            }
-            if outside_free(segment, map, head, free, off as usize) {
-                return Checked::Sound;
-            }
-            Checked::Fault(NameFault::InFreeBlock)
-        }
+    key(segment, ended, off)?;
+    if free != 0 && !outside_free(segment, map, head, free, off as usize) {
+        return Err(NameFault::InFreeBlock);
     }
+    Ok(())
 }

@@ -39,9 +39,12 @@ module _ (im : List ℕ) (eof room : ℕ) (ws : List ℕ) (count at k : ℕ) (l 
     node-refused x e = block_refused size refl refl ws₁ begun q x e
 
     module _ (m : ℕ) (e : Ok m ≡ entering (entry_answer eof room (blocks_of count ws) at size) 6 at size (blocks_of count ws) count) where
-      pub node-inside : at + size ≤ eof
+      node-inside : at + size ≤ eof
       unfolding node_walk ◌>>=◌
       node-inside = entered-inside size refl refl ws₁ begun q m e
+
+      pub node-there : eof ≤ length im → at + size ≤ length im
+      node-there h = omega (arith, node-inside)
 
       pub node-counted : m ≡ count + 1
       node-counted = (entered-zero 6 at size (blocks_of count ws) (entry_answer eof room (blocks_of count ws) at size) count m e).1

@@ -24,7 +24,8 @@ use Rattle.laws.proofs.Follows.{Ran}
 use Rattle.laws.proofs.Simulation.{Simulation, start, same-walk, returned, callee-value, callee-refusal, callee-done, callee-stopped, callee-last}
 use Rattle.ledger.specs.Table.{linked_of}
 use Rattle.visit.specs.Visit.{Both, both_of}
-use Rattle.symbol.specs.declared.entry.Step as steps
+use Rattle.symbol.specs.declared.entry.State.{State}
+use Rattle.std.specs.Prelude.{Result, Ok, Err}
 use Rattle.sharing.specs.Sharing.{found_of, visit_message, Kept, KindKnown}
 use Rattle.continuations.specs.Counting.{Counting}
 use Rattle.dataset.specs.Dataset.{SpaceAndType, parts_walk}
@@ -35,7 +36,6 @@ use Rattle.superblock.specs.Superblock.{superblock_of}
 use Rattle.superblock.specs.declared.Superblock as superblocks
 use Rattle.object.specs.Object.{Opened, Bounded, Listed, FoundWalked, behind_header}
 use Rattle.object.specs.declared.object.ObjectRead.{ObjectRead}
-use Rattle.object.specs.declared.object.ObjectRead.TheVariants.{Done, Stopped}
 
 -- an image that was opened, with the room that a list of so many words gives
 pub opened : (im : List ℕ) (s : superblocks.Superblock) (room lent : ℕ) → room ≡ places_of lent → Bounded im s → Opened im s room
@@ -126,35 +126,35 @@ module _ {ws addresses counts marks : List ℕ} {eof room count objects spare : 
   }
 
 -- what the group reader returns, as the object's
-abbrev pub object_read : steps.Step → ObjectRead
-object_read (steps.TheVariants.Done s) = Done s.count s.objects
-object_read (steps.TheVariants.Stopped n) = Stopped n
+abbrev pub object_read : Result State Refusal → Result ObjectRead Refusal
+object_read (Ok s) = Ok (record { count = s.count; objects = s.objects })
+object_read (Err n) = Err n
 
 -- the ledger, with the number of blocks then entered, or the refusal
-abbrev ledger_end : List ℕ → List ℕ → ObjectRead → Ended (List Linked)
-ledger_end addresses counts (Done count objects) = ended (linked_of objects addresses counts) count
-ledger_end addresses counts (Stopped r) = stopped r
+abbrev ledger_end : List ℕ → List ℕ → Result ObjectRead Refusal → Ended (List Linked)
+ledger_end addresses counts (Ok o) = ended (linked_of o.objects addresses counts) o.count
+ledger_end addresses counts (Err r) = stopped r
 
 -- the code's visit ended, and with it the audit's own walk of the group
-audit-ended : (ws ws' addresses counts : List ℕ) (l : lookup.Link) (r : steps.Step) (o : Outcome (List Linked)) (o' : Outcome Both) →
+audit-ended : (ws ws' addresses counts : List ℕ) (l : lookup.Link) (r : Result State Refusal) (o : Outcome (List Linked)) (o' : Outcome Both) →
     Ran true (λ x b. (last : List ℕ) × (b ≡ record { ledger = x; link = l })) o o' → Walked ws ws' (group_end addresses counts r) o' →
     Walked ws ws' (ledger_end addresses counts (object_read r)) o
 unfolding Ran
-audit-ended ws ws' addresses counts l (steps.TheVariants.Done s) (done x bs) o' n w =
-    let u : Walked ws ws' (group_end addresses counts (steps.TheVariants.Done s)) (done n.0 bs) = rw n.1 at w in
+audit-ended ws ws' addresses counts l (Ok s) (done x bs) o' n w =
+    let u : Walked ws ws' (group_end addresses counts (Ok s)) (done n.0 bs) = rw n.1 at w in
     let e : both_of addresses counts s.objects s.link ≡ n.0 = cc u.answer in
     let f : s.count ≡ length bs = cc u.answer in
     let g : linked_of s.objects addresses counts ≡ x = ap (λ (b : Both). b.ledger) (e ∙ n.2.1) in
     record { answer = rw (f, g) refl; held = u.held; rest = u.rest; indexed = u.indexed }
-audit-ended ws ws' addresses counts l (steps.TheVariants.Stopped m) (done x bs) o' n w =
+audit-ended ws ws' addresses counts l (Err m) (done x bs) o' n w =
     let u : Walked ws ws' (stopped m) (done n.0 bs) = rw n.1 at w in
     let z : ◌≡◌ {A = ℕ} 0 1 = cc u.answer in
     absurd (omega arith)
-audit-ended ws ws' addresses counts l (steps.TheVariants.Done s) (refused m bs) o' n w =
-    let u : Walked ws ws' (group_end addresses counts (steps.TheVariants.Done s)) (refused m bs) = rw n at w in
+audit-ended ws ws' addresses counts l (Ok s) (refused m bs) o' n w =
+    let u : Walked ws ws' (group_end addresses counts (Ok s)) (refused m bs) = rw n at w in
     let z : ◌≡◌ {A = ℕ} 0 1 = cc u.answer in
     absurd (omega arith)
-audit-ended ws ws' addresses counts l (steps.TheVariants.Stopped k) (refused m bs) o' n w =
+audit-ended ws ws' addresses counts l (Err k) (refused m bs) o' n w =
     let u : Walked ws ws' (stopped k) (refused m bs) = rw n at w in
     let e : k ≡ m = cc u.answer in
     record { answer = ap stopped e; held = u.held; rest = u.rest; indexed = u.indexed }
@@ -167,7 +167,7 @@ module _ (im : List ℕ) (s : superblocks.Superblock) (room : ℕ) (ws addresses
   f = found_of addresses counts marks objects
 
   -- what w makes of what was found
-  abbrev Walks : (Found → Walk Found) → List ℕ → List ℕ → List ℕ → List ℕ → ObjectRead → Type 0
+  abbrev Walks : (Found → Walk Found) → List ℕ → List ℕ → List ℕ → List ℕ → Result ObjectRead Refusal → Type 0
   Walks w ws₁ addresses₁ counts₁ marks₁ r = FoundWalked im ws addresses counts marks s room w count objects ws₁ addresses₁ counts₁ marks₁ r
 
   module _ {spare : ℕ} (y : Listed ws addresses counts marks eof room count objects spare) where
@@ -175,23 +175,23 @@ module _ (im : List ℕ) (s : superblocks.Superblock) (room : ℕ) (ws addresses
     begun w = start im eof room (w f) count ws y.lent
 
     -- a group was read
-    pub group-is : (wanted : List ℕ) (tree heap : ℕ) (ws₁ addresses₁ counts₁ : List ℕ) (r : steps.Step) → length ws₁ ≡ length ws →
+    pub group-is : (wanted : List ℕ) (tree heap : ℕ) (ws₁ addresses₁ counts₁ : List ℕ) (r : Result State Refusal) → length ws₁ ≡ length ws →
         GroupIs im wanted ws addresses counts eof room s.leaf_k s.internal_k true tree heap count objects ws₁ addresses₁ counts₁ r →
         Walks (content_walk (superblock_of s) (group tree heap)) ws₁ addresses₁ counts₁ marks (object_read r)
     unfolding content_walk
-    group-is wanted tree heap ws₁ addresses₁ counts₁ (steps.TheVariants.Done st) same h =
+    group-is wanted tree heap ws₁ addresses₁ counts₁ (Ok st) same h =
         let part = audit-part im eof room s.leaf_k s.internal_k tree heap (blocks_of count ws) wanted lookup.absent
         (linked_of objects addresses counts) in
-        let e = audit-ended ws ws₁ addresses₁ counts₁ lookup.absent (steps.TheVariants.Done st) _ _ part h.walked in
+        let e = audit-ended ws ws₁ addresses₁ counts₁ lookup.absent (Ok st) _ _ part h.walked in
         record {
           walked = returned (callee-done ws₁ (group_walk s.leaf_k s.internal_k tree heap discover f.objects) _
               (begun (content_walk (superblock_of s) (group tree heap))) same e);
           listed = ready-listed y h.ready;
         }
-    group-is wanted tree heap ws₁ addresses₁ counts₁ (steps.TheVariants.Stopped x) same h =
+    group-is wanted tree heap ws₁ addresses₁ counts₁ (Err x) same h =
         let part = audit-part im eof room s.leaf_k s.internal_k tree heap (blocks_of count ws) wanted lookup.absent
         (linked_of objects addresses counts) in
-        let e = audit-ended ws ws₁ addresses₁ counts₁ lookup.absent (steps.TheVariants.Stopped x) _ _ part h.walked in
+        let e = audit-ended ws ws₁ addresses₁ counts₁ lookup.absent (Err x) _ _ part h.walked in
         record {
           walked = callee-stopped ws₁ (group_walk s.leaf_k s.internal_k tree heap discover f.objects) _
               (begun (content_walk (superblock_of s) (group tree heap))) e;
@@ -210,7 +210,7 @@ module _ (im : List ℕ) (s : superblocks.Superblock) (room : ℕ) (ws addresses
       at-parts =
           same-walk _ (parts-split space type (λ d t. located (head_at type) (share_each (shared_by t) f) >>= λ f'. storage_walk d t layout >> ret f')) (begun w)
 
-      pub parts-refused : (x : Refusal) → refuse x ≡ parts_walk space type → Walks w ws addresses counts marks (Stopped x)
+      pub parts-refused : (x : Refusal) → refuse x ≡ parts_walk space type → Walks w ws addresses counts marks (Err x)
       parts-refused x e = record { walked = callee-refusal _ _ x (sym e) at-parts; listed = tt }
 
       module _ (p : SpaceAndType) (e : ret p ≡ parts_walk space type) (addresses₁ counts₁ marks₁ : List ℕ) where
@@ -218,7 +218,7 @@ module _ (im : List ℕ) (s : superblocks.Superblock) (room : ℕ) (ws addresses
             (located (head_at type) (share_each (shared_by p.type) f) >>= λ f'. storage_walk p.space p.type layout >> ret f') count ws
         at-sharing = callee-value _ _ p (sym e) at-parts
 
-        pub sharing-refused : (n : ℕ) → answer n ≡ share_each (shared_by p.type) f → Walks w ws addresses₁ counts₁ marks₁ (Stopped (fault n (head_at type)))
+        pub sharing-refused : (n : ℕ) → answer n ≡ share_each (shared_by p.type) f → Walks w ws addresses₁ counts₁ marks₁ (Err (fault n (head_at type)))
         sharing-refused n g = record { walked = callee-refusal _ _ (fault n (head_at type)) (ap (located (head_at type)) (sym g)) at-sharing; listed = tt }
 
         module _ (objects₁ : ℕ) (g : value (found_of addresses₁ counts₁ marks₁ objects₁) ≡ share_each (shared_by p.type) f) (ws₁ : List ℕ) where
@@ -229,25 +229,25 @@ module _ (im : List ℕ) (s : superblocks.Superblock) (room : ℕ) (ws addresses
           at-storage = callee-value _ _ f₁ (ap (located (head_at type)) (sym g)) at-sharing
 
           pub storage-stopped : (x : Refusal) → Walked ws ws₁ (stopped x) (run im eof room (storage_walk p.space p.type layout) (blocks_of count ws)) →
-              Walks w ws₁ addresses₁ counts₁ marks₁ (Stopped x)
+              Walks w ws₁ addresses₁ counts₁ marks₁ (Err x)
           storage-stopped x h = record { walked = callee-stopped ws₁ _ _ at-storage h; listed = tt }
 
           pub storage-read : (d : Rattle.format.specs.Dataset.Dataset) (n : ℕ) → length ws₁ ≡ length ws →
               Walked ws ws₁ (ended d n) (run im eof room (storage_walk p.space p.type layout) (blocks_of count ws)) →
-              Kept addresses counts objects spare addresses₁ counts₁ marks₁ objects₁ → Walks w ws₁ addresses₁ counts₁ marks₁ (Done n objects₁)
+              Kept addresses counts objects spare addresses₁ counts₁ marks₁ objects₁ → Walks w ws₁ addresses₁ counts₁ marks₁ (Ok (record { count = n; objects = objects₁ }))
           storage-read d n same h k =
               let m = callee-done ws₁ _ _ at-storage same h in
               record { walked = returned m; listed = listed_more (listed-counted y k) m.lent m.blocks }
 
     -- the kind is known: of an object that is no committed datatype
     module _ (i at : ℕ) (o : Object) (e : known i o f ≡ not_committed i f) (marks₁ : List ℕ) where
-      pub shared-before : KindKnown marks i marks₁ false → Walks (behind_header s i at o) ws addresses counts marks₁ (Stopped (fault 10 at))
+      pub shared-before : KindKnown marks i marks₁ false → Walks (behind_header s i at o) ws addresses counts marks₁ (Err (fault 10 at))
       shared-before k = record {
         walked = callee-refusal _ _ (fault 10 at) (ap (located at) (e ∙ sym (k.walk f.objects))) (begun (behind_header s i at o));
         listed = tt;
       }
 
-      pub not-shared : KindKnown marks i marks₁ true → (ws₂ addresses₂ counts₂ marks₂ : List ℕ) (r : ObjectRead) →
+      pub not-shared : KindKnown marks i marks₁ true → (ws₂ addresses₂ counts₂ marks₂ : List ℕ) (r : Result ObjectRead Refusal) →
           FoundWalked im ws addresses counts marks₁ s room (content_walk (superblock_of s) o) count objects ws₂ addresses₂ counts₂ marks₂ r →
           Walks (behind_header s i at o) ws₂ addresses₂ counts₂ marks₂ r
       not-shared k ws₂ addresses₂ counts₂ marks₂ r c =
@@ -268,7 +268,7 @@ module _ (im : List ℕ) (s : superblocks.Superblock) (room : ℕ) (ws addresses
       at-header = begun whole
 
       pub header-stopped : (addresses₁ counts₁ marks₁ : List ℕ) (x : Refusal) → Walked ws ws₁ (stopped x) (run im eof room header (blocks_of count ws)) →
-          Walks whole ws₁ addresses₁ counts₁ marks₁ (Stopped x)
+          Walks whole ws₁ addresses₁ counts₁ marks₁ (Err x)
       header-stopped addresses₁ counts₁ marks₁ x h = record { walked = callee-stopped ws₁ _ _ at-header h; listed = tt }
 
       module _ (o : Object) (n : ℕ) (addresses₁ counts₁ marks₁ : List ℕ) (objects₁ : ℕ) (same : length ws₁ ≡ length ws)
@@ -281,7 +281,7 @@ module _ (im : List ℕ) (s : superblocks.Superblock) (room : ℕ) (ws addresses
             Listed ws₁ addresses₁ counts₁ marks₁ eof room n objects₁ left
         kind-listed left c = record { lent = at-kind.lent; counting = c }
 
-        pub kind-read : (ws₂ addresses₂ counts₂ marks₂ : List ℕ) (r : ObjectRead) →
+        pub kind-read : (ws₂ addresses₂ counts₂ marks₂ : List ℕ) (r : Result ObjectRead Refusal) →
             FoundWalked im ws₁ addresses₁ counts₁ marks₁ s room (behind_header s i at o) n objects₁ ws₂ addresses₂ counts₂ marks₂ r →
             Walks whole ws₂ addresses₂ counts₂ marks₂ r
         kind-read ws₂ addresses₂ counts₂ marks₂ r c = record { walked = callee-last ws₂ at-kind c.walked; listed = c.listed }
@@ -290,7 +290,7 @@ module _ (im : List ℕ) (s : superblocks.Superblock) (room : ℕ) (ws addresses
       pub committed-read : (n : ℕ) (addresses₁ counts₁ marks₁ : List ℕ) (objects₁ : ℕ) → length ws₁ ≡ length ws →
           Walked ws ws₁ (ended (record { object = committed; found = found_of addresses₁ counts₁ marks₁ objects₁ }) n)
           (run im eof room header (blocks_of count ws)) →
-          (left : ℕ) → Counting ws₁ addresses₁ counts₁ marks₁ eof n objects₁ left → Walks whole ws₁ addresses₁ counts₁ marks₁ (Done n objects₁)
+          (left : ℕ) → Counting ws₁ addresses₁ counts₁ marks₁ eof n objects₁ left → Walks whole ws₁ addresses₁ counts₁ marks₁ (Ok (record { count = n; objects = objects₁ }))
       unfolding content_walk ◌>>=◌
       committed-read n addresses₁ counts₁ marks₁ objects₁ same h left c = record {
         walked = returned (at-kind committed n addresses₁ counts₁ marks₁ objects₁ same h);

@@ -1,5 +1,6 @@
 -- What walking an object of the audit returns and leaves.
-use Rattle.std.specs.Prelude.{ℕ, List}
+use Rattle.std.specs.Prelude.{ℕ, List, Result, Ok, Err}
+use Rattle.format.specs.declared.Refusal.{Refusal}
 use Rattle.format.specs.Walk.{Walk, run, located, ◌>>=◌}
 use Rattle.format.specs.Header.{Object}
 use Rattle.format.specs.Object.{content_walk}
@@ -10,9 +11,7 @@ use Rattle.continuations.specs.Counting.{Counting}
 use Rattle.group.specs.Group.{Settings}
 use Rattle.superblock.specs.Superblock.{FieldsBounded, superblock_of}
 use Rattle.superblock.specs.declared.Superblock.{Superblock}
-use Rattle.superblock.specs.declared.Opening.TheVariants as openings
 use Rattle.object.specs.declared.object.ObjectRead.{ObjectRead}
-use Rattle.object.specs.declared.object.ObjectRead.TheVariants.{Done, Stopped}
 
 -- what is known of an image with this superblock
 abbrev pub Opened : List ℕ → Superblock → ℕ → Type 0
@@ -20,7 +19,7 @@ Opened im s room = Settings im s.end_of_file room s.leaf_k s.internal_k
 
 -- what is known of the superblock of an image that was opened
 abbrev pub Bounded : List ℕ → Superblock → Type 0
-Bounded im s = FieldsBounded im (openings.Opened s)
+Bounded im s = FieldsBounded im (Ok s)
 
 -- the lists that an object is walked with, and so many links to spare
 pub record Listed (ws addresses counts marks : List ℕ) (eof room count objects spare : ℕ) : Type 0 where
@@ -28,17 +27,17 @@ pub record Listed (ws addresses counts marks : List ℕ) (eof room count objects
   pub counting : Counting ws addresses counts marks eof count objects spare
 
 -- what was found, with the number of blocks then entered, or the refusal
-abbrev pub object_end : List ℕ → List ℕ → List ℕ → ObjectRead → Ended Found
-object_end addresses counts marks (Done count objects) = ended (found_of addresses counts marks objects) count
-object_end addresses counts marks (Stopped r) = stopped r
+abbrev pub object_end : List ℕ → List ℕ → List ℕ → Result ObjectRead Refusal → Ended Found
+object_end addresses counts marks (Ok o) = ended (found_of addresses counts marks o.objects) o.count
+object_end addresses counts marks (Err r) = stopped r
 
-abbrev pub ListedIf : List ℕ → List ℕ → List ℕ → List ℕ → ℕ → ℕ → ObjectRead → Type 0
-ListedIf ws addresses counts marks eof room (Done count objects) = Listed ws addresses counts marks eof room count objects 0
-ListedIf ws addresses counts marks eof room (Stopped r) = Unit {0}
+abbrev pub ListedIf : List ℕ → List ℕ → List ℕ → List ℕ → ℕ → ℕ → Result ObjectRead Refusal → Type 0
+ListedIf ws addresses counts marks eof room (Ok o) = Listed ws addresses counts marks eof room o.count o.objects 0
+ListedIf ws addresses counts marks eof room (Err r) = Unit {0}
 
 -- A part w of the audit was walked, from what was found before it to what is found with it
 pub record FoundWalked (im ws addresses counts marks : List ℕ) (s : Superblock) (room : ℕ) (w : Found → Walk Found) (count objects : ℕ)
-    (ws' addresses' counts' marks' : List ℕ) (r : ObjectRead) : Type 0 where
+    (ws' addresses' counts' marks' : List ℕ) (r : Result ObjectRead Refusal) : Type 0 where
   pub walked : Walked ws ws' (object_end addresses' counts' marks' r) (run im s.end_of_file room (w (found_of addresses counts marks objects))
       (blocks_of count ws))
   pub listed : ListedIf ws' addresses' counts' marks' s.end_of_file room r

@@ -9,20 +9,18 @@ ghost use Rattle.dataset.specs.Dataset.{BodiesInside};
 ghost use Rattle.object.specs.Object.{Opened, Listed, FoundWalked, behind_header};
 
 use continuations::Reading;
-use dataset::dataset::{DatasetRead, PartsRead};
+use dataset::dataset::{head_of, read_parts, read_storage};
 use format::{Refusal, answers};
 use image::header;
 use kind::HeaderRead;
 use message::Body;
-use sharing::Sharing;
 use superblock::Superblock;
-use symbol::entry::Step;
 
-// The blocks entered and the objects found, or the refusal.
+// The numbers of blocks entered and of objects found.
 #[derive(Clone, Copy)]
-pub enum ObjectRead {
-    Done { count: usize, objects: usize },
-    Stopped(Refusal),
+pub struct ObjectRead {
+    pub count: usize,
+    pub objects: usize,
 }
 
 // A group: its hard links are counted. No name is looked for, so that any slice does as the wanted one.
@@ -37,33 +35,27 @@ fn read_group(
     heap: u64,
     count: usize,
     objects: usize,
-) -> ObjectRead
+) -> Result<ObjectRead, Refusal>
     requires opened { Opened image.now superblock room }
     requires by_index { (marks : List ℕ) × Listed list.old addresses.old counts.old marks superblock.end_of_file room count objects 0 }
     ensures { (marks : List ℕ) → Listed list.old addresses.old counts.old marks superblock.end_of_file room
         count objects 0 → FoundWalked image.now list.old addresses.old counts.old marks superblock room
         (content_walk (superblock_of superblock) (group_object tree heap)) count objects list.new addresses.new counts.new marks result }
 {
-    let end_of_file = superblock.end_of_file;
-    let leaf_k = superblock.leaf_k;
-    let internal_k = superblock.internal_k;
-    let auditing = true;
     let reading = group::contents::Reading {
-        end_of_file,
+        end_of_file: superblock.end_of_file,
         room,
-        leaf_k,
-        internal_k,
-        auditing,
+        leaf_k: superblock.leaf_k,
+        internal_k: superblock.internal_k,
+        auditing: true,
     };
-    match group::group::read(
+    let state = group::group::read(
         image, image, list, addresses, counts, reading, tree, heap, count, objects,
-    ) {
-        Step::Stopped(x) => ObjectRead::Stopped(x),
-        Step::Done(s) => ObjectRead::Done {
-            count: s.count,
-            objects: s.objects,
-        },
-    }
+    )?;
+    Ok(ObjectRead {
+        count: state.count,
+        objects: state.objects,
+    })
 }
 
 // A dataset: what its datatype shares is discovered where that message is read, before the layout.
@@ -80,7 +72,7 @@ fn read_dataset(
     layout: Body,
     count: usize,
     objects: usize,
-) -> ObjectRead
+) -> Result<ObjectRead, Refusal>
     requires listed { Listed list.old addresses.old counts.old marks.old superblock.end_of_file room count objects 1 }
     requires bodies_inside { BodiesInside image.now space datatype layout }
     ensures { FoundWalked image.now list.old addresses.old counts.old marks.old superblock room
@@ -88,36 +80,23 @@ fn read_dataset(
         (message_of image.now 0x0008 layout))) count objects
         list.new addresses.new counts.new marks.new result }
 {
-    match dataset::dataset::read_parts(image, space, datatype) {
-        PartsRead::Refused(x) => ObjectRead::Stopped(x),
-        PartsRead::Read(parts) => {
-            let kind = parts.datatype;
-            match sharing::share_type(addresses, counts, marks, objects, kind) {
-                Sharing::Refused(n) => {
-                    ObjectRead::Stopped(Refusal::Fault(n, dataset::dataset::head_of(datatype)))
-                }
-                Sharing::Counted(shared) => {
-                    let end_of_file = superblock.end_of_file;
-                    match dataset::dataset::read_storage(
-                        image,
-                        end_of_file,
-                        list,
-                        count,
-                        room,
-                        space,
-                        parts,
-                        layout,
-                    ) {
-                        DatasetRead::Stopped(x) => ObjectRead::Stopped(x),
-                        DatasetRead::Read(_, n) => ObjectRead::Done {
-                            count: n,
-                            objects: shared,
-                        },
-                    }
-                }
-            }
-        }
-    }
+    let parts = read_parts(image, space, datatype)?;
+    let shared = sharing::share_type(addresses, counts, marks, objects, parts.datatype)
+        .map_err(|answer| Refusal::Fault(answer, head_of(datatype)))?;
+    let stored = read_storage(
+        image,
+        superblock.end_of_file,
+        list,
+        count,
+        room,
+        space,
+        parts,
+        layout,
+    )?;
+    Ok(ObjectRead {
+        count: stored.1,
+        objects: shared,
+    })
 }
 
 // A group, as the object at the place `i` of the table: 10 if that was shared.
@@ -135,7 +114,7 @@ fn known_group(
     heap: u64,
     count: usize,
     objects: usize,
-) -> ObjectRead
+) -> Result<ObjectRead, Refusal>
     requires opened { Opened image.now superblock room }
     requires listed { Listed list.old addresses.old counts.old marks.old superblock.end_of_file room count objects 0 }
     requires i_lt_objects_most { i < objects_most }
@@ -144,7 +123,7 @@ fn known_group(
         marks.new result }
 {
     if !sharing::not_committed(marks, i) {
-        return ObjectRead::Stopped(Refusal::Fault(answers::HEADER_UNSOUND, at));
+        return Err(Refusal::Fault(answers::HEADER_UNSOUND, at));
     }
     read_group(
         image, list, addresses, counts, superblock, room, tree, heap, count, objects,
@@ -167,7 +146,7 @@ fn known_dataset(
     layout: Body,
     count: usize,
     objects: usize,
-) -> ObjectRead
+) -> Result<ObjectRead, Refusal>
     requires listed { Listed list.old addresses.old counts.old marks.old superblock.end_of_file room count objects 1 }
     requires bodies_inside { BodiesInside image.now space datatype layout }
     requires i_lt_objects_most { i < objects_most }
@@ -177,7 +156,7 @@ fn known_dataset(
         list.new addresses.new counts.new marks.new result }
 {
     if !sharing::not_committed(marks, i) {
-        return ObjectRead::Stopped(Refusal::Fault(answers::HEADER_UNSOUND, at));
+        return Err(Refusal::Fault(answers::HEADER_UNSOUND, at));
     }
     read_dataset(
         image, list, addresses, counts, marks, superblock, room, space, datatype, layout, count,
@@ -198,31 +177,28 @@ pub fn read(
     at: u64,
     count: usize,
     objects: usize,
-) -> ObjectRead
+) -> Result<ObjectRead, Refusal>
     requires opened { Opened image.now superblock room }
     requires listed { Listed list.old addresses.old counts.old marks.old superblock.end_of_file room count objects 0 }
     requires i_lt_objects_most { i < objects_most }
     ensures { FoundWalked image.now list.old addresses.old counts.old marks.old superblock room
         (object_walk (superblock_of superblock) i at) count objects list.new addresses.new counts.new marks.new result }
 {
-    let end_of_file = superblock.end_of_file;
     let reading = Reading {
-        end_of_file,
+        end_of_file: superblock.end_of_file,
         room,
         auditing: true,
     };
     let headed = header::read_with(
         image, list, addresses, counts, marks, reading, count, objects, at,
-    );
+    )?;
     let found = headed.objects;
     let start = at as usize;
-    let header = headed.header;
-    match header {
-        HeaderRead::Stopped(x) => ObjectRead::Stopped(x),
-        HeaderRead::Committed(n) => ObjectRead::Done {
+    match headed.header {
+        HeaderRead::Committed(n) => Ok(ObjectRead {
             count: n,
             objects: found,
-        },
+        }),
         HeaderRead::Dataset {
             space,
             datatype,

@@ -6,6 +6,7 @@ ghost use Rattle.format.specs.Audit.{objects_walk};
 ghost use Rattle.superblock.specs.Superblock.{superblock_of};
 ghost use Rattle.object.specs.Object.{Opened, Listed, FoundWalked};
 
+use format::Refusal;
 use object::object::ObjectRead;
 use superblock::Superblock;
 
@@ -20,7 +21,7 @@ pub fn read(
     room: usize,
     count: usize,
     objects: usize,
-) -> ObjectRead
+) -> Result<ObjectRead, Refusal>
     requires opened { Opened image.now superblock room }
     requires listed { Listed list.old addresses.old counts.old marks.old superblock.end_of_file room count objects 0 }
     ensures { FoundWalked image.now list.old addresses.old counts.old marks.old superblock room
@@ -32,22 +33,15 @@ pub fn read(
     let mut i: usize = 0;
     while i < found {
         let at = addresses[i];
-        match object::object::read(
+        let read = object::object::read(
             image, list, addresses, counts, marks, superblock, room, i, at, entered, found,
-        ) {
-            ObjectRead::Stopped(x) => return ObjectRead::Stopped(x),
-            ObjectRead::Done {
-                count: c,
-                objects: o,
-            } => {
-                entered = c;
-                found = o;
-                i += 1;
-            }
-        }
+        )?;
+        entered = read.count;
+        found = read.objects;
+        i += 1;
     }
-    ObjectRead::Done {
+    Ok(ObjectRead {
         count: entered,
         objects: found,
-    }
+    })
 }

@@ -1,65 +1,45 @@
 // The lines of a file that the audit refuses.
 #![tactic(auto)]
 
-use answer_text::{put_answer, put_kind};
+use answer_text::{AnswerWords, KindName};
 use damaged_block::block::ListedBlock;
 use format::answers;
-use text_line::dump::put_rows;
-use text_line::{put_address, put_decimal, put_text};
+use std::fmt;
+use text_line::dump::Rows;
 use walk::kinds;
 
-// Writes the line of an answer.
-pub fn put_refusal(out: &mut [u8], at: usize, answer: u8) -> usize {
-    let place = put_text(out, at, b"answer ");
-    let place = put_decimal(out, place, answer as u64);
-    let place = put_text(out, place, b": ");
-    let place = put_answer(out, place, answer);
-    put_text(out, place, b"\n")
+// The line of an answer.
+#[derive(Clone, Copy)]
+pub struct Answer {
+    pub number: u8,
 }
 
-// Writes whose block it is. The superblock is of no object.
-fn put_owner(out: &mut [u8], at: usize, kind: u64, object: u64) -> usize {
-    if kind == kinds::SUPERBLOCK as u64 {
-        return at;
+impl fmt::Display for Answer {
+    fn fmt<W: fmt::Write>(&self, f: &mut fmt::Formatter<W>) -> fmt::Result {
+        let number = self.number;
+        let words = AnswerWords(number);
+        writeln!(f, "answer {number}: {words}")
     }
-    let place = put_text(out, at, b", object ");
-    put_decimal(out, place, object)
 }
 
-// Writes the line of the damaged block.
-fn put_block(out: &mut [u8], at: usize, block: ListedBlock) -> usize {
-    let place = put_kind(out, at, block.kind);
-    let place = put_text(out, place, b" at ");
-    let place = put_address(out, place, block.address);
-    let place = put_text(out, place, b", ");
-    let place = put_decimal(out, place, block.size);
-    let place = put_text(out, place, b" bytes");
-    let place = put_owner(out, place, block.kind, block.object);
-    put_text(out, place, b"\n")
+// The line of the damaged block. The superblock is of no object.
+#[derive(Clone, Copy)]
+struct Block {
+    block: ListedBlock,
 }
 
-fn put_place(out: &mut [u8], at: usize, place: u64) -> usize {
-    let behind = put_text(out, at, b"place ");
-    let behind = put_address(out, behind, place);
-    put_text(out, behind, b"\n")
-}
-
-// Writes the line of the block that is met, which the answer 6 alone has.
-fn put_met(out: &mut [u8], at: usize, answer: u8, met: u64) -> usize {
-    if answer != answers::OVERLAP {
-        return at;
+impl fmt::Display for Block {
+    fn fmt<W: fmt::Write>(&self, f: &mut fmt::Formatter<W>) -> fmt::Result {
+        let name = KindName(self.block.kind);
+        let address = self.block.address;
+        let size = self.block.size;
+        write!(f, "{name} at {address:016x}, {size} bytes")?;
+        if self.block.kind != kinds::SUPERBLOCK as u64 {
+            let object = self.block.object;
+            write!(f, ", object {object}")?;
+        }
+        writeln!(f, "")
     }
-    let place = put_text(out, at, b"meets the block at ");
-    let place = put_address(out, place, met);
-    put_text(out, place, b"\n")
-}
-
-fn put_entered(out: &mut [u8], at: usize, block_count: usize) -> usize {
-    let place = put_decimal(out, at, block_count as u64);
-    if block_count == 1 {
-        return put_text(out, place, b" block entered before\n");
-    }
-    put_text(out, place, b" blocks entered before\n")
 }
 
 // What the report says of a fault behind its answer.
@@ -71,17 +51,40 @@ pub struct Damage {
     pub block_count: usize,
 }
 
-// Writes all lines of a refused image.
-pub fn put_refused(out: &mut [u8], at: usize, image: &[u8], answer: u8, damage: Damage) -> usize {
-    let behind = put_refusal(out, at, answer);
-    // An image of such a length has no block to name.
-    if answer == answers::LENGTH_OUT_OF_RANGE {
-        return behind;
+// All lines of a refused image.
+#[derive(Clone, Copy)]
+pub struct Refused<'a> {
+    pub image: &'a [u8],
+    pub answer: u8,
+    pub damage: Damage,
+}
+
+impl fmt::Display for Refused<'_> {
+    fn fmt<W: fmt::Write>(&self, f: &mut fmt::Formatter<W>) -> fmt::Result {
+        let line = Answer {
+            number: self.answer,
+        };
+        write!(f, "{line}")?;
+        // An image of such a length has no block to name.
+        if self.answer == answers::LENGTH_OUT_OF_RANGE {
+            return Ok(());
+        }
+        let block = Block {
+            block: self.damage.block,
+        };
+        let place = self.damage.place;
+        write!(f, "{block}place {place:016x}\n")?;
+        // The block that is met has a line with the answer 6 alone.
+        if self.answer == answers::OVERLAP {
+            let met = self.damage.met;
+            writeln!(f, "meets the block at {met:016x}")?;
+        }
+        let rows = Rows {
+            image: self.image,
+            place,
+        };
+        let count = self.damage.block_count;
+        let blocks = if count == 1 { "block" } else { "blocks" };
+        writeln!(f, "{rows}{count} {blocks} entered before")
     }
-    let block = damage.block;
-    let behind = put_block(out, behind, block);
-    let behind = put_place(out, behind, damage.place);
-    let behind = put_met(out, behind, answer, damage.met);
-    let behind = put_rows(out, behind, image, damage.place);
-    put_entered(out, behind, damage.block_count)
 }

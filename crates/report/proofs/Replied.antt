@@ -23,7 +23,7 @@ use Rattle.ledger.proofs.ReportLaws.{counted-law}
 use Rattle.superblock.specs.Superblock.{superblock_of}
 use Rattle.superblock.specs.declared.Superblock.{Superblock}
 use Rattle.object.specs.Object.{Bounded}
-use Rattle.object.specs.declared.object.ObjectRead.TheVariants.{Done, Stopped}
+use Rattle.std.specs.Prelude.{Ok, Err}
 use Rattle.audit.specs.Audit.{ImageWalked}
 use Rattle.audit.proofs.ReplyLaws.{ran, list-is, get_d-zeros}
 use Rattle.damaged_block.specs.Entered.{Leading}
@@ -77,7 +77,7 @@ module _ (im ws : List ℕ) (s : Superblock) (b : Bounded im s) where
 
   -- the walk was refused, and the list holds the blocks before the fault
   module _ (x : Refusal) (ws₁ addresses₁ counts₁ : List ℕ) (same : length ws₁ ≡ length ws) (filled : ws ≡ replicate (length ws) undefined_address)
-      (w : ImageWalked im ws s ws₁ addresses₁ counts₁ (Stopped x)) (n : ℕ) (l : Leading ws₁ n) where
+      (w : ImageWalked im ws s ws₁ addresses₁ counts₁ (Err x)) (n : ℕ) (l : Leading ws₁ n) where
     stop : (bs : List Block) × (outcome ≡ refused x bs)
     stop = walked-refused ws ws₁ x outcome w.walked
 
@@ -123,7 +123,7 @@ module _ (im ws : List ℕ) (s : Superblock) (b : Bounded im s) where
         )
 
   -- the walk is done
-  module _ (count objects : ℕ) (ws₁ addresses counts : List ℕ) (w : ImageWalked im ws s ws₁ addresses counts (Done count objects)) where
+  module _ (count objects : ℕ) (ws₁ addresses counts : List ℕ) (w : ImageWalked im ws s ws₁ addresses counts (Ok (record { count = count; objects = objects }))) where
     abbrev table : Table addresses counts objects
     table = w.ready.table refl
 

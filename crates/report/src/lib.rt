@@ -13,8 +13,7 @@ use damaged_block::entered::{count_entered, fill_undefined};
 use format::{OBJECTS_MOST, Refusal, answers, met_of, number_of};
 use ledger::report::{Ledger, copy_addresses, empty, read_stored};
 use ledger::search::TABLE_WORDS;
-use object::object::ObjectRead;
-use superblock::{Opening, Superblock};
+use superblock::Superblock;
 use walk::blocks;
 use walk::blocks::WORK_WORDS;
 
@@ -77,16 +76,16 @@ fn report_opened(
 {
     fill_undefined(list);
     match audit::walk_image(image, list, addresses, true_counts, superblock) {
-        ObjectRead::Stopped(x) => refused(list, count_entered(list), x),
-        ObjectRead::Done { count, objects } => {
-            read_stored(image, addresses, stored, objects);
+        Err(refusal) => refused(list, count_entered(list), refusal),
+        Ok(read) => {
+            read_stored(image, addresses, stored, read.objects);
             Reported {
                 answer: answers::DONE,
-                block_count: count,
+                block_count: read.count,
                 place: 0,
                 block: no_block(),
                 met: 0,
-                objects,
+                objects: read.objects,
             }
         }
     }
@@ -107,8 +106,10 @@ pub fn report_into(
         (handed lent result.block_count list.new) addresses.new stored.new true_counts.new result }
 {
     match superblock::open(image) {
-        Opening::NotOpened(x) => unopened(x),
-        Opening::Opened(s) => report_opened(image, list, addresses, stored, true_counts, s),
+        Err(answer) => unopened(answer),
+        Ok(superblock) => {
+            report_opened(image, list, addresses, stored, true_counts, superblock)
+        }
     }
 }
 

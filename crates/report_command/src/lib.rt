@@ -5,10 +5,8 @@ ghost use Rattle.std.specs.Prelude.{◌<◌, length};
 ghost use Rattle.format.specs.Limits.{input_most};
 
 use format::INPUT_MOST;
-use input::Input;
 use report_text::TEXT_MOST;
 use source::Opened;
-use source::kept::{Kept, error_of};
 use std::io::Read;
 
 // One byte more than is answered for, so that a longer input is known as longer.
@@ -17,23 +15,19 @@ const BUFFER: usize = INPUT_MOST + 1;
 // Reports on standard output. An input that can't be read is named on standard error.
 fn answer<R: Read + Drop>(
     rt: &HostRuntime,
-    reader: R,
+    mut reader: R,
     name: &[u8],
     buffer: &mut [u8],
     out: &mut [u8],
 )
     requires { input_most < length buffer.old }
 {
-    let mut kept = Kept {
-        reader,
-        error: None,
-    };
-    match input::read_to_end(&mut kept, buffer) {
-        Input::Failed => source::fail(rt, name, error_of(kept)),
-        Input::Read { length, last: _ } => {
-            let n = report_text::text(&buffer[..length], out);
+    match input::read_to_end(&mut reader, buffer) {
+        Ok(input) => {
+            let n = report_text::text(&buffer[..input.length], out);
             source::print(rt, &out[..n]);
         }
+        Err(error) => source::fail(rt, name, error),
     }
 }
 
@@ -49,8 +43,8 @@ pub fn start(rt: &HostRuntime) {
     let source = source::open(rt, &mut path, "usage: h5report [FILE]");
     let named = source.named;
     match source.opened {
-        Opened::Nothing => {}
-        Opened::Input => run(rt, rt.stdin(), &path[..named]),
-        Opened::File(file) => run(rt, file, &path[..named]),
+        None => {}
+        Some(Opened::Input) => run(rt, rt.stdin(), &path[..named]),
+        Some(Opened::File(file)) => run(rt, file, &path[..named]),
     }
 }

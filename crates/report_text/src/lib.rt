@@ -6,8 +6,9 @@ mod sound;
 ghost use Rattle.io.specs.Counts.{IsPrefixLen};
 
 use format::{COMMAND_BLOCKS, OBJECTS_MOST, answers};
-use refused_text::{Damage, put_refusal, put_refused};
-use sound::put_sound;
+use refused_text::{Answer, Damage, Refused};
+use sound::Sound;
+use text_line::put;
 
 // The most bytes of a sound file's first line, and of an object's line. A refused file has at most 9 lines, which are fewer bytes.
 const FIRST_MOST: usize = 50;
@@ -18,41 +19,40 @@ pub const TEXT_MOST: usize = FIRST_MOST + OBJECT_MOST * OBJECTS_MOST;
 
 const LIST_WORDS: usize = 4 * COMMAND_BLOCKS;
 
-// The place itself, or the end of the buffer if it lies behind that.
-fn within(out: &[u8], at: usize) -> usize
-    ensures { IsPrefixLen result out.now }
-{
-    if at < out.len() {
-        return at;
-    }
-    out.len()
-}
-
-fn put_report(out: &mut [u8], input: &[u8]) -> usize {
-    let limits = format::the_limits();
-    if limits.input_most < input.len() {
-        return put_refusal(out, 0, answers::LENGTH_OUT_OF_RANGE);
-    }
-    let mut list = [0u64; LIST_WORDS];
-    let reply = report::report(input, &mut list);
-    if reply.answer == answers::DONE {
-        let ledger = reply.ledger;
-        return put_sound(out, 0, reply.block_count, ledger);
-    }
-    let block = reply.block;
-    let damage = Damage {
-        block,
-        place: reply.place,
-        met: reply.met,
-        block_count: reply.block_count,
-    };
-    put_refused(out, 0, input, reply.answer, damage)
-}
-
 // Writes the report of an input, and returns how many bytes that is.
 pub fn text(input: &[u8], out: &mut [u8]) -> usize
     ensures { IsPrefixLen result out.new }
 {
-    let behind = put_report(out, input);
-    within(out, behind)
+    let limits = format::the_limits();
+    if limits.input_most < input.len() {
+        return put(
+            out,
+            Answer {
+                number: answers::LENGTH_OUT_OF_RANGE,
+            },
+        );
+    }
+    let mut list = [0u64; LIST_WORDS];
+    let reply = report::report(input, &mut list);
+    if reply.answer == answers::DONE {
+        let sound = Sound {
+            block_count: reply.block_count,
+            ledger: &reply.ledger,
+        };
+        return put(out, sound);
+    }
+    let damage = Damage {
+        block: reply.block,
+        place: reply.place,
+        met: reply.met,
+        block_count: reply.block_count,
+    };
+    put(
+        out,
+        Refused {
+            image: input,
+            answer: reply.answer,
+            damage,
+        },
+    )
 }

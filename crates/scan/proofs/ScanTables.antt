@@ -1,5 +1,5 @@
 -- The tables while the messages of a block are read: each message has eight bytes or more and adds one link at most.
-use Prim.Native.Nat.{ℕ, ◌+◌, ◌-◌, ◌≤◌, ◌<◌}
+use Prim.Native.Nat.{ℕ, ◌+◌, ◌-◌, ◌≤◌}
 use mathlib.Core.Bool.{Bool}
 use mathlib.Core.List.{List}
 use mathlib.Core.Path.{◌≡◌}
@@ -23,9 +23,6 @@ module _ (auditing : Bool) (a₀ c₀ : List ℕ) (o₀ : ℕ) where
   kept-start m₀ spare from t e = record { table = (t e).table; marked = (t e).marked; links = omega arith }
 
   module _ (a c m : List ℕ) (o from at : ℕ) (k : KeptIf auditing a₀ c₀ o₀ (at - from) a c m o) where
-    pub tables-now : (m₀ : List ℕ) (end : ℕ) → TablesIf auditing a₀ c₀ m₀ o₀ (end - from) → from ≤ at → at < end → TablesIf auditing a c m o 1
-    tables-now m₀ end t h l e = record { table = (k e).table; marked = (k e).marked; fits = omega (arith, (t e).fits, (k e).links) }
-
     pub kept_more : (size : ℕ) (a' c' m' : List ℕ) (o' : ℕ) → from ≤ at → KeptIf auditing a c o 1 a' c' m' o' →
         KeptIf auditing a₀ c₀ o₀ (at + 8 + size - from) a' c' m' o'
     kept_more size a' c' m' o' h j e = record { table = (j e).table; marked = (j e).marked; links = omega (arith, (k e).links, (j e).links) }

@@ -1,18 +1,17 @@
 -- What reading the messages of a block returns.
-use Rattle.std.specs.Prelude.{ℕ, ◌+◌, ◌-◌, ◌≤◌, ◌<◌, Bool, List, [], ◌∷◌, ◌++◌, ◌⊎◌, ◌≡◌, length}
+use Rattle.std.specs.Prelude.{ℕ, ◌+◌, ◌-◌, ◌≤◌, ◌<◌, Bool, List, [], ◌∷◌, ◌++◌, ◌⊎◌, ◌≡◌, length, Result, Ok, Err}
 use Rattle.format.specs.Bytes.{part, u16}
-use Rattle.format.specs.Result.{Result}
+use Rattle.format.specs.Result as reader
+use Rattle.format.specs.declared.Refusal.{Refusal}
 use Rattle.format.specs.Walk.{Walk, ret, refuse}
 use Rattle.format.specs.Header.{Gathered, messages, pass_over}
 use Rattle.format.specs.Message.{Message, of_type}
 use Rattle.tally.specs.Tally.{message_at, Tallied}
 use Rattle.sharing.specs.Sharing.{found_of, visit_message, KeptIf}
 use Rattle.scan.specs.declared.Gathering.{Gathering}
-use Rattle.scan.specs.declared.Scan.{Scan}
-use Rattle.scan.specs.declared.Scan.TheVariants.{Done, Stopped}
 
 -- the walk of the messages from `from` to `end`, with what was found before them, is w, with any fuel that lasts
-abbrev pub MessagesAre : {S : Type 0} → (Message → S → Result S) → List ℕ → ℕ → ℕ → S → Walk (Gathered S) → Type 0
+abbrev pub MessagesAre : {S : Type 0} → (Message → S → reader.Result S) → List ℕ → ℕ → ℕ → S → Walk (Gathered S) → Type 0
 MessagesAre visit im from end found w = (fuel : ℕ) → end - from ≤ fuel → messages visit fuel from (part im from (end - from)) found ≡ w
 
 -- the bytes from `from` to `end` of the image hold the messages ms, and no more
@@ -27,14 +26,14 @@ abbrev pub TalliedWith : List ℕ → List Message → Rattle.tally.specs.declar
 TalliedWith im ms t t' = (sofar : List Message) → Tallied im sofar t → Tallied im (sofar ++ ms) t'
 
 -- the messages of the block, the tally with them and what was found with them, or the refusal
-abbrev pub Scanned : List ℕ → ℕ → ℕ → Bool → List ℕ → List ℕ → List ℕ → Gathering → List ℕ → List ℕ → List ℕ → Scan → Type 0
-Scanned im from end auditing addresses counts marks g addresses' counts' marks' (Done g') =
+abbrev pub Scanned : List ℕ → ℕ → ℕ → Bool → List ℕ → List ℕ → List ℕ → Gathering → List ℕ → List ℕ → List ℕ → Result Gathering Refusal → Type 0
+Scanned im from end auditing addresses counts marks g addresses' counts' marks' (Ok g') =
     (ms : List Message)
     × MessagesAre (visit_message auditing) im from end (found_of addresses counts marks g.objects)
     (ret (record { all = ms; found = found_of addresses' counts' marks' g'.objects }))
     × TalliedWith im ms g.tally g'.tally
     × KeptIf auditing addresses counts g.objects (end - from) addresses' counts' marks' g'.objects
-Scanned im from end auditing addresses counts marks g addresses' counts' marks' (Stopped r) =
+Scanned im from end auditing addresses counts marks g addresses' counts' marks' (Err r) =
     MessagesAre (visit_message auditing) im from end (found_of addresses counts marks g.objects) (refuse r)
 
 -- the bytes hold messages

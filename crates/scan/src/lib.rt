@@ -6,8 +6,6 @@ ghost use Rattle.sharing.specs.Sharing.{TablesIf};
 ghost use Rattle.scan.specs.Scan.{Scanned, Readable, NextIs};
 
 use format::Refusal;
-use message::MessageRead;
-use sharing::Sharing;
 use tally::Tally;
 use walk::numbers::u16_at;
 
@@ -16,12 +14,6 @@ use walk::numbers::u16_at;
 pub struct Gathering {
     pub tally: Tally,
     pub objects: usize,
-}
-
-#[derive(Clone, Copy)]
-pub enum Scan {
-    Done(Gathering),
-    Stopped(Refusal),
 }
 
 // Reads the messages that fill the bytes from `from` to `end`, and counts them. In an audit, what a message shares is
@@ -35,7 +27,7 @@ pub fn scan_block(
     from: usize,
     end: usize,
     before: Gathering,
-) -> Scan
+) -> Result<Gathering, Refusal>
     requires from_le_end { from ≤ end }
     requires end_in_bounds { end ≤ length image.now }
     requires tables_if { TablesIf auditing addresses.old counts.old marks.old before.objects (end - from) }
@@ -43,41 +35,26 @@ pub fn scan_block(
         addresses.new counts.new marks.new result }
 {
     let mut at = from;
-    let mut sofar = before.tally;
-    let mut objects = before.objects;
+    let mut sofar = before;
     while at < end {
-        match message::message(image, at, end) {
-            MessageRead::Refused(n) => return Scan::Stopped(Refusal::Fault(n, at)),
-            MessageRead::Read {
-                kind,
-                size,
-                flags: _,
-            } => {
-                let body = at + 8;
-                let next = body + size;
-                match sharing::visit_message(
-                    &image[body..next],
-                    auditing,
-                    kind,
-                    addresses,
-                    counts,
-                    marks,
-                    objects,
-                ) {
-                    Sharing::Refused(n) => return Scan::Stopped(Refusal::Fault(n, at)),
-                    Sharing::Counted(o) => {
-                        sofar = tally::counted(sofar, kind, body);
-                        objects = o;
-                        at = next;
-                    }
-                }
-            }
-        }
+        let message = message::message(image, at, end).map_err(|n| Refusal::Fault(n, at))?;
+        let body = at + 8;
+        let next = body + message.size;
+        let kind = message.kind;
+        sofar.objects = sharing::visit_message(
+            &image[body..next],
+            auditing,
+            kind,
+            addresses,
+            counts,
+            marks,
+            sofar.objects,
+        )
+        .map_err(|n| Refusal::Fault(n, at))?;
+        sofar.tally = tally::counted(sofar.tally, kind, body);
+        at = next;
     }
-    Scan::Done(Gathering {
-        tally: sofar,
-        objects,
-    })
+    Ok(sofar)
 }
 
 // Where the next continuation message from `from` on stands, among messages that have been read already and end at `end`;

@@ -8,14 +8,14 @@ ghost use Rattle.string_ends.specs.Ends.{Marked};
 ghost use Rattle.free_list.specs.FreeBlocks.{Sized};
 ghost use Rattle.segment.specs.Segment.{SegmentIs};
 
-use free_list::{FreeList, free_list};
+use free_list::free_list;
 use nul::last_nul;
 
+// The number of a segment's free blocks, and of its bytes up to the last NUL, with it.
 #[derive(Clone, Copy)]
-pub enum SegmentRead {
-    // The number of its free blocks, and of its bytes up to the last NUL, with it.
-    Sound { free: usize, ended: usize },
-    Unsound,
+pub struct Segment {
+    pub free: usize,
+    pub ended: usize,
 }
 
 // Marks the cells of a map, if there is one.
@@ -30,19 +30,16 @@ fn mark(segment: &[u8], map: &mut [u8])
     string_ends::mark(segment, map);
 }
 
-// Follows the free list from `head` on. The map is lent for the free bytes: of no cells where there is no list, or where the segment is too long for a map.
-pub fn read(segment: &[u8], map: &mut [u8], head: u64) -> SegmentRead
+// Follows the free list from `head` on; there is nothing where it is unsound. The map is lent for the free bytes: of no cells where there is no list, or
+// where the segment is too long for a map.
+pub fn read(segment: &[u8], map: &mut [u8], head: u64) -> Option<Segment>
     requires { Sized map.old segment.now }
     ensures { SegmentIs segment.now map.new head result }
 {
-    match free_list(segment, map, head) {
-        FreeList::Unsound => SegmentRead::Unsound,
-        FreeList::Sound(free) => {
-            mark(segment, map);
-            SegmentRead::Sound {
-                free,
-                ended: last_nul(segment),
-            }
-        }
-    }
+    let free = free_list(segment, map, head)?;
+    mark(segment, map);
+    Some(Segment {
+        free,
+        ended: last_nul(segment),
+    })
 }

@@ -7,35 +7,30 @@ use native.Mathlib.Omega.{arith}
 use borrow.Author.Tests.{eq-eqb, ne_eqb}
 use lib.Dec.{eqb}
 use lib.ListN.{length, get_or, set, length-set}
+use Rattle.std.specs.Prelude.{Result, Ok, Err, Option, Some, None}
 use Rattle.format.specs.Result.{value}
 use Rattle.format.specs.Attribute.{read_attribute}
 use Rattle.format.specs.Sharing.{place_of, share, share_each, discover_sharing, not_committed}
 use Rattle.laws.proofs.Results.{passes, fails, gives, answers, bind-value}
 use Rattle.walk.proofs.Tests.{takes-then, takes-else}
 use Rattle.attribute.specs.Attribute.{attribute_result}
-use Rattle.attribute.specs.declared.AttributeRead.{AttributeRead}
-use Rattle.attribute.specs.declared.AttributeRead.TheVariants as attribute
 use Rattle.datatype.specs.declared.Datatype.TheVariants as datatypes
 use Rattle.ledger.specs.Table.{linked_of, Discovered}
 use Rattle.ledger.specs.Index as index
-use Rattle.ledger.specs.declared.table.Discovery.{Discovery}
-use Rattle.ledger.specs.declared.table.Discovery.TheVariants as table
 use Rattle.ledger.proofs.TableLaws.{discovered-sum}
 use Rattle.ledger.proofs.PlaceLaws.{discovered-place, discovered-inside}
 use Rattle.sharing.specs.Sharing.{found_of, visit_message, Tables, TablesIf, Shared, MessageVisited, TypeShared, KindKnown}
-use Rattle.sharing.specs.declared.Sharing.{Sharing}
-use Rattle.sharing.specs.declared.Sharing.TheVariants.{Counted, Refused}
 
 -- A sharing of the address a, for which a search ended at the place r.
-module _ (xs ts ms : List ℕ) (n a r : ℕ) (t : Tables xs ts ms n 1) (f : index.Found xs n a r) (xs' ts' : List ℕ) {x : Discovery} where
-  pub share-full : x ≡ table.Full → Discovered xs ts n a xs' ts' x → Shared xs ts ms n a xs' ts' ms (Refused 12)
+module _ (xs ts ms : List ℕ) (n a r : ℕ) (t : Tables xs ts ms n 1) (f : index.Found xs n a r) (xs' ts' : List ℕ) {x : Option ℕ} where
+  pub share-full : x ≡ None → Discovered xs ts n a xs' ts' x → Shared xs ts ms n a xs' ts' ms (Err 12)
   unfolding share
   share-full e d =
-      let g : Discovered xs ts n a xs' ts' table.Full = rw e at d in
+      let g : Discovered xs ts n a xs' ts' None = rw e at d in
       record { walk = answers _ g.walk; kept = tt; addresses_same = g.addresses_same; counts_same = g.counts_same; marks_same = refl }
 
-  module _ (m : ℕ) (e : x ≡ table.Counted m) (d : Discovered xs ts n a xs' ts' x) where
-    counted : Discovered xs ts n a xs' ts' (table.Counted m)
+  module _ (m : ℕ) (e : x ≡ Some m) (d : Discovered xs ts n a xs' ts' x) where
+    counted : Discovered xs ts n a xs' ts' (Some m)
     counted = rw e at d
 
     place : place_of a (linked_of m xs' ts') ≡ r
@@ -49,7 +44,7 @@ module _ (xs ts ms : List ℕ) (n a r : ℕ) (t : Tables xs ts ms n 1) (f : inde
     mark-is : {v : Bool} → not (eqb (get_or ms r 0) 2) ≡ v → not (eqb (get_or ms (place_of a (linked_of m xs' ts')) 0) 2) ≡ v
     mark-is h = rw place h
 
-    pub share_other : get_or ms r 0 ≡ 2 → Shared xs ts ms n a xs' ts' ms (Refused 10)
+    pub share_other : get_or ms r 0 ≡ 2 → Shared xs ts ms n a xs' ts' ms (Err 10)
     unfolding share
     share_other h = record {
       walk = gives _ counted.walk (fails _ _ (mark-is (ap not (eq-eqb (get_or ms r 0) 2 h))));
@@ -59,7 +54,7 @@ module _ (xs ts ms : List ℕ) (n a r : ℕ) (t : Tables xs ts ms n 1) (f : inde
       marks_same = refl;
     }
 
-    pub share-counted : (get_or ms r 0 ≡ 2 → ⊥) → Shared xs ts ms n a xs' ts' (set ms r 1) (Counted m)
+    pub share-counted : (get_or ms r 0 ≡ 2 → ⊥) → Shared xs ts ms n a xs' ts' (set ms r 1) (Ok m)
     unfolding share
     share-counted h = record {
       walk = gives _ counted.walk (passes _ _ (mark-is (ap not (ne_eqb (get_or ms r 0) 2 h))) (rw place));
@@ -78,7 +73,7 @@ module _ (kind : ℕ) (body xs ts ms : List ℕ) (n : ℕ) where
   unchanged : (auditing : Bool) → TablesIf auditing xs ts ms n 1 →
       ((flags place : ℕ) →
       value (found_of xs ts ms n) ≡ visit_message auditing (record { type = kind; flags = flags; body = body; place = place }) (found_of xs ts ms n)) →
-      MessageVisited auditing kind body xs ts ms n xs ts ms (Counted n)
+      MessageVisited auditing kind body xs ts ms n xs ts ms (Ok n)
   unchanged auditing t w = record {
     walk = w;
     kept = λ e. record { table = (t e).table; marked = (t e).marked; links = omega arith };
@@ -88,22 +83,22 @@ module _ (kind : ℕ) (body xs ts ms : List ℕ) (n : ℕ) where
   }
 
   pub lookup-message : (auditing : Bool) → TablesIf auditing xs ts ms n 1 → auditing ≡ false →
-      MessageVisited auditing kind body xs ts ms n xs ts ms (Counted n)
+      MessageVisited auditing kind body xs ts ms n xs ts ms (Ok n)
   unfolding visit_message
   lookup-message auditing t e = unchanged auditing t (λ flags place. rw e)
 
   module _ (auditing : Bool) (t : TablesIf auditing xs ts ms n 1) (e : auditing ≡ true) where
-    pub other-message : (kind ≡ 12 → ⊥) → MessageVisited auditing kind body xs ts ms n xs ts ms (Counted n)
+    pub other-message : (kind ≡ 12 → ⊥) → MessageVisited auditing kind body xs ts ms n xs ts ms (Ok n)
     unfolding visit_message discover_sharing
     other-message h = unchanged auditing t (λ flags place. rw e (takes-else _ _ (ne_eqb kind 12 h) refl))
 
     -- an attribute, by what was read of it
-    module _ (h : kind ≡ 12) {x : AttributeRead} (f : attribute_result x ≡ read_attribute body) where
-      pub own-type : x ≡ attribute.Own → MessageVisited auditing kind body xs ts ms n xs ts ms (Counted n)
+    module _ (h : kind ≡ 12) {x : Result (Option ℕ) ℕ} (f : attribute_result x ≡ read_attribute body) where
+      pub own-type : x ≡ Ok None → MessageVisited auditing kind body xs ts ms n xs ts ms (Ok n)
       unfolding visit_message discover_sharing share_each
       own-type g = unchanged auditing t (λ flags place. rw e (takes-then _ _ (eq-eqb kind 12 h) (gives _ (rw g at f) refl)))
 
-      pub bad-attribute : (number : ℕ) → x ≡ attribute.Refused number → MessageVisited auditing kind body xs ts ms n xs ts ms (Refused number)
+      pub bad-attribute : (number : ℕ) → x ≡ Err number → MessageVisited auditing kind body xs ts ms n xs ts ms (Err number)
       unfolding visit_message discover_sharing
       bad-attribute number g = rw e record {
         walk = λ flags place. takes-then _ _ (eq-eqb kind 12 h) (answers _ (rw g at f));
@@ -113,7 +108,7 @@ module _ (kind : ℕ) (body xs ts ms : List ℕ) (n : ℕ) where
         marks_same = refl;
       }
 
-      pub shared-type : (address : ℕ) → x ≡ attribute.Shares address → (xs' ts' ms' : List ℕ) (r : Sharing) → Shared xs ts ms n address xs' ts' ms' r →
+      pub shared-type : (address : ℕ) → x ≡ Ok (Some address) → (xs' ts' ms' : List ℕ) (r : Result ℕ ℕ) → Shared xs ts ms n address xs' ts' ms' r →
           MessageVisited auditing kind body xs ts ms n xs' ts' ms' r
       unfolding visit_message discover_sharing share_each
       shared-type address g xs' ts' ms' r s = rw e record {
@@ -126,12 +121,12 @@ module _ (kind : ℕ) (body xs ts ms : List ℕ) (n : ℕ) where
 
 -- A dataset's datatype, by what it shares.
 module _ (xs ts ms : List ℕ) (n : ℕ) where
-  pub type-shared : (address : ℕ) (xs' ts' ms' : List ℕ) (r : Sharing) → Shared xs ts ms n address xs' ts' ms' r →
+  pub type-shared : (address : ℕ) (xs' ts' ms' : List ℕ) (r : Result ℕ ℕ) → Shared xs ts ms n address xs' ts' ms' r →
       TypeShared xs ts ms n (datatypes.Shared address) xs' ts' ms' r
   unfolding share_each
   type-shared address xs' ts' ms' r s = record { walk = s.walk ∙ sym (bind-value (share address (found_of xs ts ms n))); kept = s.kept }
 
-  pub type-own : (class version bits size : ℕ) → Tables xs ts ms n 1 → TypeShared xs ts ms n (datatypes.Own class version bits size) xs ts ms (Counted n)
+  pub type-own : (class version bits size : ℕ) → Tables xs ts ms n 1 → TypeShared xs ts ms n (datatypes.Own class version bits size) xs ts ms (Ok n)
   unfolding share_each
   type-own class version bits size t = record { walk = refl; kept = record { table = t.table; marked = t.marked; links = omega arith } }
 

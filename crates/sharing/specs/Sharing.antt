@@ -1,7 +1,8 @@
 -- What the audit has found, in three lists of numbers, and what the functions over it return and leave.
-use Rattle.std.specs.Prelude.{ℕ, ◌+◌, ◌^◌, ◌≤◌, ◌<◌, Bool, true, false, List, ◌≡◌, length}
+use Rattle.std.specs.Prelude.{ℕ, ◌+◌, ◌^◌, ◌≤◌, ◌<◌, Bool, true, false, List, ◌≡◌, length, Result, Ok, Err}
 use Rattle.format.specs.Limits.{objects_most}
-use Rattle.format.specs.Result.{Result, value, answer}
+use Rattle.format.specs.Result as reader
+use Rattle.format.specs.Result.{value, answer}
 use Rattle.format.specs.Message.{Message}
 use Rattle.format.specs.Ledger.{Linked}
 use Rattle.format.specs.Sharing.{Found, share, share_each, discover_sharing, shared_by, not_committed}
@@ -9,22 +10,20 @@ use Rattle.datatype.specs.Datatype.{type_of}
 use Rattle.datatype.specs.declared.Datatype.{Datatype}
 use Rattle.ledger.specs.Links.{link_sum}
 use Rattle.ledger.specs.Table.{linked_of, Table}
-use Rattle.sharing.specs.declared.Sharing.{Sharing}
-use Rattle.sharing.specs.declared.Sharing.TheVariants.{Counted, Refused}
 
 -- the objects of the table, and what is known of each
 abbrev pub found_of : (addresses counts marks : List ℕ) (objects : ℕ) → Found
 found_of addresses counts marks objects = record { objects = linked_of objects addresses counts; marks = marks }
 
 -- the audit discovers what a message shares; a lookup does nothing
-unfoldable pub visit_message : Bool → Message → Found → Result Found
+unfoldable pub visit_message : Bool → Message → Found → reader.Result Found
 visit_message true m f = discover_sharing m f
 visit_message false m f = value f
 
 -- what is found after a sharing, or the answer to it
-abbrev pub sharing_result : (addresses counts marks : List ℕ) → Sharing → Result Found
-sharing_result addresses counts marks (Counted objects) = value (found_of addresses counts marks objects)
-sharing_result addresses counts marks (Refused n) = answer n
+abbrev pub sharing_result : (addresses counts marks : List ℕ) → Result ℕ ℕ → reader.Result Found
+sharing_result addresses counts marks (Ok objects) = value (found_of addresses counts marks objects)
+sharing_result addresses counts marks (Err n) = answer n
 
 -- a table with a mark for every object, and room for so many links more
 pub record Tables (addresses counts marks : List ℕ) (objects spare : ℕ) : Type 0 where
@@ -47,12 +46,12 @@ KeptIf auditing addresses counts objects n addresses' counts' marks' objects' = 
     Kept addresses counts objects n addresses' counts' marks' objects'
 
 -- so after a sharing that wasn't refused
-abbrev pub KeptThen : (addresses counts : List ℕ) (objects n : ℕ) (addresses' counts' marks' : List ℕ) → Sharing → Type 0
-KeptThen addresses counts objects n addresses' counts' marks' (Counted objects') = Kept addresses counts objects n addresses' counts' marks' objects'
-KeptThen addresses counts objects n addresses' counts' marks' (Refused number) = Unit {0}
+abbrev pub KeptThen : (addresses counts : List ℕ) (objects n : ℕ) (addresses' counts' marks' : List ℕ) → Result ℕ ℕ → Type 0
+KeptThen addresses counts objects n addresses' counts' marks' (Ok objects') = Kept addresses counts objects n addresses' counts' marks' objects'
+KeptThen addresses counts objects n addresses' counts' marks' (Err number) = Unit {0}
 
 -- a sharing of the address was counted and marked as the definition does it
-pub record Shared (addresses counts marks : List ℕ) (objects address : ℕ) (addresses' counts' marks' : List ℕ) (r : Sharing) : Type 0 where
+pub record Shared (addresses counts marks : List ℕ) (objects address : ℕ) (addresses' counts' marks' : List ℕ) (r : Result ℕ ℕ) : Type 0 where
   pub walk : sharing_result addresses' counts' marks' r ≡ share address (found_of addresses counts marks objects)
   pub kept : KeptThen addresses counts objects 1 addresses' counts' marks' r
   pub addresses_same : length addresses' ≡ length addresses
@@ -61,7 +60,7 @@ pub record Shared (addresses counts marks : List ℕ) (objects address : ℕ) (a
 
 -- a message of a type was visited; its flags and its place say nothing
 pub record MessageVisited (auditing : Bool) (kind : ℕ) (body addresses counts marks : List ℕ) (objects : ℕ)
-    (addresses' counts' marks' : List ℕ) (r : Sharing) : Type 0 where
+    (addresses' counts' marks' : List ℕ) (r : Result ℕ ℕ) : Type 0 where
   pub walk : (flags place : ℕ) →
       sharing_result addresses' counts' marks' r
       ≡ visit_message auditing (record { type = kind; flags = flags; body = body; place = place }) (found_of addresses counts marks objects)
@@ -71,12 +70,12 @@ pub record MessageVisited (auditing : Bool) (kind : ℕ) (body addresses counts 
   pub marks_same : length marks' ≡ length marks
 
 -- what a dataset's datatype shares was counted
-pub record TypeShared (addresses counts marks : List ℕ) (objects : ℕ) (t : Datatype) (addresses' counts' marks' : List ℕ) (r : Sharing) : Type 0 where
+pub record TypeShared (addresses counts marks : List ℕ) (objects : ℕ) (t : Datatype) (addresses' counts' marks' : List ℕ) (r : Result ℕ ℕ) : Type 0 where
   pub walk : sharing_result addresses' counts' marks' r ≡ share_each (shared_by (type_of t)) (found_of addresses counts marks objects)
   pub kept : KeptThen addresses counts objects 1 addresses' counts' marks' r
 
 -- what is found once a kind is known, or that the object was shared
-abbrev pub kind_result : List Linked → List ℕ → Bool → Result Found
+abbrev pub kind_result : List Linked → List ℕ → Bool → reader.Result Found
 kind_result os marks true = value (record { objects = os; marks = marks })
 kind_result os marks false = answer 10
 

@@ -5,10 +5,8 @@
 ghost use Rattle.std.specs.Prelude.{◌<◌, length};
 ghost use Rattle.sharing.specs.Sharing.{Tables, TablesIf, Shared, MessageVisited, TypeShared, KindKnown};
 
-use attribute::AttributeRead;
 use datatype::Datatype;
 use format::answers;
-use ledger::table::Discovery;
 use ledger::{search, table};
 
 // A sharing gave the object's address.
@@ -17,38 +15,29 @@ pub const SHARED: u8 = 1;
 // The object's kind is known, and it isn't a committed datatype.
 pub const OTHER_KIND: u8 = 2;
 
-// The number of objects after the sharing, or the answer to it.
-#[derive(Clone, Copy)]
-pub enum Sharing {
-    Counted(usize),
-    Refused(u8),
-}
-
-// Counts a sharing of the address and marks the object; 12 for an object too many, 10 for one of another kind.
+// Counts a sharing of the address and marks the object: the number of objects then, or 12 for an object too many, 10 for one of another kind.
 pub fn share(
     addresses: &mut [u64],
     counts: &mut [u32],
     marks: &mut [u8],
     objects: usize,
     address: u64,
-) -> Sharing
+) -> Result<usize, u8>
     requires { Tables addresses.old counts.old marks.old objects 1 }
     ensures { Shared addresses.old counts.old marks.old objects address
         addresses.new counts.new marks.new result }
 {
     let found = search::find(addresses, objects, address);
     let place = found.place;
-    match table::count_at(addresses, counts, objects, address, found) {
-        Discovery::Full => Sharing::Refused(answers::TOO_MANY_OBJECTS),
-        Discovery::Counted(n) => {
-            let other = marks[place] == OTHER_KIND;
-            if other {
-                return Sharing::Refused(answers::HEADER_UNSOUND);
-            }
-            marks[place] = SHARED;
-            Sharing::Counted(n)
-        }
+    let count = table::count_at(addresses, counts, objects, address, found).ok_or(
+        answers::TOO_MANY_OBJECTS,
+    )?;
+    let other = marks[place] == OTHER_KIND;
+    if other {
+        return Err(answers::HEADER_UNSOUND);
     }
+    marks[place] = SHARED;
+    Ok(count)
 }
 
 // What is done at a message of the type `kind`: the audit counts an attribute's sharing, a lookup does nothing.
@@ -60,22 +49,21 @@ pub fn visit_message(
     counts: &mut [u32],
     marks: &mut [u8],
     objects: usize,
-) -> Sharing
+) -> Result<usize, u8>
     requires { TablesIf auditing addresses.old counts.old marks.old objects 1 }
     ensures { MessageVisited auditing kind body.now addresses.old counts.old marks.old objects
         addresses.new counts.new marks.new result }
 {
     if !auditing {
-        return Sharing::Counted(objects);
+        return Ok(objects);
     }
     let passed_by = kind != 0x000c;
     if passed_by {
-        return Sharing::Counted(objects);
+        return Ok(objects);
     }
-    match attribute::read(body) {
-        AttributeRead::Own => Sharing::Counted(objects),
-        AttributeRead::Refused(n) => Sharing::Refused(n),
-        AttributeRead::Shares(address) => share(addresses, counts, marks, objects, address),
+    match attribute::read(body)? {
+        Some(address) => share(addresses, counts, marks, objects, address),
+        None => Ok(objects),
     }
 }
 
@@ -86,19 +74,14 @@ pub fn share_type(
     marks: &mut [u8],
     objects: usize,
     datatype: Datatype,
-) -> Sharing
+) -> Result<usize, u8>
     requires { Tables addresses.old counts.old marks.old objects 1 }
     ensures { TypeShared addresses.old counts.old marks.old objects datatype
         addresses.new counts.new marks.new result }
 {
     match datatype {
         Datatype::Shared(address) => share(addresses, counts, marks, objects, address),
-        Datatype::Own {
-            class: _,
-            version: _,
-            bits: _,
-            size: _,
-        } => Sharing::Counted(objects),
+        Datatype::Own { .. } => Ok(objects),
     }
 }
 

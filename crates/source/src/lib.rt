@@ -8,20 +8,17 @@ use std::fs::File;
 use std::io::{Error, ErrorKind, Read, Write};
 use std::str;
 
-pub mod kept;
-
 // What is to be read.
 #[derive(Drop)]
 pub enum Opened {
-    Nothing,
     Input,
     File(File),
 }
 
-// What is to be read, and how many bytes its name has. Standard input has no name.
+// What is to be read, if it could be opened, and how many bytes its name has. Standard input has no name.
 #[derive(Drop)]
 pub struct Source {
-    pub opened: Opened,
+    pub opened: Option<Opened>,
     pub named: usize,
 }
 
@@ -32,16 +29,16 @@ pub fn say(rt: &HostRuntime, name: &[u8], error: Error) {
 }
 
 // Opens the file of this name. Where there is none, standard error says why.
-fn open_file(rt: &HostRuntime, name: &[u8]) -> Opened {
+fn open_file(rt: &HostRuntime, name: &[u8]) -> Option<Opened> {
     let opened = match str::from_utf8(name) {
         Ok(text) => File::open(rt, text),
         Err(_) => Err(Error::from(ErrorKind::InvalidInput)),
     };
     match opened {
-        Ok(file) => Opened::File(file),
+        Ok(file) => Some(Opened::File(file)),
         Err(error) => {
             say(rt, name, error);
-            Opened::Nothing
+            None
         }
     }
 }
@@ -54,7 +51,7 @@ fn open_named(rt: &HostRuntime, path: &mut [u8]) -> Source
         Err(_) => {
             say(rt, b"the argument", Error::from(ErrorKind::InvalidInput));
             Source {
-                opened: Opened::Nothing,
+                opened: None,
                 named: 0,
             }
         }
@@ -80,14 +77,14 @@ pub fn open(rt: &HostRuntime, path: &mut [u8], usage: &str) -> Source
 {
     if !is_given(rt, 1) {
         return Source {
-            opened: Opened::Input,
+            opened: Some(Opened::Input),
             named: 0,
         };
     }
     if is_given(rt, 2) {
         eprintln!(rt; "{usage}").unwrap_or(());
         return Source {
-            opened: Opened::Nothing,
+            opened: None,
             named: 0,
         };
     }
@@ -105,8 +102,7 @@ pub fn fail(rt: &HostRuntime, name: &[u8], error: Error) {
 
 // Writes a text to standard output. Where that can't be written, standard error says why.
 pub fn print(rt: &HostRuntime, text: &[u8]) {
-    match rt.stdout().write_all(text) {
-        Ok(()) => {}
-        Err(error) => say(rt, b"standard output", error),
+    if let Err(error) = rt.stdout().write_all(text) {
+        say(rt, b"standard output", error);
     }
 }

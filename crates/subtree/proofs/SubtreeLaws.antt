@@ -37,12 +37,15 @@ subtree-split : (g : Rattle.format.specs.Entry.Group Both) (level at : ℕ) (bou
 unfolding subtree branches branch_walk
 subtree-split g level at bounds s = sym (simp (bind_assoc, ret-bind))
 
+-- the keys on both sides of a child, the first of which stands at `at`
+abbrev pub keys_at : List ℕ → List ℕ → ℕ → Bound
+keys_at im seg at = record { low = string_at seg (u64 im at); high = string_at seg (u64 im (at + 16)) }
+
 -- the first of n + 1 children, then the others; the keys and addresses stand from `from` on
 children-next : (h : Heap) (walk : ℕ → List Bound → GroupState Both → Walk (GroupState Both)) (n : ℕ) (im : List ℕ) (from m : ℕ) (bounds : List Bound)
     (s : GroupState Both) → 24 ≤ m →
     children h walk (suc n) (part im from m) bounds s ≡
-    walk (u64 im (from + 8)) (record { low = string_at h.segment (u64 im from); high = string_at h.segment (u64 im (from + 16)) } ∷ bounds) s >>= λ t.
-    children h walk n (part im (from + 16) (m - 16)) bounds t
+    walk (u64 im (from + 8)) (keys_at im h.segment from ∷ bounds) s >>= λ t. children h walk n (part im (from + 16) (m - 16)) bounds t
 unfolding children
 children-next h walk n im from m bounds s l =
     rw (part-first-number im from m 8 (omega arith), part-number im from m 8 8 (omega arith), part-number im from m 16 8 (omega arith), drop-part im from m 16)
@@ -58,11 +61,7 @@ module _ (g : Rattle.format.specs.Entry.Group Both) (level : ℕ) (im : List ℕ
 
   pub children-turn : (i : ℕ) (s : GroupState Both) → i < n → 16 * n + 8 ≤ m →
       children_from g level im from m n i bounds s ≡
-      subtree g level (u64 im (from + 16 * i + 8)) (record {
-        low = string_at g.heap.segment (u64 im (from + 16 * i));
-        high = string_at g.heap.segment
-            (u64 im (from + 16 * i + 16));
-      } ∷ bounds) s
+      subtree g level (u64 im (from + 16 * i + 8)) (keys_at im g.heap.segment (from + 16 * i) ∷ bounds) s
       >>= λ t. children_from g level im from m n (i + 1) bounds t
   children-turn i s h l =
       let a : n - i ≡ suc (n - (i + 1)) = omega arith in
@@ -74,11 +73,7 @@ module _ (g : Rattle.format.specs.Entry.Group Both) (level : ℕ) (im : List ℕ
   pub children-here : {eof room : ℕ} {w : Walk (GroupState Both)} {n₀ n₁ : ℕ} {ws₀ ws₁ : List ℕ} (i : ℕ) (s : GroupState Both) → i < n → 16 * n + 8 ≤ m →
       (child : ℕ) → child ≡ u64 im (from + 16 * i + 8) →
       Simulation im eof room w n₀ ws₀ (children_from g level im from m n i bounds s) n₁ ws₁ →
-      Simulation im eof room w n₀ ws₀ (subtree g level child (record {
-        low = string_at g.heap.segment (u64 im (from + 16 * i));
-        high = string_at g.heap.segment
-            (u64 im (from + 16 * i + 16));
-      } ∷ bounds) s
+      Simulation im eof room w n₀ ws₀ (subtree g level child (keys_at im g.heap.segment (from + 16 * i) ∷ bounds) s
       >>= λ t. children_from g level im from m n (i + 1) bounds t) n₁ ws₁
   children-here i s h l child e u = rw e (same-walk _ (children-turn i s h l) u)
 

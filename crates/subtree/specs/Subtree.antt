@@ -1,5 +1,5 @@
 -- What reading a subtree returns.
-use Rattle.std.specs.Prelude.{ℕ, ◌+◌, List, ◌∷◌}
+use Rattle.std.specs.Prelude.{ℕ, ◌+◌, List, ◌∷◌, Result}
 use Rattle.format.specs.Bytes.{u64}
 use Rattle.format.specs.Walk.{run}
 use Rattle.format.specs.Names.{Bound, string_at}
@@ -10,7 +10,7 @@ use Rattle.range.specs.declared.Range.{Range}
 use Rattle.symbol.specs.Entry.{group_of, state_of}
 use Rattle.symbol.specs.declared.entry.Group.{Group}
 use Rattle.symbol.specs.declared.entry.State.{State}
-use Rattle.symbol.specs.declared.entry.Step.{Step}
+use Rattle.format.specs.declared.Refusal.{Refusal}
 use Rattle.symbol_node.specs.Tree.{step_end, SoundIf}
 
 -- the range of a child between two keys
@@ -21,7 +21,7 @@ pub record ChildRange (im seg : List ℕ) (range : Range) (at : ℕ) (r : Range)
 
 -- a subtree was read as its walk reads it
 pub record SubtreeIs (im seg wanted ws addresses counts : List ℕ) (g : Group) (r : Range) (height at : ℕ) (s : State) (ws' addresses' counts' : List ℕ)
-    (x : Step) : Type 0 where
+    (x : Result State Refusal) : Type 0 where
   pub walked : (bounds : List Bound) → Tight seg r bounds →
       Walked ws ws' (step_end seg addresses' counts' x) (run im g.end_of_file g.room
       (subtree (group_of seg wanted g) height at bounds (state_of seg addresses counts s)) (blocks_of s.count ws))

@@ -7,10 +7,10 @@ ghost use Rattle.key.specs.Key.{KeyAt};
 ghost use Rattle.symbol_node.specs.Tree.{Descending};
 ghost use Rattle.subtree.specs.Subtree.{ChildRange, SubtreeIs};
 
+use format::Refusal;
 use key::key_at;
-use node::BranchRead;
 use range::Range;
-use symbol::entry::{Group, State, Step};
+use symbol::entry::{Group, State};
 use symbol_node;
 use walk::numbers::u64_at;
 
@@ -40,7 +40,7 @@ pub fn subtree(
     height: u64,
     at: u64,
     state: State,
-) -> Step
+) -> Result<State, Refusal>
     requires { Descending image.now segment.now map.now list.old addresses.old counts.old group range state }
     ensures { SubtreeIs image.now segment.now wanted.now list.old addresses.old
         counts.old group range height at state list.new addresses.new counts.new result }
@@ -50,46 +50,30 @@ pub fn subtree(
             image, segment, map, wanted, list, addresses, counts, group, range, at, state,
         );
     }
-    match node::read_branch(image, segment, list, group, state.count, height - 1, at) {
-        BranchRead::Stopped(x) => Step::Stopped(x),
-        BranchRead::Read { entries, count } => {
-            let objects = state.objects;
-            let last = state.last;
-            let link = state.link;
-            let mut s = State {
-                count,
-                objects,
-                last,
-                link,
-            };
-            let from = at as usize + 24;
-            let mut i: usize = 0;
-            while i < entries {
-                let here = from + 16 * i;
-                let inner = child_range(image, segment, range, here);
-                let child = u64_at(image, here + 8);
-                match subtree(
-                    image,
-                    segment,
-                    map,
-                    wanted,
-                    list,
-                    addresses,
-                    counts,
-                    group,
-                    inner,
-                    height - 1,
-                    child,
-                    s,
-                ) {
-                    Step::Stopped(x) => return Step::Stopped(x),
-                    Step::Done(next) => {
-                        s = next;
-                        i += 1;
-                    }
-                }
-            }
-            Step::Done(s)
-        }
+    let node = node::read_branch(image, segment, list, group, state.count, height - 1, at)?;
+    let from = at as usize + 24;
+    let mut s = State {
+        count: node.count,
+        ..state
+    };
+    for i in 0..node.entries {
+        let here = from + 16 * i;
+        let inner = child_range(image, segment, range, here);
+        let child = u64_at(image, here + 8);
+        s = subtree(
+            image,
+            segment,
+            map,
+            wanted,
+            list,
+            addresses,
+            counts,
+            group,
+            inner,
+            height - 1,
+            child,
+            s,
+        )?;
     }
+    Ok(s)
 }

@@ -8,8 +8,7 @@ ghost use Rattle.format.specs.Walk.{run};
 ghost use Rattle.walk.specs.Lent.{Lent, Walked, entry_end};
 ghost use Rattle.superblock.specs.Superblock.{Shifted, superblock_of, opening_of, FieldsBounded};
 
-use format::answers;
-use walk::blocks::Entry;
+use format::{Refusal, answers};
 use walk::numbers::{UNDEFINED_ADDRESS, u16_at, u32_at, u64_at};
 use walk::{blocks, kinds};
 
@@ -23,12 +22,6 @@ pub struct Superblock {
     pub internal_k: u64,
     pub end_of_file: u64,
     pub root: u64,
-}
-
-#[derive(Clone, Copy)]
-pub enum Opening {
-    Opened(Superblock),
-    NotOpened(u8),
 }
 
 // How far the fields behind byte 23 are moved: by 4 in version 1.
@@ -128,33 +121,37 @@ fn superblock_fields(image: &[u8], shift: usize) -> Superblock
 }
 
 // Reads the superblock: 1, 2, 3 and 4 in this order, or its fields.
-pub fn open(image: &[u8]) -> Opening
+pub fn open(image: &[u8]) -> Result<Superblock, u8>
     ensures result_value { opening_of result ≡ open_image image.now }
     ensures fields_bounded { FieldsBounded image.now result }
 {
     let limits = format::the_limits();
     if image.len() < limits.image_least {
-        return Opening::NotOpened(answers::LENGTH_OUT_OF_RANGE);
+        return Err(answers::LENGTH_OUT_OF_RANGE);
     }
     if limits.image_most < image.len() {
-        return Opening::NotOpened(answers::LENGTH_OUT_OF_RANGE);
+        return Err(answers::LENGTH_OUT_OF_RANGE);
     }
     if u64_at(image, 0) != SIGNATURE {
-        return Opening::NotOpened(answers::NO_SIGNATURE);
+        return Err(answers::NO_SIGNATURE);
     }
     let shift = version_shift(image);
     if !superblock_read(image, shift) {
-        return Opening::NotOpened(answers::NOT_READ);
+        return Err(answers::NOT_READ);
     }
     if !superblock_sound(image, shift) {
-        return Opening::NotOpened(answers::SUPERBLOCK_UNSOUND);
+        return Err(answers::SUPERBLOCK_UNSOUND);
     }
-    Opening::Opened(superblock_fields(image, shift))
+    Ok(superblock_fields(image, shift))
 }
 
 // Enters the superblock as the first block of a list. No byte of the image is read for it, so that the run is the same on
 // every image.
-pub fn enter_superblock(superblock: Superblock, blocks: &mut [u64], room: usize) -> Entry
+pub fn enter_superblock(
+    superblock: Superblock,
+    blocks: &mut [u64],
+    room: usize,
+) -> Result<usize, Refusal>
     requires { Lent blocks.old 0 room }
     ensures { (im : List ℕ) → Walked blocks.old blocks.new (entry_end result)
         (run im superblock.end_of_file room (superblock_walk (superblock_of superblock)) []) }

@@ -1,5 +1,5 @@
 -- Laws of the entries of a symbol table node, by the tests in their order.
-use Prim.Native.Nat.{ℕ, suc, ◌+◌, ◌*◌, ◌-◌, ◌^◌, ◌≤◌, ◌<◌}
+use Prim.Native.Nat.{ℕ, suc, ◌+◌, ◌*◌, ◌-◌, ◌≤◌, ◌<◌}
 use mathlib.Core.Bool.{Bool, true, false, ◌&&◌}
 use mathlib.Core.List.{List, [], ◌∷◌}
 use mathlib.Core.Path.{◌≡◌, refl, ap, sym, ◌∙◌}
@@ -8,10 +8,10 @@ use borrow.Author.Tests.{leb-true}
 use lib.Dec.{leb}
 use lib.ListN.{length, drop}
 use Rattle.format.specs.Limits.{name_most}
-use Rattle.std.specs.Prelude.{if◌then◌else◌}
+use Rattle.std.specs.Prelude.{if◌then◌else◌, Option, Some, None, Result, Ok, Err}
 use Rattle.format.specs.Bytes.{all_hold, part, little_endian, u32, u64}
 use Rattle.format.specs.declared.Refusal.{Refusal}
-use Rattle.format.specs.Result.{Result, value, answer, check, ◌>>◌}
+use Rattle.format.specs.Result.{Result as Read, value, answer, check, ◌>>◌}
 use Rattle.format.specs.Walk.{fault as fault_at, located, ◌>>=◌}
 use Rattle.format.specs.Blocks.{Block, overlaps_any}
 use Rattle.format.specs.Heap.{Heap}
@@ -22,9 +22,7 @@ use Rattle.format.specs.Symbols.{entries}
 use Rattle.free_list.specs.FreeBlocks.{chain}
 use Rattle.heap.specs.Segment.{heap_with, chained_heap}
 use Rattle.names.specs.Texts.{fault_of, TextRead, CheckedAs}
-use Rattle.names.specs.declared.Checked.{Checked}
 use Rattle.names.specs.declared.NameFault.{NameFault}
-use Rattle.names.specs.declared.Text.TheVariants as texts
 use Rattle.ledger.specs.Links.{link_sum}
 use Rattle.ledger.specs.Table.{linked_of}
 use Rattle.laws.proofs.Bind.{ret-bind, refuse-bind}
@@ -35,18 +33,12 @@ use Rattle.range.specs.Range.{name_in, range_holds, Tight}
 use Rattle.range.proofs.FirstBytes.{name_at, string-inside}
 use Rattle.range.proofs.RangeLaws.{floor-next, second-fails}
 use Rattle.visit.specs.Visit.{Both, visit_both, Visited}
-use Rattle.symbol.specs.Entry.{group_of, state_of, ValueIs, Ready, NameSound, Kept, EntryIs, EntriesAre}
+use Rattle.symbol.specs.Entry.{group_of, state_of, ValueIs, NameSound, Kept, EntryIs, EntriesAre}
 use Rattle.range.specs.declared.Name.{Name}
 use Rattle.range.specs.declared.Range.{Range}
 use Rattle.visit.specs.declared.Link.{Link}
-use Rattle.visit.specs.declared.Visit.{Visit}
-use Rattle.visit.specs.declared.Visit.TheVariants as visits
 use Rattle.symbol.specs.declared.entry.Group.{Group}
 use Rattle.symbol.specs.declared.entry.State.{State}
-use Rattle.symbol.specs.declared.entry.Step.{Step}
-use Rattle.symbol.specs.declared.entry.Step.TheVariants.{Done, Stopped}
-use Rattle.symbol.specs.declared.entry.Value.{Value}
-use Rattle.symbol.specs.declared.entry.Value.TheVariants.{Sound, Unsound}
 
 -- a field of the entry, read from the image
 field : (im : List ℕ) (at m b n : ℕ) → 40 ≤ m → b + n ≤ 40 → little_endian (part (part im at m) b n) ≡ little_endian (part im (at + b) n)
@@ -57,43 +49,22 @@ first_field im at m l = let e : at + 0 ≡ at = omega arith in field im at m 0 8
 
 -- A link's value, by the entry's type and then by the string that stands there.
 module _ (im seg : List ℕ) (bs : List Block) (kind at : ℕ) where
-  pub value_none : (kind ≡ 2 → ⊥) → ValueIs im seg bs kind at Sound
+  pub value_none : (kind ≡ 2 → ⊥) → ValueIs im seg bs kind at (Ok tt)
   unfolding read_value
   value_none n = λ m l i k. takes-else _ _ (field-unequal (sym k) n) refl
 
-  module _ (two : kind ≡ 2) (off : ℕ) (o : off ≡ u32 im (at + 24)) where
+  module _ (two : kind ≡ 2) {off : ℕ} (o : off ≡ u32 im (at + 24)) where
     value_there : (m : ℕ) → 40 ≤ m → (t : Text) → t ≡ value_text (heap_with seg bs) off →
         read_text t ≡ read_text (value_text (heap_with seg bs) (u32 (part im at m) 24))
     value_there m l t e = ap read_text (e ∙ ap (value_text (heap_with seg bs)) (o ∙ sym (field im at m 24 4 l (omega arith))))
 
-    pub value-refused : (f : NameFault) (n : ℕ) → n ≡ fault_number (fault_of f) → fault (fault_of f) ≡ value_text (heap_with seg bs) off →
-        ValueIs im seg bs kind at (Unsound n)
+    -- x is r with the number of its fault
+    pub value_read : (r : Result (Unit {0}) NameFault) (x : Result (Unit {0}) ℕ) → CheckedAs r (value_text (heap_with seg bs) off) →
+        ((f : NameFault) → r ≡ Err f → x ≡ Err (fault_number (fault_of f))) → (r ≡ Ok tt → x ≡ Ok tt) → ValueIs im seg bs kind at x
     unfolding read_value
-    value-refused f n p e = λ m l i k. takes-then _ _ (field-equal (sym k) two) (answers _ (ap answer p ∙ value_there m l (fault (fault_of f)) e))
-
-    pub value_read : (t : List ℕ) → text t ≡ value_text (heap_with seg bs) off → ValueIs im seg bs kind at Sound
-    unfolding read_value
-    value_read t e = λ m l i k. takes-then _ _ (field-equal (sym k) two) (gives _ (value_there m l (text t) e) refl)
-
--- what was read, by the case that it is
-pub same-value : (im seg : List ℕ) (bs : List Block) (kind at : ℕ) {r r' : Value} → r ≡ r' → ValueIs im seg bs kind at r → ValueIs im seg bs kind at r'
-same-value im seg bs kind at e h = rw e at h
-
-pub same_text : {seg : List ℕ} {off : ℕ} {r r' : Rattle.names.specs.declared.Text.Text} {t : Text} → r ≡ r' → TextRead seg off r t → TextRead seg off r' t
-same_text e h = rw e at h
-
-pub same-checked : (t : Text) {r r' : Checked} → r ≡ r' → CheckedAs r t → CheckedAs r' t
-same-checked t e h = rw e at h
-
-pub same-entry : {im seg wanted addresses counts : List ℕ} {g : Group} {r : Range} {at : ℕ} {s : State} {addresses' counts' : List ℕ} {x x' : Step} → x ≡ x' →
-    EntryIs im seg wanted addresses counts g r at s addresses' counts' x → EntryIs im seg wanted addresses counts g r at s addresses' counts' x'
-same-entry e h = rw e at h
-
-pub same-visit : {addresses counts : List ℕ} {objects : ℕ} {auditing : Bool} {name name' wanted : List ℕ} {kind header : ℕ} {l : Link}
-    {addresses' counts' : List ℕ} {r r' : Visit} →
-    name ≡ name' → r ≡ r' → Visited addresses counts objects auditing name wanted kind header l addresses' counts' r →
-    Visited addresses counts objects auditing name' wanted kind header l addresses' counts' r'
-same-visit e f h = rw (e, f) at h
+    value_read (Ok u) x t e f = rw (f refl) (λ m l i k. takes-then _ _ (field-equal (sym k) two) (gives _ (value_there m l (text t.0) t.1) refl))
+    value_read (Err n) x t e f =
+        rw (e n refl) (λ m l i k. takes-then _ _ (field-equal (sym k) two) (answers _ (value_there m l (fault (fault_of n)) t)))
 
 -- a name has no more bytes than it may
 name-short : (h : Heap) (off : ℕ) (t : List ℕ) → name_text h off ≡ text t → length t ≤ name_most
@@ -116,38 +87,40 @@ name-short h off t e = by_key (key_text h off) e
     by_key (fault f) q = let z : ◌≡◌ {A = ℕ} 0 1 = cc in absurd (omega arith)
 
 -- a name that was read at the entry's first field
-pub name-sound : (im seg : List ℕ) (g : Group) (at off n : ℕ) → off ≡ u64 im at →
-    TextRead seg off (texts.Sound n) (name_text (chained_heap seg g.head g.free) off) →
-    NameSound im seg g at (name_at seg off n)
-name-sound im seg g at off n o h =
-    let j : off + n < length seg = h.inside in
+pub name-sound : {im seg : List ℕ} {g : Group} {at off n : ℕ} {x : Result ℕ NameFault} → off ≡ u64 im at → x ≡ Ok n →
+    TextRead seg off x (name_text (chained_heap seg g.head g.free) off) → NameSound im seg g at (name_at seg off n)
+name-sound {im} {seg} {g} {at} {off} {n} o e h =
+    let t : TextRead seg off (Ok n) (name_text (chained_heap seg g.head g.free) off) = rw e at h in
+    let j : off + n < length seg = t.inside in
     record {
       inside = string-inside seg off n (omega arith);
-      short = name-short (chained_heap seg g.head g.free) off (part seg off n) (sym h.value);
-      is = rw (← o) (sym h.value);
+      short = name-short (chained_heap seg g.head g.free) off (part seg off n) (sym t.value);
+      is = rw (← o) (sym t.value);
     }
 
 -- An entry, by its tests in their order.
 module _ (im seg wanted addresses counts : List ℕ) (g : Group) (r : Range) (at : ℕ) (s : State) (addresses' counts' : List ℕ) where
-  pub name-refused : (off : ℕ) → off ≡ u64 im at → (f : NameFault) (n : ℕ) → n ≡ fault_number (fault_of f) →
-      fault (fault_of f) ≡ name_text (chained_heap seg g.head g.free) off →
-      EntryIs im seg wanted addresses counts g r at s addresses' counts' (Stopped (fault_at n at))
+  pub name-refused : {off : ℕ} {x : Result ℕ NameFault} {f : NameFault} → off ≡ u64 im at → x ≡ Err f →
+      TextRead seg off x (name_text (chained_heap seg g.head g.free) off) →
+      EntryIs im seg wanted addresses counts g r at s addresses' counts' (Err (fault_at (fault_number (fault_of f)) at))
   unfolding read_entry
-  name-refused off o f n p e = record {
-    walk =
-        λ bounds m t l i. ap (located at)
-        (answers _ (ap answer p ∙ ap read_text (e ∙ ap (name_text (chained_heap seg g.head g.free)) (o ∙ sym (first_field im at m l)))));
-    kept = tt;
-    floor = tt;
-  }
+  name-refused {off} {x} {f} o e h =
+      let t : TextRead seg off (Err f) (name_text (chained_heap seg g.head g.free) off) = rw e at h in
+      record {
+        walk =
+            λ bounds m u l i. ap (located at)
+            (answers _ (ap read_text (t.value ∙ ap (name_text (chained_heap seg g.head g.free)) (o ∙ sym (first_field im at m l)))));
+        kept = tt;
+        floor = tt;
+      }
 
-  module _ (n : Name) (sound : NameSound im seg g at n) where
+  module _ {n : Name} (sound : NameSound im seg g at n) where
     name-there : (m : ℕ) → 40 ≤ m → value (name_in seg n) ≡ read_text (name_text (chained_heap seg g.head g.free) (u64 (part im at m) 0))
     name-there m l = ap read_text (sym sound.is ∙ ap (name_text (chained_heap seg g.head g.free)) (sym (first_field im at m l)))
 
     -- its place among names and keys: both tests fail with 8
     pub place-refused : all_hold (below (name_in seg s.last) (name_in seg n) ∷ range_holds seg r (name_in seg n) ∷ []) ≡ false →
-        EntryIs im seg wanted addresses counts g r at s addresses' counts' (Stopped (fault_at 8 at))
+        EntryIs im seg wanted addresses counts g r at s addresses' counts' (Err (fault_at 8 at))
     unfolding read_entry all_hold
     place-refused e = record {
       walk = λ bounds m t l i. ap (located at) (gives _ (name-there m l) (go (below (name_in seg s.last) (name_in seg n)) refl bounds t _));
@@ -155,21 +128,21 @@ module _ (im seg wanted addresses counts : List ℕ) (g : Group) (r : Range) (at
       floor = tt;
     }
       where
-        go : (z : Bool) → below (name_in seg s.last) (name_in seg n) ≡ z → (bounds : List Bound) → Tight seg r bounds → (k : Result (GroupState Both)) →
+        go : (z : Bool) → below (name_in seg s.last) (name_in seg n) ≡ z → (bounds : List Bound) → Tight seg r bounds → (k : Read (GroupState Both)) →
             answer 8 ≡ (check (below (name_in seg s.last) (name_in seg n)) 8 >> (check (within bounds (name_in seg n)) 8 >> k))
         go false p bounds t k = fails _ _ p
         go true p bounds t k = passes _ _ p (fails _ _ (t (name_in seg n) sound.short ∙ second-fails _ _ p e))
 
-    module _ (rises : below (name_in seg s.last) (name_in seg n) ≡ true) (held : range_holds seg r (name_in seg n) ≡ true) where
-      placed : (bounds : List Bound) → Tight seg r bounds → {x : Result (GroupState Both)} (k : Result (GroupState Both)) → x ≡ k →
+    module _ (passed : (below (name_in seg s.last) (name_in seg n) ≡ true) × (range_holds seg r (name_in seg n) ≡ true)) where
+      placed : (bounds : List Bound) → Tight seg r bounds → {x : Read (GroupState Both)} (k : Read (GroupState Both)) → x ≡ k →
           x ≡ (check (below (name_in seg s.last) (name_in seg n)) 8 >> (check (within bounds (name_in seg n)) 8 >> k))
-      placed bounds t k e = passes _ _ rises (passes _ _ (t (name_in seg n) sound.short ∙ held) e)
+      placed bounds t k e = passes _ _ passed.0 (passes _ _ (t (name_in seg n) sound.short ∙ passed.1) e)
 
-      module _ (kind : ℕ) (k : kind ≡ u32 im (at + 16)) where
+      module _ {kind : ℕ} (k : kind ≡ u32 im (at + 16)) where
         kind-there : (m : ℕ) → 40 ≤ m → u32 (part im at m) 16 ≡ kind
         kind-there m l = field im at m 16 4 l (omega arith) ∙ sym k
 
-        pub type-refused : 2 < kind → EntryIs im seg wanted addresses counts g r at s addresses' counts' (Stopped (fault_at 8 at))
+        pub type-refused : 2 < kind → EntryIs im seg wanted addresses counts g r at s addresses' counts' (Err (fault_at 8 at))
         unfolding read_entry
         type-refused h = record {
           walk =
@@ -180,19 +153,26 @@ module _ (im seg wanted addresses counts : List ℕ) (g : Group) (r : Range) (at
         }
 
         module _ (known : kind ≤ 2) where
-          pub link-refused : (x : ℕ) → ValueIs im seg (chain g.free seg g.head) kind at (Unsound x) →
-              EntryIs im seg wanted addresses counts g r at s addresses' counts' (Stopped (fault_at x at))
+          pub link-refused : {v : Result (Unit {0}) ℕ} {x : ℕ} → v ≡ Err x → ValueIs im seg (chain g.free seg g.head) kind at v →
+              EntryIs im seg wanted addresses counts g r at s addresses' counts' (Err (fault_at x at))
           unfolding read_entry
-          link-refused x v = record {
-            walk = λ bounds m t l i.
-                ap (located at)
-                (gives _ (name-there m l) (placed bounds t _ (passes _ _ (field-most (kind-there m l) known)
-                (answers _ (v m l i (sym (kind-there m l)))))));
-            kept = tt;
-            floor = tt;
-          }
+          link-refused {v} {x} e w =
+              let w' : ValueIs im seg (chain g.free seg g.head) kind at (Err x) = rw e at w in
+              record {
+                walk = λ bounds m t l i.
+                    ap (located at)
+                    (gives _ (name-there m l) (placed bounds t _ (passes _ _ (field-most (kind-there m l) known)
+                    (answers _ (w' m l i (sym (kind-there m l)))))));
+                kept = tt;
+                floor = tt;
+              }
 
-          module _ (v : ValueIs im seg (chain g.free seg g.head) kind at Sound) (header : ℕ) (h : header ≡ u64 im (at + 8)) where
+          module _ {v : Result (Unit {0}) ℕ} (e : v ≡ Ok tt) (w : ValueIs im seg (chain g.free seg g.head) kind at v) {header : ℕ}
+              (h : header ≡ u64 im (at + 8)) {name : List ℕ} (q : name ≡ name_in seg n) {y : Option (ℕ × Link)}
+              (d : Visited addresses counts s.objects g.auditing name wanted kind header s.link addresses' counts' y) where
+            value_sound : ValueIs im seg (chain g.free seg g.head) kind at (Ok tt)
+            value_sound = rw e at w
+
             -- what the visit is told
             visit-there : (m : ℕ) → 40 ≤ m → (b : Both) →
                 visit_both g.auditing wanted (record { name = name_in seg n; type = kind; header = header }) b
@@ -201,32 +181,34 @@ module _ (im seg wanted addresses counts : List ℕ) (g : Group) (r : Range) (at
                 let e : header ≡ u64 (part im at m) 8 = h ∙ sym (field im at m 8 8 l (omega arith)) in
                 λ i. visit_both g.auditing wanted (record { name = name_in seg n; type = sym (kind-there m l) i; header = e i }) b
 
-            pub visit-refused :
-                Visited addresses counts s.objects g.auditing (name_in seg n) wanted kind header s.link addresses' counts' visits.Full →
-                EntryIs im seg wanted addresses counts g r at s addresses' counts' (Stopped (fault_at 12 at))
+            pub visit-refused : y ≡ None → EntryIs im seg wanted addresses counts g r at s addresses' counts' (Err (fault_at 12 at))
             unfolding read_entry
-            visit-refused d = record {
-              walk = λ bounds m t l i.
-                  ap (located at)
-                  (gives _ (name-there m l) (placed bounds t _ (passes _ _ (field-most (kind-there m l) known)
-                  (gives _ (v m l i (sym (kind-there m l))) (answers _ (d.walk ∙ visit-there m l _))))));
-              kept = tt;
-              floor = tt;
-            }
+            visit-refused f =
+                let d' : Visited addresses counts s.objects g.auditing (name_in seg n) wanted kind header s.link addresses' counts' None = rw (q, f) at d in
+                record {
+                  walk = λ bounds m t l i.
+                      ap (located at)
+                      (gives _ (name-there m l) (placed bounds t _ (passes _ _ (field-most (kind-there m l) known)
+                      (gives _ (value_sound m l i (sym (kind-there m l))) (answers _ (d'.walk ∙ visit-there m l _))))));
+                  kept = tt;
+                  floor = tt;
+                }
 
-            pub visited : (objects : ℕ) (link : Link) →
-                Visited addresses counts s.objects g.auditing (name_in seg n) wanted kind header s.link addresses' counts' (visits.Done objects link) →
+            pub visited : {objects : ℕ} {link : Link} → y ≡ Some (objects, link) →
                 EntryIs im seg wanted addresses counts g r at s addresses' counts'
-                (Done (record { count = s.count; objects = objects; last = n; link = link }))
+                (Ok (record { count = s.count; objects = objects; last = n; link = link }))
             unfolding read_entry
-            visited objects link d = record {
-              walk = λ bounds m t l i.
-                  ap (located at)
-                  (gives _ (name-there m l) (placed bounds t _ (passes _ _ (field-most (kind-there m l) known)
-                  (gives _ (v m l i (sym (kind-there m l))) (gives _ (d.walk ∙ visit-there m l _) refl)))));
-              kept = record { blocks = refl; last = sound.inside; table = d.table.0; links = d.table.1 };
-              floor = floor-next seg r n sound.inside held;
-            }
+            visited {objects} {link} f =
+                let d' : Visited addresses counts s.objects g.auditing (name_in seg n) wanted kind header s.link addresses' counts' (Some (objects, link)) =
+                rw (q, f) at d in
+                record {
+                  walk = λ bounds m t l i.
+                      ap (located at)
+                      (gives _ (name-there m l) (placed bounds t _ (passes _ _ (field-most (kind-there m l) known)
+                      (gives _ (value_sound m l i (sym (kind-there m l))) (gives _ (d'.walk ∙ visit-there m l _) refl)))));
+                  kept = record { blocks = refl; last = sound.inside; table = d'.table.0; links = d'.table.1 };
+                  floor = floor-next seg r n sound.inside passed.1;
+                }
 
 -- The loop over the entries: what i entries leave to read, and the state with them.
 pub record Reading (im seg wanted addresses₀ counts₀ : List ℕ) (g : Group) (r : Range) (from n : ℕ) (s₀ : State) (addresses counts : List ℕ) (i : ℕ)
@@ -239,33 +221,15 @@ pub record Reading (im seg wanted addresses₀ counts₀ : List ℕ) (g : Group)
   pub addresses_same : length addresses ≡ length addresses₀
   pub counts_same : length counts ≡ length counts₀
 
-pub reading-start : (im seg wanted addresses counts : List ℕ) (g : Group) (r : Range) (from n : ℕ) (map : List ℕ) (s : State) → Ready seg map addresses counts g r s →
-    Reading im seg wanted addresses counts g r from n s addresses counts 0 s
-reading-start im seg wanted addresses counts g r from n map s h = record {
-  inside = omega arith;
-  walk = λ bounds m t l i.
-      let e : n - 0 ≡ n = omega arith in
-      let f : from + 0 ≡ from = omega arith in
-      let j : m - 0 ≡ m = omega arith in
-      rw (e, f, j);
-  kept = record { blocks = refl; last = h.last; table = h.table; links = omega arith };
-  addresses_same = refl;
-  counts_same = refl;
-}
-
--- there is room for one link more in each turn
-pub links-fit : (x y i n : ℕ) → x ≤ y + i → y + n < 2 ^ 32 → i < n → x + 1 < 2 ^ 32
-links-fit x y i n h k l = omega arith
-
 -- the next of k + 1 entries
 entries_next : {S : Type 0} (g : Rattle.format.specs.Entry.Group S) (bounds : List Bound) (k at : ℕ) (b : List ℕ) (s : GroupState S) →
     entries g bounds (suc k) at b s ≡ (located at (read_entry g bounds b s) >>= λ s'. entries g bounds k (at + 40) (drop 40 b) s')
 unfolding entries
 entries_next g bounds k at b s = refl
 
-module _ (im seg wanted addresses₀ counts₀ : List ℕ) (g : Group) (r : Range) (from n : ℕ) (s₀ : State) (addresses counts : List ℕ) (i : ℕ) (s : State)
+module _ {im seg wanted addresses₀ counts₀ : List ℕ} {g : Group} {r : Range} {from n : ℕ} {s₀ : State} {addresses counts : List ℕ} {i : ℕ} {s : State}
     (reading : Reading im seg wanted addresses₀ counts₀ g r from n s₀ addresses counts i s) where
-  pub reading-end : n ≤ i → EntriesAre im seg wanted addresses₀ counts₀ g r from n s₀ addresses counts (Done s)
+  pub reading-end : n ≤ i → EntriesAre im seg wanted addresses₀ counts₀ g r from n s₀ addresses counts (Ok s)
   unfolding entries
   reading-end h =
       let e : n - i ≡ 0 = omega arith in
@@ -285,17 +249,17 @@ module _ (im seg wanted addresses₀ counts₀ : List ℕ) (g : Group) (r : Rang
         let e : n - i ≡ suc (n - (i + 1)) = omega arith in
         reading.walk bounds m t l j ∙ rw e (entries_next _ bounds (n - (i + 1)) (from + 40 * i) _ _)
 
-    pub reading-refused : (x : Refusal) → EntryIs im seg wanted addresses counts g r (from + 40 * i) s addresses' counts' (Stopped x) →
-        EntriesAre im seg wanted addresses₀ counts₀ g r from n s₀ addresses' counts' (Stopped x)
-    reading-refused x h = record {
+    pub reading-refused : {x : Refusal} → EntryIs im seg wanted addresses counts g r (from + 40 * i) s addresses' counts' (Err x) →
+        EntriesAre im seg wanted addresses₀ counts₀ g r from n s₀ addresses' counts' (Err x)
+    reading-refused {x} h = record {
       walk = λ bounds m t l j. sym (reading-next bounds m t l j ∙ rw (← h.walk bounds (m - 40 * i) t (omega arith) (omega arith)) (refuse-bind x _));
       kept = tt;
     }
 
-    pub reading-again : (s' : State) → EntryIs im seg wanted addresses counts g r (from + 40 * i) s addresses' counts' (Done s') →
+    pub reading-again : {s' : State} → EntryIs im seg wanted addresses counts g r (from + 40 * i) s addresses' counts' (Ok s') →
         length addresses' ≡ length addresses → length counts' ≡ length counts →
         Reading im seg wanted addresses₀ counts₀ g r from n s₀ addresses' counts' (i + 1) s'
-    reading-again s' h p q =
+    reading-again {s'} h p q =
         let k : link_sum (linked_of s.objects addresses counts) ≤ link_sum (linked_of s₀.objects addresses₀ counts₀) + i = reading.kept.links in
         let k' : link_sum (linked_of s'.objects addresses' counts') ≤ link_sum (linked_of s.objects addresses counts) + 1 = h.kept.links in
         record {

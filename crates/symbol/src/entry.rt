@@ -9,9 +9,8 @@ ghost use Rattle.symbol.specs.Entry.{ValueIs, Ready, NameSound, EntryIs, Entries
 
 use format::{Refusal, answers};
 use key::fault_number;
-use names::{Checked, Text};
 use range::{Name, Range};
-use visit::{Link, Visit};
+use visit::Link;
 use walk::numbers::{u32_at, u64_at};
 
 // What stays the same over the whole descent. Of the heap: the head of the free list, the number of its blocks, and how many bytes the segment has up
@@ -37,18 +36,6 @@ pub struct State {
     pub link: Link,
 }
 
-#[derive(Clone, Copy)]
-pub enum Step {
-    Done(State),
-    Stopped(Refusal),
-}
-
-#[derive(Clone, Copy)]
-pub enum Value {
-    Sound,
-    Unsound(u8),
-}
-
 // A symbolic link's value, at the heap offset in the first 4 scratch bytes; a hard link has none.
 fn check_value(
     image: &[u8],
@@ -57,19 +44,16 @@ fn check_value(
     group: Group,
     kind: u64,
     at: usize,
-) -> Value
+) -> Result<(), u8>
     requires at_in_bounds { at + 40 ≤ length image.now }
     requires known { Known segment.now map.now group.head group.free group.ended }
     ensures { ValueIs image.now segment.now (chain group.free segment.now group.head) kind at result }
 {
     if kind != 2 {
-        return Value::Sound;
+        return Ok(());
     }
     let off = u32_at(image, at + 24);
-    match names::value(segment, map, group.head, group.free, group.ended, off) {
-        Checked::Fault(f) => Value::Unsound(fault_number(f)),
-        Checked::Sound => Value::Sound,
-    }
+    names::value(segment, map, group.head, group.free, group.ended, off).map_err(fault_number)
 }
 
 // An entry whose name is sound: its place among names and keys, its type, its value, and the visit. The name has to be above `floor`, which
@@ -87,7 +71,7 @@ fn named_entry(
     name: Name,
     floor: Name,
     state: State,
-) -> Step
+) -> Result<State, Refusal>
     requires at_in_bounds { at + 40 ≤ length image.now }
     requires ready { Ready segment.now map.now addresses.old counts.old group range state }
     requires counts_bound { link_sum (linked_of state.objects addresses.old counts.old) + 1 < 2 ^ 32 }
@@ -97,47 +81,35 @@ fn named_entry(
         at state addresses.new counts.new result }
 {
     let below = range::name_below(segment, floor, name);
-    if !below {
-        return Step::Stopped(Refusal::Fault(answers::NODE_UNSOUND, at));
-    }
-    if !range::at_most(segment, range, name) {
-        return Step::Stopped(Refusal::Fault(answers::NODE_UNSOUND, at));
+    if !below || !range::at_most(segment, range, name) {
+        return Err(Refusal::Fault(answers::NODE_UNSOUND, at));
     }
     let kind = u32_at(image, at + 16);
     let unknown = 2 < kind;
     if unknown {
-        return Step::Stopped(Refusal::Fault(answers::NODE_UNSOUND, at));
+        return Err(Refusal::Fault(answers::NODE_UNSOUND, at));
     }
-    match check_value(image, segment, map, group, kind, at) {
-        Value::Unsound(n) => Step::Stopped(Refusal::Fault(n, at)),
-        Value::Sound => {
-            let from = name.at;
-            let end = from + name.size;
-            let header = u64_at(image, at + 8);
-            let link = state.link;
-            let objects = state.objects;
-            let auditing = group.auditing;
-            match visit::visit_entry(
-                addresses,
-                counts,
-                objects,
-                auditing,
-                &segment[from..end],
-                wanted,
-                kind,
-                header,
-                link,
-            ) {
-                Visit::Full => Step::Stopped(Refusal::Fault(answers::TOO_MANY_OBJECTS, at)),
-                Visit::Done { objects, link } => Step::Done(State {
-                    count: state.count,
-                    objects,
-                    last: name,
-                    link,
-                }),
-            }
-        }
-    }
+    check_value(image, segment, map, group, kind, at).map_err(|answer| Refusal::Fault(answer, at))?;
+    let end = name.at + name.size;
+    let header = u64_at(image, at + 8);
+    let (objects, link) = visit::visit_entry(
+        addresses,
+        counts,
+        state.objects,
+        group.auditing,
+        &segment[name.at..end],
+        wanted,
+        kind,
+        header,
+        state.link,
+    )
+    .ok_or(Refusal::Fault(answers::TOO_MANY_OBJECTS, at))?;
+    Ok(State {
+        objects,
+        last: name,
+        link,
+        ..state
+    })
 }
 
 // The entry at `at`.
@@ -153,7 +125,7 @@ fn one_entry(
     at: usize,
     floor: Name,
     state: State,
-) -> Step
+) -> Result<State, Refusal>
     requires at_in_bounds { at + 40 ≤ length image.now }
     requires ready { Ready segment.now map.now addresses.old counts.old group range state }
     requires counts_bound { link_sum (linked_of state.objects addresses.old counts.old) + 1 < 2 ^ 32 }
@@ -162,21 +134,19 @@ fn one_entry(
         at state addresses.new counts.new result }
 {
     let off = u64_at(image, at);
-    match names::name(segment, map, group.head, group.free, group.ended, off) {
-        Text::Fault(f) => Step::Stopped(Refusal::Fault(fault_number(f), at)),
-        Text::Sound(n) => {
-            let name = Name {
-                at: off as usize,
-                size: n,
-                first: order::first_number(segment, off as usize, n),
-                second: order::second_number(segment, off as usize, n),
-            };
-            named_entry(
-                image, segment, map, wanted, addresses, counts, group, range, at, name, floor,
-                state,
-            )
-        }
-    }
+    let size = names::name(segment, map, group.head, group.free, group.ended, off).map_err(
+        |f| Refusal::Fault(fault_number(f), at),
+    )?;
+    let start = off as usize;
+    let name = Name {
+        at: start,
+        size,
+        first: order::first_number(segment, start, size),
+        second: order::second_number(segment, start, size),
+    };
+    named_entry(
+        image, segment, map, wanted, addresses, counts, group, range, at, name, floor, state,
+    )
 }
 
 // `n` entries, one after the other; the first stands at `from`.
@@ -192,19 +162,17 @@ pub fn entries(
     from: usize,
     n: usize,
     state: State,
-) -> Step
+) -> Result<State, Refusal>
     requires n_in_bounds { from + 40 * n ≤ length image.now }
     requires ready { Ready segment.now map.now addresses.old counts.old group range state }
     requires n_bound { link_sum (linked_of state.objects addresses.old counts.old) + n < 2 ^ 32 }
     ensures { EntriesAre image.now segment.now wanted.now addresses.old counts.old group
         range from n state addresses.new counts.new result }
 {
-    let mut i: usize = 0;
     let mut s = state;
-    let last = state.last;
-    let mut floor = range::floor(segment, range, last);
-    while i < n {
-        match one_entry(
+    let mut floor = range::floor(segment, range, state.last);
+    for i in 0..n {
+        s = one_entry(
             image,
             segment,
             map,
@@ -216,15 +184,8 @@ pub fn entries(
             from + 40 * i,
             floor,
             s,
-        ) {
-            Step::Stopped(x) => return Step::Stopped(x),
-            Step::Done(next) => {
-                let name = next.last;
-                floor = name;
-                s = next;
-                i += 1;
-            }
-        }
+        )?;
+        floor = s.last;
     }
-    Step::Done(s)
+    Ok(s)
 }

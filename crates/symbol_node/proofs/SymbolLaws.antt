@@ -4,9 +4,9 @@ use mathlib.Core.List.{List, [], ◌∷◌}
 use mathlib.Core.Path.{◌≡◌, refl, ap, sym, ◌∙◌}
 use native.Mathlib.Omega.{arith}
 use lib.Dec.{eqb}
-use lib.ListN.{get_or, drop}
-use Rattle.format.specs.Bytes.{in_range, part, u8, u16, u32}
-use Rattle.format.specs.Blocks.{Block, block_of, entry_answer}
+use lib.ListN.{length, get_or, drop}
+use Rattle.format.specs.Bytes.{in_range, little_endian, part, u8, u16, u32}
+use Rattle.format.specs.Blocks.{block_of, entry_answer}
 use Rattle.format.specs.declared.Refusal.{Refusal}
 use Rattle.format.specs.Walk.{fault, symbol_block, Walk, ret, refuse, shown, check, ◌>>=◌, ◌>>◌, run}
 use Rattle.format.specs.Names.{Bound}
@@ -14,138 +14,177 @@ use Rattle.format.specs.Entry.{GroupState}
 use Rattle.format.specs.Symbols.{SNOD, entries, symbol_walk}
 use Rattle.walk.specs.Lent.{blocks_of, length_sum, Lent, Walked, stopped, entering, IsEntered}
 use Rattle.walk.specs.Numbers.{Number}
-use Rattle.std.specs.Prelude.{Ok, Err}
+use Rattle.std.specs.Prelude.{Result, Ok, Err}
 use Rattle.walk.proofs.Parts.{part-byte, part-number, part-first-number, drop-part}
 use Rattle.laws.specs.Blocks.{Fresh, Inside}
 use Rattle.laws.proofs.Growth.{Grown}
-use Rattle.laws.proofs.SumOfLengths.{lengths-append, lengths-inside}
+use Rattle.laws.proofs.SumOfLengths.{grown-apart, grown-inside, lengths-append, lengths-inside}
 use Rattle.laws.proofs.Simulation.{Simulation, start, same-walk, returned, refusal, passed}
 use Rattle.laws.proofs.Simulation.{failed, entered-blocks, entered-grown, block-entered, block_refused, entered-inside}
 use Rattle.walk.proofs.Tests.{field-equal, field-unequal, range-below, range-above, range_inside}
 use Rattle.ledger.specs.Links.{link_sum}
 use Rattle.ledger.specs.Table.{linked_of}
 use Rattle.visit.specs.Visit.{Both}
-use Rattle.symbol.specs.Entry.{state_of, step_of, KeptIf}
-use Rattle.symbol_node.specs.Tree.{step_end, SoundIf}
+use Rattle.symbol.specs.Entry.{group_of, state_of, EntriesAre}
+use Rattle.symbol_node.specs.Tree.{Descending, SymbolsAre}
+use Rattle.range.specs.declared.Range.{Range}
 use Rattle.symbol.specs.declared.entry.Group.{Group}
 use Rattle.symbol.specs.declared.entry.State.{State}
-use Rattle.symbol.specs.declared.entry.Step.{Step}
-use Rattle.symbol.specs.declared.entry.Step.TheVariants.{Done, Stopped}
 
-module _ (im : List ℕ) (eof room : ℕ) (ws : List ℕ) (count at : ℕ) (l : Lent ws count room) (k : ℕ) where
+-- the signature is the number of these four bytes
+signed : (n : ℕ) → n ≡ 0x444f4e53 → n ≡ SNOD
+unfolding SNOD little_endian
+signed n e = e
+
+unsigned : (n : ℕ) → (n ≡ 0x444f4e53 → ⊥) → n ≡ SNOD → ⊥
+unfolding SNOD little_endian
+unsigned n h e = h e
+
+-- The node's block was entered: it lies in the image, and the links found and one for each entry of it are no more than the bytes of all blocks.
+pub record NodeEntered (im : List ℕ) (g : Group) (links at : ℕ) (ws₁ : List ℕ) (m : ℕ) : Type 0 where
+  pub there : at + (8 + 80 * g.leaf_k) ≤ length im
+  pub lent : Lent ws₁ m g.room
+  pub apart : Fresh [] (blocks_of m ws₁)
+  pub inside : Inside g.end_of_file (blocks_of m ws₁)
+  pub room : links + (8 + 80 * g.leaf_k) ≤ length_sum (blocks_of m ws₁)
+
+-- so links of the entries fit 32 bits
+pub links-small : {im : List ℕ} {g : Group} {links at : ℕ} {ws₁ : List ℕ} {m : ℕ} (n : ℕ) → NodeEntered im g links at ws₁ m → g.end_of_file < 2 ^ 32 →
+    n ≤ 8 + 80 * g.leaf_k → links + n < 2 ^ 32
+links-small {im} {g} {links} {at} {ws₁} {m} n e h k = omega (arith, lengths-inside g.end_of_file (blocks_of m ws₁) e.apart e.inside, e.room)
+
+-- for any keys above
+module _ {im seg map ws addresses counts : List ℕ} {g : Group} {r : Range} {s : State} (d : Descending im seg map ws addresses counts g r s) (wanted : List ℕ)
+    (at : ℕ) (ws₁ : List ℕ) where
   abbrev size : ℕ
-  size = 8 + 80 * k
+  size = 8 + 80 * g.leaf_k
 
   abbrev b : List ℕ
   b = part im at size
 
-  module _ (ws₁ : List ℕ) (q : IsEntered (entry_answer eof room (blocks_of count ws) at size) ws count 7 at size ws₁) where
-    module _ (m : ℕ) (e : Ok m ≡ entering (entry_answer eof room (blocks_of count ws) at size) 7 at size (blocks_of count ws) count) where
-      pub symbols-grown : Grown eof room (blocks_of count ws) (blocks_of m ws₁)
-      symbols-grown = entered-grown eof room symbol_block at size count ws ws₁ l q m e
+  abbrev answer : ℕ
+  answer = entry_answer g.end_of_file g.room (blocks_of s.count ws) at size
 
-      pub symbols-lengths : length_sum (blocks_of m ws₁) ≡ length_sum (blocks_of count ws) + size
-      unfolding length_sum
-      symbols-lengths =
-          rw (entered-blocks eof room symbol_block at size count ws ws₁ l q m e) (lengths-append (blocks_of count ws) (block_of 7 at size ∷ []) ∙ omega arith)
+  abbrev w : List Bound → Walk (GroupState Both)
+  w bounds = symbol_walk (group_of seg wanted g) at bounds (state_of seg addresses counts s)
 
-    -- for any group with this K, any keys and any state
-    module _ (g : Rattle.format.specs.Entry.Group Both) (kk : g.leaf_k ≡ k) (bounds : List Bound) (s : GroupState Both) where
-      abbrev w : Walk (GroupState Both)
-      w = symbol_walk g at bounds s
+  -- what is left of the walk, with so many blocks
+  abbrev Left : List Bound → Walk (GroupState Both) → ℕ → Type 0
+  Left bounds w' m = Simulation im g.end_of_file g.room (w bounds) s.count ws w' m ws₁
 
-      begun : Simulation im eof room w count ws w count ws
-      begun = start im eof room w count ws l
+  wrong : {x : Refusal} → ((bounds : List Bound) → Walked ws ws₁ (stopped x) (run im g.end_of_file g.room (w bounds) (blocks_of s.count ws))) →
+      SymbolsAre im seg wanted ws addresses counts g r at s ws₁ addresses counts (Err x)
+  wrong h = record { walked = λ bounds t. h bounds; sound = tt }
 
-      sized : size ≡ 8 + 80 * g.leaf_k
-      sized = rw kk
+  module _ (q : IsEntered answer ws s.count 7 at size ws₁) where
+    begun : (bounds : List Bound) → Simulation im g.end_of_file g.room (w bounds) s.count ws (w bounds) s.count ws
+    begun bounds = start im g.end_of_file g.room (w bounds) s.count ws d.sound.lent
 
-      pub symbols-refused : (x : Refusal) → Err x ≡ entering (entry_answer eof room (blocks_of count ws) at size) 7 at size (blocks_of count ws) count →
-          Walked ws ws₁ (stopped x) (run im eof room w (blocks_of count ws))
+    pub symbols-refused : (x : Refusal) → Err x ≡ entering answer 7 at size (blocks_of s.count ws) s.count →
+        SymbolsAre im seg wanted ws addresses counts g r at s ws₁ addresses counts (Err x)
+    unfolding symbol_walk ◌>>=◌
+    symbols-refused x e = wrong (λ bounds. block_refused size refl refl ws₁ (begun bounds) q x e)
+
+    module _ (m : ℕ) (e : Ok m ≡ entering answer 7 at size (blocks_of s.count ws) s.count) where
+      at-signature : (bounds : List Bound) → Left bounds
+          (check (eqb (u32 b 0) SNOD) (fault 7 at) >> (check (eqb (u8 b 4) 1) (fault 7 at) >>
+          (check (in_range 1 (2 * g.leaf_k) (u16 b 6)) (fault 8 at) >>
+          entries (group_of seg wanted g) bounds (u16 b 6) (at + 8) (drop 8 b) (state_of seg addresses counts s)))) m
+      unfolding symbol_walk ◌>>=◌ shown
+      at-signature bounds = block-entered size refl refl ws₁ (begun bounds) q m e
+
+      inside_file : at + size ≤ g.end_of_file
       unfolding symbol_walk ◌>>=◌
-      symbols-refused x e = block_refused size sized (sym sized) ws₁ begun q x e
+      inside_file = entered-inside size refl refl ws₁ (begun []) q m e
 
-      module _ (m : ℕ) (e : Ok m ≡ entering (entry_answer eof room (blocks_of count ws) at size) 7 at size (blocks_of count ws) count) where
-        pub symbols-inside : at + size ≤ eof
-        unfolding symbol_walk ◌>>=◌
-        symbols-inside = entered-inside size sized (sym sized) ws₁ begun q m e
+      grown : Grown g.end_of_file g.room (blocks_of s.count ws) (blocks_of m ws₁)
+      grown = entered-grown g.end_of_file g.room symbol_block at size s.count ws ws₁ d.sound.lent q m e
 
-        at-signature : Simulation im eof room w count ws
-            (check (eqb (u32 b 0) SNOD) (fault 7 at) >> (check (eqb (u8 b 4) 1) (fault 7 at) >>
-            (check (in_range 1 (2 * g.leaf_k) (u16 b 6)) (fault 8 at) >> entries g bounds (u16 b 6) (at + 8) (drop 8 b) s))) m ws₁
-        unfolding symbol_walk ◌>>=◌ shown
-        at-signature = block-entered size sized (sym sized) ws₁ begun q m e
+      lengths : length_sum (blocks_of m ws₁) ≡ length_sum (blocks_of s.count ws) + size
+      unfolding length_sum
+      lengths =
+          rw (entered-blocks g.end_of_file g.room symbol_block at size s.count ws ws₁ d.sound.lent q m e)
+          (lengths-append (blocks_of s.count ws) (block_of 7 at size ∷ []) ∙ omega arith)
 
-        pub symbols-lent : Lent ws₁ m room
-        symbols-lent = at-signature.lent
+      pub node-entered : NodeEntered im g (link_sum (linked_of s.objects addresses counts)) at ws₁ m
+      node-entered = record {
+        there = omega (arith, inside_file, d.fixed.file);
+        lent = (at-signature []).lent;
+        apart = grown-apart grown d.sound.apart;
+        inside = grown-inside grown d.sound.inside;
+        room = omega (arith, lengths, d.sound.links);
+      }
 
-        module _ (signature : ℕ) (n : Number im at 4 signature) where
-          signature-there : u32 b 0 ≡ signature
-          signature-there = part-first-number im at size 4 (omega arith) ∙ sym n.value
+      module _ (signature : ℕ) (n : Number im at 4 signature) where
+        signature-there : u32 b 0 ≡ signature
+        signature-there = part-first-number im at size 4 (omega arith) ∙ sym n.value
 
-          pub signature-wrong : (signature ≡ SNOD → ⊥) → Walked ws ws₁ (stopped (fault 7 at)) (run im eof room w (blocks_of count ws))
-          signature-wrong h = failed (eqb (u32 b 0) SNOD) (fault 7 at) _ (field-unequal signature-there h) at-signature
+        pub signature-wrong : (signature ≡ 0x444f4e53 → ⊥) → SymbolsAre im seg wanted ws addresses counts g r at s ws₁ addresses counts (Err (fault 7 at))
+        signature-wrong h =
+            wrong (λ bounds.
+            failed (eqb (u32 b 0) SNOD) (fault 7 at) _ (field-unequal signature-there (unsigned signature h)) (at-signature bounds))
 
-          module _ (h : signature ≡ SNOD) where
-            at-version : Simulation im eof room w count ws (check (eqb (u8 b 4) 1) (fault 7 at) >>
-                (check (in_range 1 (2 * g.leaf_k) (u16 b 6)) (fault 8 at) >> entries g bounds (u16 b 6) (at + 8) (drop 8 b) s)) m ws₁
-            at-version = passed (eqb (u32 b 0) SNOD) (fault 7 at) _ (field-equal signature-there h) at-signature
+        module _ (h : signature ≡ 0x444f4e53) where
+          at-version : (bounds : List Bound) → Left bounds
+              (check (eqb (u8 b 4) 1) (fault 7 at) >> (check (in_range 1 (2 * g.leaf_k) (u16 b 6)) (fault 8 at) >>
+              entries (group_of seg wanted g) bounds (u16 b 6) (at + 8) (drop 8 b) (state_of seg addresses counts s))) m
+          at-version bounds = passed (eqb (u32 b 0) SNOD) (fault 7 at) _ (field-equal signature-there (signed signature h)) (at-signature bounds)
 
-            version-there : u8 b 4 ≡ get_or im (at + 4) 0
-            version-there = part-byte im at size 4 (omega arith)
+          version-there : u8 b 4 ≡ get_or im (at + 4) 0
+          version-there = part-byte im at size 4 (omega arith)
 
-            pub version-wrong : (get_or im (at + 4) 0 ≡ 1 → ⊥) → Walked ws ws₁ (stopped (fault 7 at)) (run im eof room w (blocks_of count ws))
-            version-wrong o = failed (eqb (u8 b 4) 1) (fault 7 at) _ (field-unequal version-there o) at-version
+          pub version-wrong : (get_or im (at + 4) 0 ≡ 1 → ⊥) → SymbolsAre im seg wanted ws addresses counts g r at s ws₁ addresses counts (Err (fault 7 at))
+          version-wrong o = wrong (λ bounds. failed (eqb (u8 b 4) 1) (fault 7 at) _ (field-unequal version-there o) (at-version bounds))
 
-            module _ (o : get_or im (at + 4) 0 ≡ 1) (used : ℕ) (u : Number im (at + 6) 2 used) where
-              at_count : Simulation im eof room w count ws (check (in_range 1 (2 * g.leaf_k) (u16 b 6)) (fault 8 at) >> entries g bounds (u16 b 6) (at + 8)
-                  (drop 8 b) s) m ws₁
-              at_count = passed (eqb (u8 b 4) 1) (fault 7 at) _ (field-equal version-there o) at-version
+          module _ (o : get_or im (at + 4) 0 ≡ 1) (used : ℕ) (u : Number im (at + 6) 2 used) where
+            at_count : (bounds : List Bound) → Left bounds
+                (check (in_range 1 (2 * g.leaf_k) (u16 b 6)) (fault 8 at) >>
+                entries (group_of seg wanted g) bounds (u16 b 6) (at + 8) (drop 8 b) (state_of seg addresses counts s)) m
+            at_count bounds = passed (eqb (u8 b 4) 1) (fault 7 at) _ (field-equal version-there o) (at-version bounds)
 
-              used-there : u16 b 6 ≡ used
-              used-there = part-number im at size 6 2 (omega arith) ∙ sym u.value
+            used-there : u16 b 6 ≡ used
+            used-there = part-number im at size 6 2 (omega arith) ∙ sym u.value
 
-              pub count_low : used < 1 → Walked ws ws₁ (stopped (fault 8 at)) (run im eof room w (blocks_of count ws))
-              count_low p = failed (in_range 1 (2 * g.leaf_k) (u16 b 6)) (fault 8 at) _ (rw used-there (range-below 1 (2 * g.leaf_k) used p)) at_count
+            pub count_low : used < 1 → SymbolsAre im seg wanted ws addresses counts g r at s ws₁ addresses counts (Err (fault 8 at))
+            count_low p =
+                wrong (λ bounds.
+                failed (in_range 1 (2 * g.leaf_k) (u16 b 6)) (fault 8 at) _ (rw used-there (range-below 1 (2 * g.leaf_k) used p)) (at_count bounds))
 
-              pub count-high : 2 * k < used → Walked ws ws₁ (stopped (fault 8 at)) (run im eof room w (blocks_of count ws))
-              count-high p = failed (in_range 1 (2 * g.leaf_k) (u16 b 6)) (fault 8 at) _ (rw (used-there, kk) (range-above 1 (2 * k) used p)) at_count
+            pub count-high : 2 * g.leaf_k < used → SymbolsAre im seg wanted ws addresses counts g r at s ws₁ addresses counts (Err (fault 8 at))
+            count-high p =
+                wrong (λ bounds.
+                failed (in_range 1 (2 * g.leaf_k) (u16 b 6)) (fault 8 at) _ (rw used-there (range-above 1 (2 * g.leaf_k) used p)) (at_count bounds))
 
-              module _ (p : 1 ≤ used) (r : used ≤ 2 * k) where
-                at-entries : Simulation im eof room w count ws (entries g bounds used (at + 8) (part im (at + 8) (80 * k)) s) m ws₁
-                at-entries =
-                    let z : 8 + 80 * k - 8 ≡ 80 * k = omega arith in
-                    let d : drop 8 b ≡ part im (at + 8) (80 * k) = drop-part im at size 8 ∙ ap (part im (at + 8)) z in
-                    same-walk _ (rw (used-there, d))
-                    (passed (in_range 1 (2 * g.leaf_k) (u16 b 6)) (fault 8 at) _ (rw (used-there, kk) (range_inside 1 (2 * k) used p r)) at_count)
+            module _ (p : 1 ≤ used) (v : used ≤ 2 * g.leaf_k) where
+              at-entries : (bounds : List Bound) → Left bounds
+                  (entries (group_of seg wanted g) bounds used (at + 8) (part im (at + 8) (80 * g.leaf_k)) (state_of seg addresses counts s)) m
+              at-entries bounds =
+                  let z : 8 + 80 * g.leaf_k - 8 ≡ 80 * g.leaf_k = omega arith in
+                  let y : drop 8 b ≡ part im (at + 8) (80 * g.leaf_k) = drop-part im at size 8 ∙ ap (part im (at + 8)) z in
+                  same-walk _ (rw (used-there, y))
+                  (passed (in_range 1 (2 * g.leaf_k) (u16 b 6)) (fault 8 at) _ (rw used-there (range_inside 1 (2 * g.leaf_k) used p v)) (at_count bounds))
 
-                -- the entries' answer is the node's
-                pub symbols-end : (seg addresses counts : List ℕ) (x : Step) → ((t : State) → x ≡ Done t → t.count ≡ m) →
-                    step_of seg addresses counts x ≡ entries g bounds used (at + 8) (part im (at + 8) (80 * k)) s →
-                    Walked ws ws₁ (step_end seg addresses counts x) (run im eof room w (blocks_of count ws))
-                symbols-end seg addresses counts (Done t) c v = rw (c t refl) (returned (same-walk (ret (state_of seg addresses counts t)) (sym v) at-entries))
-                symbols-end seg addresses counts (Stopped y) c v = refusal (same-walk (refuse y) (sym v) at-entries)
-
--- links that are no more than the bytes of the blocks entered fit 32 bits
-pub links-small : (eof : ℕ) (bs : List Block) (x : ℕ) → Fresh [] bs → Inside eof bs → eof < 2 ^ 32 → x ≤ length_sum bs → x < 2 ^ 32
-links-small eof bs x f i h k = omega (arith, lengths-inside eof bs f i)
-
--- what is kept of a state is sound again, with the links of one block more
-module _ (seg ws addresses counts : List ℕ) (g : Group) (s : State) (n : ℕ) (addresses' counts' : List ℕ) where
-  pub sound-after : (x : Step) → Lent ws s.count g.room → Fresh [] (blocks_of s.count ws) → Inside g.end_of_file (blocks_of s.count ws) →
-      link_sum (linked_of s.objects addresses counts) + n ≤ length_sum (blocks_of s.count ws) →
-      KeptIf seg addresses counts g s n addresses' counts' x → SoundIf seg ws addresses' counts' g x
-  sound-after (Done t) l f i h k = record {
-    lent = rw k.blocks l;
-    last = k.last;
-    table = k.table;
-    apart = rw k.blocks f;
-    inside = rw k.blocks i;
-    links = rw k.blocks (omega (arith, k.links));
-  }
-  sound-after (Stopped y) l f i h k = tt
-
-pub kept-count : (seg addresses counts : List ℕ) (g : Group) (s : State) (n : ℕ) (addresses' counts' : List ℕ) (x : Step) →
-    KeptIf seg addresses counts g s n addresses' counts' x → (t : State) → x ≡ Done t → t.count ≡ s.count
-kept-count seg addresses counts g s n addresses' counts' (Done u) k t e = let f : u ≡ t = cc in sym (ap (λ (y : State). y.count) f) ∙ k.blocks
-kept-count seg addresses counts g s n addresses' counts' (Stopped y) k t e = let z : ◌≡◌ {A = ℕ} 0 1 = cc in absurd (omega arith)
+              -- the entries' answer is the node's
+              pub symbols-end : (addresses' counts' : List ℕ) (x : Result State Refusal) →
+                  EntriesAre im seg wanted addresses counts g r (at + 8) used (record { count = m; objects = s.objects; last = s.last; link = s.link })
+                  addresses' counts' x → SymbolsAre im seg wanted ws addresses counts g r at s ws₁ addresses' counts' x
+              symbols-end addresses' counts' (Ok t) k = record {
+                walked = λ bounds y.
+                    rw k.kept.blocks
+                    (returned (same-walk (ret (state_of seg addresses' counts' t))
+                    (sym (k.walk bounds (80 * g.leaf_k) y (omega arith) (omega (arith, node-entered.there)))) (at-entries bounds)));
+                sound = record {
+                  lent = rw k.kept.blocks node-entered.lent;
+                  last = k.kept.last;
+                  table = k.kept.table;
+                  apart = rw k.kept.blocks node-entered.apart;
+                  inside = rw k.kept.blocks node-entered.inside;
+                  links = rw k.kept.blocks (omega (arith, k.kept.links, node-entered.room));
+                };
+              }
+              symbols-end addresses' counts' (Err y) k = record {
+                walked = λ bounds z.
+                    refusal (same-walk (refuse y)
+                    (sym (k.walk bounds (80 * g.leaf_k) z (omega arith) (omega (arith, node-entered.there)))) (at-entries bounds));
+                sound = tt;
+              }

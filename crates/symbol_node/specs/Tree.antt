@@ -1,5 +1,5 @@
 -- What the descent over a group's tree returns.
-use Rattle.std.specs.Prelude.{ℕ, ◌^◌, ◌≤◌, ◌<◌, List, [], length}
+use Rattle.std.specs.Prelude.{ℕ, ◌^◌, ◌≤◌, ◌<◌, List, [], length, Result, Ok, Err}
 use Rattle.format.specs.Walk.{run}
 use Rattle.format.specs.Names.{Bound}
 use Rattle.format.specs.Entry.{GroupState}
@@ -15,8 +15,7 @@ use Rattle.symbol.specs.Entry.{group_of, state_of}
 use Rattle.range.specs.declared.Range.{Range}
 use Rattle.symbol.specs.declared.entry.Group.{Group}
 use Rattle.symbol.specs.declared.entry.State.{State}
-use Rattle.symbol.specs.declared.entry.Step.{Step}
-use Rattle.symbol.specs.declared.entry.Step.TheVariants.{Done, Stopped}
+use Rattle.format.specs.declared.Refusal.{Refusal}
 
 -- What holds of a state on the way down. An entry has 40 bytes of a block, so that the links found are at most the bytes of the blocks
 -- entered; these lie inside the end of file, each once.
@@ -41,17 +40,17 @@ pub record Descending (im seg map ws addresses counts : List ℕ) (g : Group) (r
   pub range : RangeInside seg r
   pub sound : Sound seg ws addresses counts g s
 
-abbrev pub step_end : List ℕ → List ℕ → List ℕ → Step → Ended (GroupState Both)
-step_end seg addresses counts (Done s) = ended (state_of seg addresses counts s) s.count
-step_end seg addresses counts (Stopped r) = stopped r
+abbrev pub step_end : List ℕ → List ℕ → List ℕ → Result State Refusal → Ended (GroupState Both)
+step_end seg addresses counts (Ok s) = ended (state_of seg addresses counts s) s.count
+step_end seg addresses counts (Err r) = stopped r
 
-abbrev pub SoundIf : List ℕ → List ℕ → List ℕ → List ℕ → Group → Step → Type 0
-SoundIf seg ws addresses counts g (Done s) = Sound seg ws addresses counts g s
-SoundIf seg ws addresses counts g (Stopped r) = Unit {0}
+abbrev pub SoundIf : List ℕ → List ℕ → List ℕ → List ℕ → Group → Result State Refusal → Type 0
+SoundIf seg ws addresses counts g (Ok s) = Sound seg ws addresses counts g s
+SoundIf seg ws addresses counts g (Err r) = Unit {0}
 
 -- a symbol table node was read as its walk reads it
 pub record SymbolsAre (im seg wanted ws addresses counts : List ℕ) (g : Group) (r : Range) (at : ℕ) (s : State) (ws' addresses' counts' : List ℕ)
-    (x : Step) : Type 0 where
+    (x : Result State Refusal) : Type 0 where
   pub walked : (bounds : List Bound) → Tight seg r bounds →
       Walked ws ws' (step_end seg addresses' counts' x) (run im g.end_of_file g.room
       (symbol_walk (group_of seg wanted g) at bounds (state_of seg addresses counts s)) (blocks_of s.count ws))

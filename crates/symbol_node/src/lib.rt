@@ -7,8 +7,7 @@ ghost use Rattle.symbol_node.specs.Tree.{Descending, SymbolsAre};
 use format::{Refusal, answers};
 use range::Range;
 use symbol::entry;
-use symbol::entry::{Group, State, Step};
-use walk::blocks::Entry;
+use symbol::entry::{Group, State};
 use walk::numbers::{u16_at, u32_at};
 use walk::{blocks, kinds};
 
@@ -31,13 +30,13 @@ pub fn symbol_node(
     range: Range,
     at: u64,
     state: State,
-) -> Step
+) -> Result<State, Refusal>
     requires { Descending image.now segment.now map.now list.old addresses.old counts.old group range state }
     ensures { SymbolsAre image.now segment.now wanted.now list.old addresses.old
         counts.old group range at state list.new addresses.new counts.new result }
 {
     let k = group.leaf_k;
-    match blocks::enter(
+    let count = blocks::enter(
         group.end_of_file,
         list,
         state.count,
@@ -45,44 +44,29 @@ pub fn symbol_node(
         kinds::SYMBOL_NODE,
         at,
         8 + 80 * k,
-    ) {
-        Entry::Refused(x) => Step::Stopped(x),
-        Entry::Entered(c) => {
-            let start = at as usize;
-            if u32_at(image, start) != SNOD {
-                return Step::Stopped(Refusal::Fault(answers::WRONG_SIGNATURE, start));
-            }
-            if image[start + 4] != VERSION {
-                return Step::Stopped(Refusal::Fault(answers::WRONG_SIGNATURE, start));
-            }
-            let n = u16_at(image, start + 6);
-            if n < 1 {
-                return Step::Stopped(Refusal::Fault(answers::NODE_UNSOUND, start));
-            }
-            if 2 * k < n {
-                return Step::Stopped(Refusal::Fault(answers::NODE_UNSOUND, start));
-            }
-            let objects = state.objects;
-            let last = state.last;
-            let link = state.link;
-            entry::entries(
-                image,
-                segment,
-                map,
-                wanted,
-                addresses,
-                counts,
-                group,
-                range,
-                start + 8,
-                n as usize,
-                State {
-                    count: c,
-                    objects,
-                    last,
-                    link,
-                },
-            )
-        }
+    )?;
+    let start = at as usize;
+    if u32_at(image, start) != SNOD {
+        return Err(Refusal::Fault(answers::WRONG_SIGNATURE, start));
     }
+    if image[start + 4] != VERSION {
+        return Err(Refusal::Fault(answers::WRONG_SIGNATURE, start));
+    }
+    let n = u16_at(image, start + 6);
+    if n < 1 || 2 * k < n {
+        return Err(Refusal::Fault(answers::NODE_UNSOUND, start));
+    }
+    entry::entries(
+        image,
+        segment,
+        map,
+        wanted,
+        addresses,
+        counts,
+        group,
+        range,
+        start + 8,
+        n as usize,
+        State { count, ..state },
+    )
 }

@@ -1,9 +1,14 @@
-// Text in a lent buffer. Each function writes from a place on and returns the place behind what it wrote. What has no room is left
-// out, so that no caller has to show that there is room.
+// Text in a lent buffer. What has no room is left out, so that no caller has to show that there is room.
 #![tactic(auto)]
 
 pub mod dump;
 
+ghost use Rattle.io.specs.Counts.{IsPrefixLen};
+
+use std::fmt;
+use std::fmt::Write;
+
+// Writes a byte at a place, and returns the place behind it.
 pub fn put_byte(out: &mut [u8], at: usize, byte: u8) -> usize {
     if at < out.len() {
         out[at] = byte;
@@ -12,33 +17,28 @@ pub fn put_byte(out: &mut [u8], at: usize, byte: u8) -> usize {
     at
 }
 
-pub fn put_text(out: &mut [u8], at: usize, text: &[u8]) -> usize {
-    let mut place = at;
-    for byte in text {
-        place = put_byte(out, place, *byte);
-    }
-    place
+// The text that a buffer has so far.
+#[derive(Drop)]
+struct Text<'a> {
+    out: &'a mut [u8],
+    length: usize,
 }
 
-// Writes the lowest hexadecimal digits of a number, all or none of them.
-pub fn put_hex(out: &mut [u8], at: usize, x: u64, digits: usize) -> usize {
-    if out.len() < at {
-        return at;
+impl fmt::Write for Text<'_> {
+    fn write_str(&mut self, s: &str) -> fmt::Result {
+        for byte in s.bytes() {
+            self.length = put_byte(self.out, self.length, byte);
+        }
+        Ok(())
     }
-    if out.len() - at < digits {
-        return at;
-    }
-    output::put_hex(out, at, x, digits);
-    at + digits
 }
 
-// Writes an address or a place.
-pub fn put_address(out: &mut [u8], at: usize, address: u64) -> usize {
-    put_hex(out, at, address, 16)
-}
-
-pub fn put_decimal(out: &mut [u8], at: usize, x: u64) -> usize {
-    let mut digits = [0u8; 20];
-    let n = io::decimal(x, &mut digits);
-    put_text(out, at, &digits[..n])
+// Writes a value as text to the buffer's start, and returns how many bytes that is.
+pub fn put<D: fmt::Display + Drop>(out: &mut [u8], value: D) -> usize
+    ensures { IsPrefixLen result out.new }
+{
+    let mut text = Text { out, length: 0 };
+    text.write(value).unwrap_or(());
+    let length = text.length;
+    length.min(out.len())
 }

@@ -1,5 +1,5 @@
 -- What reading a group's tree returns.
-use Rattle.std.specs.Prelude.{ℕ, suc, ◌+◌, ◌≤◌, List, ◌≡◌, length}
+use Rattle.std.specs.Prelude.{ℕ, suc, ◌+◌, ◌≤◌, List, ◌≡◌, length, Result}
 use Rattle.format.specs.Bytes.{u8, u16}
 use Rattle.format.specs.Walk.{run}
 use Rattle.format.specs.Tree.{tree_walk}
@@ -7,7 +7,7 @@ use Rattle.walk.specs.Lent.{blocks_of, Walked}
 use Rattle.symbol.specs.Entry.{group_of, state_of}
 use Rattle.symbol.specs.declared.entry.Group.{Group}
 use Rattle.symbol.specs.declared.entry.State.{State}
-use Rattle.symbol.specs.declared.entry.Step.{Step}
+use Rattle.format.specs.declared.Refusal.{Refusal}
 use Rattle.symbol_node.specs.Tree.{step_end, SoundIf}
 
 -- the height of a root that lies inside the image and has entries, else 0
@@ -16,7 +16,8 @@ pub record HeightAt (im : List ℕ) (at r : ℕ) : Type 0 where
   pub used : (r ≡ 0 → ⊥) → (u16 im (at + 6) ≡ 0 → ⊥) × (r ≡ suc (u8 im (at + 5)))
 
 -- a tree was read as its walk reads it
-pub record TreeIs (im seg wanted ws addresses counts : List ℕ) (g : Group) (at : ℕ) (s : State) (ws' addresses' counts' : List ℕ) (x : Step) : Type 0 where
+pub record TreeIs (im seg wanted ws addresses counts : List ℕ) (g : Group) (at : ℕ) (s : State) (ws' addresses' counts' : List ℕ)
+    (x : Result State Refusal) : Type 0 where
   pub walked : Walked ws ws' (step_end seg addresses' counts' x) (run im g.end_of_file g.room
       (tree_walk (group_of seg wanted g) at (state_of seg addresses counts s)) (blocks_of s.count ws))
   pub sound : SoundIf seg ws' addresses' counts' g x

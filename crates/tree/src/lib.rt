@@ -6,10 +6,9 @@ ghost use Rattle.symbol_node.specs.Tree.{Fixed, Sound};
 ghost use Rattle.tree.specs.Tree.{HeightAt, TreeIs};
 
 use format::{Refusal, answers};
-use node::NodeRead;
 use range::{Name, Range};
 use subtree::subtree;
-use symbol::entry::{Group, State, Step};
+use symbol::entry::{Group, State};
 use walk::numbers::u16_at;
 
 // The height of a root with entries; 0 for an empty one, and where it doesn't lie inside the image: then reading it answers.
@@ -17,10 +16,7 @@ fn root_height(image: &[u8], at: u64) -> u64
     ensures { HeightAt image.now at result }
 {
     let place = at as usize;
-    if image.len() < 32 {
-        return 0;
-    }
-    if image.len() - 32 < place {
+    if image.len() < 32 || image.len() - 32 < place {
         return 0;
     }
     if u16_at(image, place + 6) == 0 {
@@ -42,7 +38,7 @@ pub fn tree(
     group: Group,
     at: u64,
     state: State,
-) -> Step
+) -> Result<State, Refusal>
     requires fixed { Fixed image.now segment.now map.now group }
     requires sound { Sound segment.now list.old addresses.old counts.old group state }
     ensures { TreeIs image.now segment.now wanted.now list.old addresses.old
@@ -65,26 +61,13 @@ pub fn tree(
             image, segment, map, wanted, list, addresses, counts, group, range, height, at, state,
         );
     }
-    match node::read_node(image, list, group, state.count, at) {
-        NodeRead::Stopped(x) => Step::Stopped(x),
-        NodeRead::Read {
-            level,
-            entries: _,
-            count,
-        } => {
-            let inner = level != 0;
-            if inner {
-                return Step::Stopped(Refusal::Fault(answers::NODE_UNSOUND, at as usize));
-            }
-            let objects = state.objects;
-            let last = state.last;
-            let link = state.link;
-            Step::Done(State {
-                count,
-                objects,
-                last,
-                link,
-            })
-        }
+    let root = node::read_node(image, list, group, state.count, at)?;
+    let inner = root.level != 0;
+    if inner {
+        return Err(Refusal::Fault(answers::NODE_UNSOUND, at as usize));
     }
+    Ok(State {
+        count: root.count,
+        ..state
+    })
 }

@@ -6,20 +6,17 @@ use mathlib.Core.Path.{◌≡◌, refl, ap, sym, ◌∙◌}
 use native.Mathlib.Omega.{arith}
 use borrow.Author.Tests.{le-leb, lt-leb}
 use lib.Dec.{leb}
-use Rattle.std.specs.Prelude.{if◌then◌else◌}
+use Rattle.std.specs.Prelude.{if◌then◌else◌, Some, None}
 use Rattle.format.specs.Bytes.{same_bytes}
 use Rattle.format.specs.Result.{value}
 use Rattle.format.specs.Entry.{Entry}
 use Rattle.format.specs.Lookup.{hard, soft, compare_name}
 use Rattle.laws.proofs.Results.{value-bind, answer-bind}
 use Rattle.ledger.specs.Table.{linked_of, Discovered}
-use Rattle.ledger.specs.declared.table.Discovery.{Discovery}
-use Rattle.ledger.specs.declared.table.Discovery.TheVariants.{Counted, Full as TableFull}
 use Rattle.ledger.proofs.LedgerLaws.{discover-hard, discover-other}
 use Rattle.ledger.proofs.TableLaws.{discovered-sum}
 use Rattle.visit.specs.Visit.{visit_both, link_of, hard_link, symbolic_link, link_after, TableIf, Visited}
 use Rattle.visit.specs.declared.Link.{Link}
-use Rattle.visit.specs.declared.Visit.TheVariants.{Done, Full}
 
 -- What a lookup knows after an entry, by the tests.
 module _ (name wanted : List ℕ) (kind header : ℕ) (l : Link) where
@@ -45,7 +42,7 @@ module _ (xs ts : List ℕ) (n : ℕ) (auditing : Bool) (t : TableIf auditing xs
   entry = record { name = name; type = kind; header = header }
 
   pub visit-compared : (l' : Link) → auditing ≡ false → l' ≡ link_after name wanted kind header l →
-      Visited xs ts n auditing name wanted kind header l xs ts (Done n l')
+      Visited xs ts n auditing name wanted kind header l xs ts (Some (n, l'))
   unfolding visit_both compare_name
   visit-compared l' u e = let t' : TableIf false xs ts n = rw u at t in rw u record {
     walk =
@@ -55,7 +52,7 @@ module _ (xs ts : List ℕ) (n : ℕ) (auditing : Bool) (t : TableIf auditing xs
     table = (t', omega arith);
   }
 
-  pub visit-passed : auditing ≡ true → 1 < kind → Visited xs ts n auditing name wanted kind header l xs ts (Done n l)
+  pub visit-passed : auditing ≡ true → 1 < kind → Visited xs ts n auditing name wanted kind header l xs ts (Some (n, l))
   unfolding visit_both
   visit-passed u h = rw u record {
     walk = rw (discover-other entry (linked_of n xs ts) (lt-leb kind 1 h)) (sym (value-bind _ _));
@@ -63,18 +60,14 @@ module _ (xs ts : List ℕ) (n : ℕ) (auditing : Bool) (t : TableIf auditing xs
   }
 
   module _ (u : auditing ≡ true) (h : kind ≤ 1) (xs' ts' : List ℕ) where
-    pub visit-full : {r : Discovery} → r ≡ TableFull → Discovered xs ts n header xs' ts' r → Visited xs ts n auditing name wanted kind header l xs' ts' Full
+    pub visit-full : Discovered xs ts n header xs' ts' None → Visited xs ts n auditing name wanted kind header l xs' ts' None
     unfolding visit_both
-    visit-full e d =
-        let f : Discovered xs ts n header xs' ts' TableFull = rw e at d in
-        rw u record { walk = rw (discover-hard entry (linked_of n xs ts) (le-leb kind 1 h), ← f.walk) (sym (answer-bind _ _)); table = tt }
+    visit-full d =
+        rw u record { walk = rw (discover-hard entry (linked_of n xs ts) (le-leb kind 1 h), ← d.walk) (sym (answer-bind _ _)); table = tt }
 
-    pub visit-counted : {r : Discovery} (m : ℕ) → r ≡ Counted m → Discovered xs ts n header xs' ts' r →
-        Visited xs ts n auditing name wanted kind header l xs' ts' (Done m l)
+    pub visit-counted : (m : ℕ) → Discovered xs ts n header xs' ts' (Some m) → Visited xs ts n auditing name wanted kind header l xs' ts' (Some (m, l))
     unfolding visit_both
-    visit-counted m e d =
-        let f : Discovered xs ts n header xs' ts' (Counted m) = rw e at d in
-        rw u record {
-          walk = rw (discover-hard entry (linked_of n xs ts) (le-leb kind 1 h), ← f.walk) (sym (value-bind _ _));
-          table = (λ _. f.table, omega (arith, discovered-sum xs ts n header xs' ts' m f));
-        }
+    visit-counted m d = rw u record {
+      walk = rw (discover-hard entry (linked_of n xs ts) (le-leb kind 1 h), ← d.walk) (sym (value-bind _ _));
+      table = (λ _. d.table, omega (arith, discovered-sum xs ts n header xs' ts' m d));
+    }

@@ -1,5 +1,5 @@
 -- What is done at an entry, for both uses of the descent.
-use Rattle.std.specs.Prelude.{ℕ, ◌+◌, ◌≤◌, Bool, true, false, List, ◌≡◌, leb, eqb, if◌then◌else◌}
+use Rattle.std.specs.Prelude.{ℕ, ◌+◌, ◌≤◌, Bool, true, false, List, ◌≡◌, leb, eqb, if◌then◌else◌, Option, Some, None}
 use Rattle.format.specs.Bytes.{same_bytes}
 use Rattle.format.specs.Result.{Result, value, answer, ◌>>=◌}
 use Rattle.format.specs.Entry.{Entry}
@@ -8,8 +8,6 @@ use Rattle.format.specs.Lookup.{absent, hard, soft, compare_name}
 use Rattle.ledger.specs.Links.{link_sum}
 use Rattle.ledger.specs.Table.{linked_of, Table}
 use Rattle.visit.specs.declared.Link.{Link}
-use Rattle.visit.specs.declared.Visit.{Visit}
-use Rattle.visit.specs.declared.Visit.TheVariants.{Done, Full}
 
 -- what both uses find: the audit's ledger, and what a lookup knows of its name
 pub record Both : Type 0 where
@@ -46,18 +44,18 @@ TableIf auditing addresses counts objects = auditing ≡ true → Table addresse
 abbrev pub both_of : List ℕ → List ℕ → ℕ → Link → Both
 both_of addresses counts objects l = record { ledger = linked_of objects addresses counts; link = link_of l }
 
-abbrev pub visit_of : List ℕ → List ℕ → Visit → Result Both
-visit_of addresses counts (Done objects l) = value (both_of addresses counts objects l)
-visit_of addresses counts Full = answer 12
+abbrev pub visit_of : List ℕ → List ℕ → Option (ℕ × Link) → Result Both
+visit_of addresses counts (Some v) = value (both_of addresses counts v.0 v.1)
+visit_of addresses counts None = answer 12
 
 -- the table is one again, with one link more at most
-abbrev pub TableKept : Bool → List ℕ → List ℕ → ℕ → List ℕ → List ℕ → Visit → Type 0
-TableKept auditing addresses counts objects addresses' counts' (Done n l) =
-    TableIf auditing addresses' counts' n × (link_sum (linked_of n addresses' counts') ≤ link_sum (linked_of objects addresses counts) + 1)
-TableKept auditing addresses counts objects addresses' counts' Full = Unit {0}
+abbrev pub TableKept : Bool → List ℕ → List ℕ → ℕ → List ℕ → List ℕ → Option (ℕ × Link) → Type 0
+TableKept auditing addresses counts objects addresses' counts' (Some v) =
+    TableIf auditing addresses' counts' v.0 × (link_sum (linked_of v.0 addresses' counts') ≤ link_sum (linked_of objects addresses counts) + 1)
+TableKept auditing addresses counts objects addresses' counts' None = Unit {0}
 
 pub record Visited (addresses counts : List ℕ) (objects : ℕ) (auditing : Bool) (name wanted : List ℕ) (kind header : ℕ) (l : Link)
-    (addresses' counts' : List ℕ) (r : Visit) : Type 0 where
+    (addresses' counts' : List ℕ) (r : Option (ℕ × Link)) : Type 0 where
   pub walk : visit_of addresses' counts' r ≡ visit_both auditing wanted (record { name = name; type = kind; header = header })
       (both_of addresses counts objects l)
   pub table : TableKept auditing addresses counts objects addresses' counts' r

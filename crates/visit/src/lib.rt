@@ -8,7 +8,6 @@ ghost use Rattle.ledger.specs.Table.{linked_of};
 ghost use Rattle.visit.specs.Visit.{link_after, TableIf, Visited};
 
 use ledger::table;
-use ledger::table::Discovery;
 use order::same;
 
 // What a lookup has found: no entry of the wanted name, a hard link or a symbolic one.
@@ -34,10 +33,8 @@ fn is_wanted(name: &[u8], wanted: &[u8]) -> bool
     if n != wanted.len() {
         return false;
     }
-    if 0 < n {
-        if name[n - 1] != wanted[n - 1] {
-            return false;
-        }
+    if 0 < n && name[n - 1] != wanted[n - 1] {
+        return false;
     }
     same(name, wanted)
 }
@@ -62,12 +59,7 @@ fn compare(name: &[u8], wanted: &[u8], kind: u64, header: u64, link: Link) -> Li
     }
 }
 
-#[derive(Clone, Copy)]
-pub enum Visit {
-    Done { objects: usize, link: Link },
-    Full,
-}
-
+// The number of objects and a lookup's answer after an entry; nothing where the table of objects is full.
 pub fn visit_entry(
     addresses: &mut [u64],
     counts: &mut [u32],
@@ -78,24 +70,19 @@ pub fn visit_entry(
     kind: u64,
     header: u64,
     link: Link,
-) -> Visit
+) -> Option<(usize, Link)>
     requires table_if { TableIf auditing addresses.old counts.old objects }
     requires counts_bound { link_sum (linked_of objects addresses.old counts.old) + 1 < 2 ^ 32 }
     ensures { Visited addresses.old counts.old objects auditing name.now wanted.now kind header link
         addresses.new counts.new result }
 {
     if !auditing {
-        return Visit::Done {
-            objects,
-            link: compare(name, wanted, kind, header, link),
-        };
+        return Some((objects, compare(name, wanted, kind, header, link)));
     }
     let symbolic = 1 < kind;
     if symbolic {
-        return Visit::Done { objects, link };
+        return Some((objects, link));
     }
-    match table::discover(addresses, counts, objects, header) {
-        Discovery::Full => Visit::Full,
-        Discovery::Counted(n) => Visit::Done { objects: n, link },
-    }
+    let with_object = table::discover(addresses, counts, objects, header)?;
+    Some((with_object, link))
 }

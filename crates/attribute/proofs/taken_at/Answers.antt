@@ -1,10 +1,11 @@
--- The size is a number of two bytes, so that padding cannot overflow.
-use Rattle.attribute.proofs.AttributeLaws.{taken-padded, taken-plain}
-use borrow.Author.Tests.{eq-eqb, ne_eqb}
+-- Only version 1 is padded.
+use Prim.Native.Nat.{ℕ}
+use mathlib.Core.Path.{◌≡◌}
+use native.Mathlib.Omega.{arith}
+use Rattle.std.proofs.lemmas.Grind.{common_steps}
 use Rattle.attribute.proofs.taken_at.Goals as goal
 
 pub returns-then-padded : goal.returns-then-padded
-returns-then-padded c = taken-padded c.u16_at-size.ensures _ (eq-eqb _ _ c.if-padded.true)
-
-pub returns : goal.returns
-returns c = taken-plain c.u16_at-size.ensures _ (ne_eqb _ _ c.if-padded.false)
+returns-then-padded c =
+    let first : c.args.version ≡ 1 = c.if-padded.true in
+    grind (arith, common_steps)

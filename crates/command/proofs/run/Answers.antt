@@ -11,7 +11,7 @@ unfolding input_most output_most objects_most
 respond-requires g c = search rules
 
 pub slice_bounds-out-end : goal.slice_bounds-out-end
-slice_bounds-out-end g c = c.in-Text.ensures.text_within
+slice_bounds-out-end g c = c.in-Ok.ensures.text_within
 
 pub slice_bounds-print-end : goal.slice_bounds-print-end
-slice_bounds-print-end g c = sym (length-take-le _ c.respond.new.out c.in-Text.ensures.text_within)
+slice_bounds-print-end g c = sym (length-take-le _ c.respond.new.out c.in-Ok.ensures.text_within)

@@ -1,4 +1,5 @@
 -- The code's visit ends as the lookup's own.
+use Rattle.std.proofs.lemmas.Result.{err_from_is_err_and}
 use Rattle.component.proofs.ComponentLaws.{group-stopped, group-found}
 use Rattle.component.proofs.find.Goals as goal
 
@@ -8,12 +9,14 @@ read-requires c = record {
   ready = c.requires.by_index _ _;
 }
 
-pub returns-in-Stopped : goal.returns-in-Stopped
-returns-in-Stopped c =
-    group-stopped c.args.image.now c.args.name.now c.args.list.now _ _ c.args.superblock _ _ _ _ _ c.read.new.list
-    c.read.new.addresses c.read.new.counts _ c.in-Stopped.ensures
+pub returns-in_err-state : goal.returns-in_err-state
+returns-in_err-state c =
+    let p = err_from_is_err_and c.from_residual.result c.from_residual.ensures.1 in
+    rw (p.1, p.2)
+    (group-stopped c.args.image.now c.args.name.now c.args.list.now _ _ c.args.superblock _ _ _ _ _ c.read.new.list
+    c.read.new.addresses c.read.new.counts _ c.in_err-state.ensures)
 
-pub returns-in-Done : goal.returns-in-Done
-returns-in-Done c =
+pub returns : goal.returns
+returns c =
     group-found c.args.image.now c.args.name.now c.args.list.now _ _ c.args.superblock _ _ _ _ _ c.read.new.list
-    c.read.new.addresses c.read.new.counts _ _ c.in-Done.ensures c.target_of.ensures
+    c.read.new.addresses c.read.new.counts _ _ c.in_ok-state.ensures c.target_of.ensures

@@ -1,18 +1,11 @@
 -- Turn by turn, the walk has come to the continuations that wait at the cursor.
-use Prim.Native.Nat.{◌+◌}
 use mathlib.Core.Path.{refl}
-use Rattle.format.specs.Limits.{blocks_most}
 use Rattle.format.specs.Header.{continuations}
 use Rattle.laws.proofs.Simulation.{start}
-use Rattle.continuations.proofs.ContinuationLaws.{all_read, message-inside, not-read, block-lent, waits, followed}
+use Rattle.std.proofs.lemmas.Result.{err_from_is_err_and}
+use Rattle.continuations.proofs.ContinuationLaws.{all_read, not-read, block-lent, waits, followed, loop-now, loop-inside}
 use native.Mathlib.Omega.{arith}
 use Rattle.continuations.proofs.follow.Goals as goal
-
-pub seek-c-requires : goal.seek-c-requires
-seek-c-requires c = record {
-  count_in_bounds = omega (arith, c.requires.lending.lent.lent, c.requires.lending.lent.counted);
-  ready = c.requires.ready;
-}
 
 pub loop-c-init : goal.loop-c-init
 loop-c-init c = record {
@@ -34,103 +27,90 @@ loop-c-init c = record {
 
 pub overflow_add-at : goal.overflow_add-at
 overflow_add-at c =
-    let i = message-inside _ _ _ _ _ _ _ _ _ _ _ _ c.requires.lending.most (c.loop-c.invariant.going (blocks_most + 1) _ _ (omega arith) c.requires.lending.lent (c.seek-c.ensures _ c.requires.ready.1) c.requires.has_tally.1) c.loop-c-test.true in
+    let i = loop-inside c.loop-c.invariant c.requires.lending (c.seek-c.ensures _ c.requires.ready.1) c.requires.has_tally.1 c.loop-c-test.true in
     omega (arith, i.0, i.1)
 
 pub u64_at-address-requires : goal.u64_at-address-requires
 u64_at-address-requires c =
-    let i = message-inside _ _ _ _ _ _ _ _ _ _ _ _ c.requires.lending.most (c.loop-c.invariant.going (blocks_most + 1) _ _ (omega arith) c.requires.lending.lent (c.seek-c.ensures _ c.requires.ready.1) c.requires.has_tally.1) c.loop-c-test.true in
+    let i = loop-inside c.loop-c.invariant c.requires.lending (c.seek-c.ensures _ c.requires.ready.1) c.requires.has_tally.1 c.loop-c-test.true in
     omega (arith, i.0, i.1)
 
 pub overflow_add-at-in-loop-c : goal.overflow_add-at-in-loop-c
 overflow_add-at-in-loop-c c =
-    let i = message-inside _ _ _ _ _ _ _ _ _ _ _ _ c.requires.lending.most (c.loop-c.invariant.going (blocks_most + 1) _ _ (omega arith) c.requires.lending.lent (c.seek-c.ensures _ c.requires.ready.1) c.requires.has_tally.1) c.loop-c-test.true in
+    let i = loop-inside c.loop-c.invariant c.requires.lending (c.seek-c.ensures _ c.requires.ready.1) c.requires.has_tally.1 c.loop-c-test.true in
     omega (arith, i.0, i.1)
 
 pub u64_at-size-requires : goal.u64_at-size-requires
 u64_at-size-requires c =
-    let i = message-inside _ _ _ _ _ _ _ _ _ _ _ _ c.requires.lending.most (c.loop-c.invariant.going (blocks_most + 1) _ _ (omega arith) c.requires.lending.lent (c.seek-c.ensures _ c.requires.ready.1) c.requires.has_tally.1) c.loop-c-test.true in
+    let i = loop-inside c.loop-c.invariant c.requires.lending (c.seek-c.ensures _ c.requires.ready.1) c.requires.has_tally.1 c.loop-c-test.true in
     omega (arith, i.0, i.1)
 
 pub read_block-requires : goal.read_block-requires
 read_block-requires c =
-    let f = c.loop-c.invariant.going (blocks_most + 1) _ _ (omega arith) c.requires.lending.lent (c.seek-c.ensures _ c.requires.ready.1) c.requires.has_tally.1 in
+    let f = loop-now c.loop-c.invariant c.requires.lending (c.seek-c.ensures _ c.requires.ready.1) c.requires.has_tally.1 in
     record { lent = f.come.lent; most = c.requires.lending.most; file = c.requires.lending.file; counting = c.loop-c.invariant.counting }
 
-pub shape_of-list-in-Stopped : goal.shape_of-list-in-Stopped
-shape_of-list-in-Stopped c =
-    let f = c.loop-c.invariant.going (blocks_most + 1) _ _ (omega arith) c.requires.lending.lent (c.seek-c.ensures _ c.requires.ready.1) c.requires.has_tally.1 in
-    omega (arith, c.read_block.auto.list, f.come.same_length)
-
-pub returns-in-Stopped : goal.returns-in-Stopped
-returns-in-Stopped c = record {
-  by_index = λ fuel waiting sofar l w t.
-      let f = c.loop-c.invariant.going fuel waiting sofar l c.requires.lending.lent (c.seek-c.ensures waiting w) t in
-      not-read _ _ _ _ _ _ _ _ _ _ _ _ c.requires.lending.most f c.loop-c-test.true _ _ c.u64_at-address.ensures c.u64_at-size.ensures _ _ c.in-Stopped.ensures;
-  counting_on = tt;
-}
+pub returns-in_err-sofar-clause-by_index : goal.returns-in_err-sofar-clause-by_index
+returns-in_err-sofar-clause-by_index c = λ fuel waiting sofar l w t.
+    let p = err_from_is_err_and c.from_residual.result c.from_residual.ensures.1 in
+    let f = c.loop-c.invariant.going fuel waiting sofar l c.requires.lending.lent (c.seek-c.ensures waiting w) t in
+    rw (p.1, p.2)
+    (not-read _ _ _ _ _ _ _ _ _ _ _ _ c.requires.lending.most f c.loop-c-test.true _ _ c.u64_at-address.ensures c.u64_at-size.ensures _ _
+    c.in_err-sofar.ensures)
 
 pub overflow_add-next : goal.overflow_add-next
 overflow_add-next c =
-    let i = message-inside _ _ _ _ _ _ _ _ _ _ _ _ c.requires.lending.most (c.loop-c.invariant.going (blocks_most + 1) _ _ (omega arith) c.requires.lending.lent (c.seek-c.ensures _ c.requires.ready.1) c.requires.has_tally.1) c.loop-c-test.true in
+    let i = loop-inside c.loop-c.invariant c.requires.lending (c.seek-c.ensures _ c.requires.ready.1) c.requires.has_tally.1 c.loop-c-test.true in
     omega (arith, i.0, i.1)
 
-pub overflow_add-at-in-Done : goal.overflow_add-at-in-Done
-overflow_add-at-in-Done c =
-    let i = message-inside _ _ _ _ _ _ _ _ _ _ _ _ c.requires.lending.most (c.loop-c.invariant.going (blocks_most + 1) _ _ (omega arith) c.requires.lending.lent (c.seek-c.ensures _ c.requires.ready.1) c.requires.has_tally.1) c.loop-c-test.true in
+pub overflow_add-at-in-loop-c-2 : goal.overflow_add-at-in-loop-c-2
+overflow_add-at-in-loop-c-2 c =
+    let i = loop-inside c.loop-c.invariant c.requires.lending (c.seek-c.ensures _ c.requires.ready.1) c.requires.has_tally.1 c.loop-c-test.true in
     omega (arith, i.0, i.1)
 
 pub u16_at-requires : goal.u16_at-requires
 u16_at-requires c =
-    let i = message-inside _ _ _ _ _ _ _ _ _ _ _ _ c.requires.lending.most (c.loop-c.invariant.going (blocks_most + 1) _ _ (omega arith) c.requires.lending.lent (c.seek-c.ensures _ c.requires.ready.1) c.requires.has_tally.1) c.loop-c-test.true in
+    let i = loop-inside c.loop-c.invariant c.requires.lending (c.seek-c.ensures _ c.requires.ready.1) c.requires.has_tally.1 c.loop-c-test.true in
     omega (arith, i.0, i.1)
 
-pub overflow_add-next-in-Done : goal.overflow_add-next-in-Done
-overflow_add-next-in-Done c =
-    let i = message-inside _ _ _ _ _ _ _ _ _ _ _ _ c.requires.lending.most (c.loop-c.invariant.going (blocks_most + 1) _ _ (omega arith) c.requires.lending.lent (c.seek-c.ensures _ c.requires.ready.1) c.requires.has_tally.1) c.loop-c-test.true in
+pub overflow_add-next-in-loop-c : goal.overflow_add-next-in-loop-c
+overflow_add-next-in-loop-c c =
+    let i = loop-inside c.loop-c.invariant c.requires.lending (c.seek-c.ensures _ c.requires.ready.1) c.requires.has_tally.1 c.loop-c-test.true in
     omega (arith, i.0, i.1, c.u16_at.ensures.value)
 
-pub seek-c-requires-in-Done : goal.seek-c-requires-in-Done
-seek-c-requires-in-Done c =
-    let f = c.loop-c.invariant.going (blocks_most + 1) _ _ (omega arith) c.requires.lending.lent (c.seek-c.ensures _ c.requires.ready.1) c.requires.has_tally.1 in
-    let b = c.in-Done.ensures in
-    let l = block-lent _ _ _ _ _ _ _ _ _ _ _ _ c.requires.lending.most f c.loop-c-test.true _ _ c.u64_at-address.ensures c.u64_at-size.ensures _ _ b.new _ _ c.read_block.auto.list b.walked b.block b.tally in
-    let w = waits _ _ _ _ _ _ _ _ _ _ _ _ c.requires.lending.most f c.loop-c-test.true _ _ c.u64_at-address.ensures c.u64_at-size.ensures _ _ b.new _ _ c.read_block.auto.list b.walked b.block b.tally in
-    record {
-      count_in_bounds = omega (arith, l.lent, l.counted);
-      ready = (_, rw (← c.u16_at.ensures.value) at w);
-    }
+pub seek-c-requires-in-loop-c-clause-ready : goal.seek-c-requires-in-loop-c-clause-ready
+seek-c-requires-in-loop-c-clause-ready c =
+    let f = loop-now c.loop-c.invariant c.requires.lending (c.seek-c.ensures _ c.requires.ready.1) c.requires.has_tally.1 in
+    let b = c.in_ok-sofar.ensures in
+    let w = waits _ _ _ _ _ _ _ _ _ _ _ _ c.requires.lending.most f c.loop-c-test.true _ _ c.u64_at-address.ensures
+    c.u64_at-size.ensures _ _ b.new _ _ c.read_block.auto.list b.walked b.block b.tally in
+    (_, rw (← c.u16_at.ensures.value) at w)
 
 pub loop-c-smaller : goal.loop-c-smaller
 loop-c-smaller c =
-    let f = c.loop-c.invariant.going (blocks_most + 1) _ _ (omega arith) c.requires.lending.lent (c.seek-c.ensures _ c.requires.ready.1) c.requires.has_tally.1 in
-    let b = c.in-Done.ensures in
-    let l = block-lent _ _ _ _ _ _ _ _ _ _ _ _ c.requires.lending.most f c.loop-c-test.true _ _ c.u64_at-address.ensures c.u64_at-size.ensures _ _ b.new _ _ c.read_block.auto.list b.walked b.block b.tally in
+    let f = loop-now c.loop-c.invariant c.requires.lending (c.seek-c.ensures _ c.requires.ready.1) c.requires.has_tally.1 in
+    let b = c.in_ok-sofar.ensures in
+    let l = block-lent _ _ _ _ _ _ _ _ _ _ _ _ c.requires.lending.most f c.loop-c-test.true _ _ c.u64_at-address.ensures
+    c.u64_at-size.ensures _ _ b.new _ _ c.read_block.auto.list b.walked b.block b.tally in
     omega (arith, l.counted, b.block.counted)
 
 pub loop-c-preserved : goal.loop-c-preserved
 loop-c-preserved c =
-    let b = c.in-Done.ensures in
+    let b = c.in_ok-sofar.ensures in
     record {
       going = λ fuel waiting sofar l k o t.
           let f = c.loop-c.invariant.going fuel waiting sofar l k o t in
-          followed _ _ _ _ _ _ _ _ _ _ _ _ c.requires.lending.most f c.loop-c-test.true _ _ c.u64_at-address.ensures c.u64_at-size.ensures _ _ b.new _ _ c.read_block.auto.list b.walked b.block b.tally _
-          (c.seek-c-in-Done.ensures _ (rw c.u16_at.ensures.value (waits _ _ _ _ _ _ _ _ _ _ _ _ c.requires.lending.most f c.loop-c-test.true _ _ c.u64_at-address.ensures c.u64_at-size.ensures _ _ b.new _ _ c.read_block.auto.list b.walked b.block b.tally)));
+          let w = waits _ _ _ _ _ _ _ _ _ _ _ _ c.requires.lending.most f c.loop-c-test.true _ _ c.u64_at-address.ensures
+          c.u64_at-size.ensures _ _ b.new _ _ c.read_block.auto.list b.walked b.block b.tally in
+          followed _ _ _ _ _ _ _ _ _ _ _ _ c.requires.lending.most f c.loop-c-test.true _ _ c.u64_at-address.ensures
+          c.u64_at-size.ensures _ _ b.new _ _ c.read_block.auto.list b.walked b.block b.tally _ (c.seek-c-in-loop-c.ensures _ (rw c.u16_at.ensures.value w));
       counting = b.counting;
       addresses_same = omega (arith, c.read_block.auto.addresses, c.loop-c.invariant.addresses_same);
       counts_same = omega (arith, c.read_block.auto.counts, c.loop-c.invariant.counts_same);
       marks_same = omega (arith, c.read_block.auto.marks, c.loop-c.invariant.marks_same);
     }
 
-pub shape_of-list : goal.shape_of-list
-shape_of-list c =
-    let f = c.loop-c.invariant.going (blocks_most + 1) _ _ (omega arith) c.requires.lending.lent (c.seek-c.ensures _ c.requires.ready.1) c.requires.has_tally.1 in
-    f.come.same_length
-
-pub returns : goal.returns
-returns c = record {
-  by_index = λ fuel waiting sofar l w t.
-      let f = c.loop-c.invariant.going fuel waiting sofar l c.requires.lending.lent (c.seek-c.ensures waiting w) t in
-      (f.sofar, all_read _ _ _ _ _ _ _ _ _ _ _ _ c.requires.lending.most f c.loop-c-test.false, f.tally);
-  counting_on = c.loop-c.invariant.counting;
-}
+pub returns-clause-by_index : goal.returns-clause-by_index
+returns-clause-by_index c = λ fuel waiting sofar l w t.
+    let f = c.loop-c.invariant.going fuel waiting sofar l c.requires.lending.lent (c.seek-c.ensures waiting w) t in
+    (f.sofar, all_read _ _ _ _ _ _ _ _ _ _ _ _ c.requires.lending.most f c.loop-c-test.false, f.tally)

@@ -14,22 +14,22 @@ returns-then-not-is_sound c =
 pub describe_path-requires : goal.describe_path-requires
 describe_path-requires c =
     record {
-      bounded = c.in-Opened.ensures.fields_bounded;
+      bounded = c.in-Ok.ensures.fields_bounded;
       in_bounds = c.is_sound.ensures.begun c.if-not-is_sound.false;
     }
 
-pub returns-in-NotOpened : goal.returns-in-NotOpened
-returns-in-NotOpened c =
+pub returns-in-Err : goal.returns-in-Err
+returns-in-Err c =
     record {
-      block_count_bound = none_within _ (fault c.in-NotOpened.x 0) _ c.refused-in-NotOpened.ensures;
-      by_index = not-opened-is c.args.image.now c.args.path.now c.args.list.now _ _ c.is_sound.ensures c.if-not-is_sound.false c.in-NotOpened.x
-          c.in-NotOpened.ensures.result_value c.refused-in-NotOpened.ensures;
+      block_count_bound = none_within _ (fault c.in-Err.answer 0) _ c.refused-in-Err.ensures;
+      by_index = not-opened-is c.args.image.now c.args.path.now c.args.list.now _ _ c.is_sound.ensures c.if-not-is_sound.false c.in-Err.answer
+          c.in-Err.ensures.result_value c.refused-in-Err.ensures;
     }
 
-pub returns-in-Opened : goal.returns-in-Opened
-returns-in-Opened c =
+pub returns-in-Ok : goal.returns-in-Ok
+returns-in-Ok c =
     record {
       block_count_bound = c.describe_path.ensures.block_count_bound;
       by_index = opened-is c.args.image.now c.args.path.now c.describe_path.new.list _ _ c.is_sound.ensures c.if-not-is_sound.false
-          (superblock_of c.in-Opened.s) c.in-Opened.ensures.result_value c.describe_path.ensures.by_index;
+          (superblock_of c.in-Ok.superblock) c.in-Ok.ensures.result_value c.describe_path.ensures.by_index;
     }

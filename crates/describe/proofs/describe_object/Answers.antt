@@ -14,24 +14,24 @@ dataset_at-requires c =
     }
 
 pub described-requires : goal.described-requires
-described-requires c = c.in-Read.ensures.readable
+described-requires c = c.in-Ok.ensures.readable
 
-pub returns-in-Stopped : goal.returns-in-Stopped
-returns-in-Stopped c =
+pub returns-in-Err : goal.returns-in-Err
+returns-in-Err c =
     record {
-      block_count_bound = none_within _ c.in-Stopped.x _ c.refused.ensures;
+      block_count_bound = none_within _ c.in-Err.refusal _ c.refused.ensures;
       by_index = object-stopped c.args.image.now c.args.superblock.end_of_file c.places-room.result
-          (dataset_at_walk (superblock_of c.args.superblock) c.args.at) c.args.list.now c.dataset_at.new.list c.places-room.ensures c.in-Stopped.x
-          c.in-Stopped.ensures _ c.refused.ensures;
+          (dataset_at_walk (superblock_of c.args.superblock) c.args.at) c.args.list.now c.dataset_at.new.list c.places-room.ensures c.in-Err.refusal
+          c.in-Err.ensures _ c.refused.ensures;
     }
 
-pub returns-in-Read : goal.returns-in-Read
-returns-in-Read c =
+pub returns-in-Ok : goal.returns-in-Ok
+returns-in-Ok c =
     record {
       block_count_bound = object-within c.args.image.now c.args.superblock.end_of_file c.places-room.result
           (dataset_at_walk (superblock_of c.args.superblock) c.args.at) c.args.list.now c.dataset_at.new.list c.places-room.ensures
-          c.in-Read.dataset c.in-Read.space c.in-Read.count c.in-Read.ensures _ c.described.ensures;
+          c.in-Ok.read.dataset c.in-Ok.read.space c.in-Ok.read.count c.in-Ok.ensures _ c.described.ensures;
       by_index = object-described c.args.image.now c.args.superblock.end_of_file c.places-room.result
           (dataset_at_walk (superblock_of c.args.superblock) c.args.at) c.args.list.now c.dataset_at.new.list c.places-room.ensures
-          c.in-Read.dataset c.in-Read.space c.in-Read.count c.in-Read.ensures _ c.described.ensures;
+          c.in-Ok.read.dataset c.in-Ok.read.space c.in-Ok.read.count c.in-Ok.ensures _ c.described.ensures;
     }

@@ -6,7 +6,9 @@ use mathlib.Core.Path.{refl, ap, sym, subst, ◌∙◌}
 use Rattle.superblock.specs.Superblock.{superblock_of}
 use Rattle.component.specs.Component.{EndsAs}
 use Rattle.follow.specs.Follow.{target_run}
-use Rattle.component.specs.declared.Target.TheVariants.{Object, Symbolic, Stopped}
+use Rattle.component.specs.declared.Target.TheVariants.{Object, Symbolic}
+use Rattle.std.specs.Prelude.{Ok, Err}
+use Rattle.std.proofs.lemmas.Result.{err_from_is_err_and}
 use Rattle.follow.proofs.FollowLaws.{rest-first, object-next, symbolic-next, stopped-next, none_left, root-alone, lent_same}
 use Rattle.follow.proofs.follow.Goals as goal
 
@@ -28,17 +30,19 @@ slice_bounds-component-end c = c.component_end-end.ensures.inside
 pub component-requires : goal.component-requires
 component-requires c = record { opened = c.requires.opened; lent = c.loop-from.invariant.1 }
 
-pub returns-in-Stopped : goal.returns-in-Stopped
-returns-in-Stopped c =
-    subst (EndsAs (Stopped c.in-Stopped.x)) (sym c.loop-from.invariant.0)
+pub returns-in_err-target : goal.returns-in_err-target
+returns-in_err-target c =
+    let p = err_from_is_err_and c.from_residual.result c.from_residual.ensures.1 in
+    rw (p.1, p.2)
+    (subst (EndsAs (Err c.in_err-target.field-0.0)) (sym c.loop-from.invariant.0)
     (stopped-next c.args.image.now c.args.path.now (superblock_of c.args.superblock) c.args.room c.loop-from.from
-    c.component_end-end.result c.loop-from.at (omega arith) c.component_end-end.ensures c.in-Stopped.x c.in-Stopped.ensures.found)
+    c.component_end-end.result c.loop-from.at (omega arith) c.component_end-end.ensures _ c.in_err-target.ensures.found))
 
 pub returns-in-Symbolic : goal.returns-in-Symbolic
 returns-in-Symbolic c =
-    subst (EndsAs Symbolic) (sym c.loop-from.invariant.0)
+    subst (EndsAs (Ok Symbolic)) (sym c.loop-from.invariant.0)
     (symbolic-next c.args.image.now c.args.path.now (superblock_of c.args.superblock) c.args.room c.loop-from.from
-    c.component_end-end.result c.loop-from.at (omega arith) c.component_end-end.ensures c.in-Symbolic.ensures.found)
+    c.component_end-end.result c.loop-from.at (omega arith) c.component_end-end.ensures (rw c.in-Symbolic.is at c.in_ok-target.ensures).found)
 
 pub overflow_add-from : goal.overflow_add-from
 overflow_add-from c = omega (arith, c.component_end-end.ensures.inside)
@@ -50,7 +54,7 @@ pub loop-from-preserved : goal.loop-from-preserved
 loop-from-preserved c = (
   c.loop-from.invariant.0 ∙ object-next c.args.image.now c.args.path.now (superblock_of c.args.superblock) c.args.room
       c.loop-from.from c.component_end-end.result c.loop-from.at (omega arith) c.component_end-end.ensures
-      c.in-Object.a c.in-Object.ensures.found,
+      c.in-Object.address (rw c.in-Object.is at c.in_ok-target.ensures).found,
   lent_same c.loop-from.invariant.1 c.component.auto.list,
   c.component.auto.list ∙ c.loop-from.invariant.2,
   omega (arith, c.component_end-end.ensures.inside),
@@ -58,5 +62,5 @@ loop-from-preserved c = (
 
 pub returns : goal.returns
 returns c =
-    subst (EndsAs (Object c.loop-from.at)) (sym c.loop-from.invariant.0)
+    subst (EndsAs (Ok (Object c.loop-from.at))) (sym c.loop-from.invariant.0)
     (none_left c.args.image.now c.args.path.now _ _ c.loop-from.from c.loop-from.at (omega arith))

@@ -7,17 +7,17 @@ use Rattle.free_list.proofs.FreeLaws.{none-held, free-none, free-undefined, free
 use Rattle.free_list.proofs.FreeLaws.{block-unsound, block_inside, block_held, block-spanned, block_last, block_more, free-long}
 use native.Mathlib.Omega.{arith}
 use Rattle.free_list.proofs.free_list.Goals as goal
+use Rattle.free_list.proofs.free_list.Goals.{then-head-eq1-via-then-head-eq1, then-head-eq1-via-else-head-eq1+then-head-eq-UNDEFINED_ADDRESS}
 
 pub returns-then-head-eq1 : goal.returns-then-head-eq1
-unfolding chain
-returns-then-head-eq1 c =
-    record { value = free-none _ _ (eq-eqb c.args.head 1 (omega arith)); held = none-held c.requires.zeros; long = refl }
-
-pub returns-then-head-eq-UNDEFINED_ADDRESS : goal.returns-then-head-eq-UNDEFINED_ADDRESS
 unfolding chain undefined_address
-returns-then-head-eq-UNDEFINED_ADDRESS c =
+returns-then-head-eq1 c =
     let head = c.args.head in record {
-      value = free-undefined _ _ (ne_eqb head 1 (λ e. omega arith)) (eq-eqb head undefined_address (omega arith));
+      value = elim c.then-head-eq1.branch [
+        | then-head-eq1-via-then-head-eq1 w ↦ free-none _ _ (eq-eqb head 1 (omega arith))
+        | then-head-eq1-via-else-head-eq1+then-head-eq-UNDEFINED_ADDRESS w ↦
+            free-undefined _ _ (ne_eqb head 1 (λ e. omega arith)) (eq-eqb head undefined_address (omega arith))
+      ];
       held = none-held c.requires.zeros;
       long = refl;
     }

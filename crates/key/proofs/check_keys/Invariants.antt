@@ -1,10 +1,6 @@
 -- Turn by turn, the walk of the keys from here on.
-use Prim.Native.Nat.{◌-◌, ◌≤◌}
 use Rattle.key.proofs.KeyLaws.{KeysFrom}
 use Rattle.key.proofs.check_keys.Given as goal
 
 abbrev pub invariant-loop-i : goal.invariant-loop-i
-invariant-loop-i l = (l.i ≤ l.n) × KeysFrom l.image l.segment l.from l.n l.i
-
-abbrev pub decreases-loop-i : goal.decreases-loop-i
-decreases-loop-i l = l.n - l.i
+invariant-loop-i l = KeysFrom l.image l.segment l.from l.n l.i

@@ -11,17 +11,11 @@ unfolding name_most
 overflow_add-limits c = omega (arith, c.the_limits-limits.ensures.name_most_equal)
 
 pub nul_within-end-requires : goal.nul_within-end-requires
-nul_within-end-requires c =
-    let off = c in
-    let start = off in
-    omega (arith, key-starts start.args.image.now _ _ _ start.requires off.u64_at-off.ensures.value)
+nul_within-end-requires c = omega (arith, key-starts c.args.image.now _ _ _ c.requires c.u64_at-off.ensures.value)
 
 pub returns : goal.returns
 returns c =
-    let found = c in
-    let off = found in
-    let start = off in
-    let n : NulWithin start.args.segment.now off.u64_at-off.result (name_most + 1) found.nul_within-end.result =
-    rw off.the_limits-limits.ensures.name_most_equal at found.nul_within-end.ensures in
+    let n : NulWithin c.args.segment.now c.u64_at-off.result (name_most + 1) c.nul_within-end.result =
+    rw c.the_limits-limits.ensures.name_most_equal at c.nul_within-end.ensures in
     rw (c.first_number.ensures, c.second_number.ensures)
-    (key-cut start.args.image.now _ _ _ start.requires off.u64_at-off.ensures.value _ n)
+    (key-cut c.args.image.now _ _ _ c.requires c.u64_at-off.ensures.value _ n)

@@ -1,28 +1,20 @@
 -- Each answer by the counts that hold.
 use mathlib.Core.Path.{refl, sym, ◌∙◌}
 use Rattle.kind.proofs.KindLaws.{located, object-committed, object-shared, object-none}
-use Rattle.kind.proofs.KindLaws.{table-placed, known-group, space-placed, datatype-placed, layout-placed, known-dataset, committed-placed}
+use Rattle.kind.proofs.KindLaws.{table-room, known-group, space-placed, datatype-placed, layout-placed, known-dataset, committed-placed}
 use Rattle.kind.proofs.KindLaws.{committed-flags}
 use native.Mathlib.Omega.{arith}
 use borrow.Author.Tests.{eq-eqb, ne_eqb}
 use Rattle.kind.proofs.kind_of.Goals as goal
 
 pub u64_at-requires : goal.u64_at-requires
-u64_at-requires c =
-    let p = table-placed _ 0 _ _ c.requires.1 (sym (c.counts_are.ensures _ _ c.requires.1) ∙ c.if-counts_are.true) in
-    omega (arith, p.body, p.long refl)
+u64_at-requires c = omega (arith, table-room _ 0 _ _ c.requires.1 (sym (c.counts_are.ensures _ _ c.requires.1) ∙ c.if-counts_are.true))
 
 pub overflow_add-place : goal.overflow_add-place
-overflow_add-place c =
-    let p = table-placed _ 0 _ _ c.requires.1
-    (sym (c.counts_are.ensures _ _ c.requires.1) ∙ c.if-counts_are.true) in
-    omega (arith, p.body, p.long refl)
+overflow_add-place c = omega (arith, table-room _ 0 _ _ c.requires.1 (sym (c.counts_are.ensures _ _ c.requires.1) ∙ c.if-counts_are.true))
 
 pub u64_at-requires-then-counts_are : goal.u64_at-requires-then-counts_are
-u64_at-requires-then-counts_are c =
-    let p = table-placed _ 0 _ _ c.requires.1
-    (sym (c.counts_are.ensures _ _ c.requires.1) ∙ c.if-counts_are.true) in
-    omega (arith, p.body, p.long refl)
+u64_at-requires-then-counts_are c = omega (arith, table-room _ 0 _ _ c.requires.1 (sym (c.counts_are.ensures _ _ c.requires.1) ∙ c.if-counts_are.true))
 
 pub returns-then-counts_are : goal.returns-then-counts_are
 returns-then-counts_are c = record {
@@ -66,32 +58,31 @@ body_at-body-requires c =
     located _ 0x0003 _ (committed-placed _ 0 _ _ t (sym (c.counts_are-3.ensures _ _ t) ∙ c.if-counts_are-3.true))
 
 pub returns-then-body-eq1 : goal.returns-then-body-eq1
-returns-then-body-eq1 c =
-    let body = c.body_at-body.ensures in
-    record {
-      known = λ ms t.
-          object-shared _ ms (sym (c.counts_are.ensures _ ms t) ∙ c.if-counts_are.false) (sym (c.counts_are-2.ensures _ ms t) ∙ c.if-counts_are-2.false) (sym (c.counts_are-3.ensures _ ms t) ∙ c.if-counts_are-3.true)
-          (rw (committed-flags _ 0 _ _ t (sym (c.counts_are-3.ensures _ ms t) ∙ c.if-counts_are-3.true) _ body) (eq-eqb _ 1 c.if-body-eq1.true));
-      bodies = tt;
-    }
+returns-then-body-eq1 c = record {
+  known = λ ms t.
+      let group = sym (c.counts_are.ensures _ ms t) ∙ c.if-counts_are.false in
+      let dataset = sym (c.counts_are-2.ensures _ ms t) ∙ c.if-counts_are-2.false in
+      let committed = sym (c.counts_are-3.ensures _ ms t) ∙ c.if-counts_are-3.true in
+      object-shared _ ms group dataset committed (rw (committed-flags _ 0 _ _ t committed _ c.body_at-body.ensures) (eq-eqb _ 1 c.if-body-eq1.true));
+  bodies = tt;
+}
 
 pub returns-then-counts_are-3 : goal.returns-then-counts_are-3
-returns-then-counts_are-3 c =
-    let body = c.body_at-body.ensures in
-    record {
-      known = λ ms t. (
-        object-committed _ ms (sym (c.counts_are.ensures _ ms t) ∙ c.if-counts_are.false) (sym (c.counts_are-2.ensures _ ms t) ∙ c.if-counts_are-2.false) (sym (c.counts_are-3.ensures _ ms t) ∙ c.if-counts_are-3.true)
-            (rw (committed-flags _ 0 _ _ t (sym (c.counts_are-3.ensures _ ms t) ∙ c.if-counts_are-3.true) _ body) (ne_eqb _ 1 c.if-body-eq1.false)),
-        refl,
-      );
-      bodies = tt;
-    }
+returns-then-counts_are-3 c = record {
+  known = λ ms t.
+      let group = sym (c.counts_are.ensures _ ms t) ∙ c.if-counts_are.false in
+      let dataset = sym (c.counts_are-2.ensures _ ms t) ∙ c.if-counts_are-2.false in
+      let committed = sym (c.counts_are-3.ensures _ ms t) ∙ c.if-counts_are-3.true in
+      (object-committed _ ms group dataset committed (rw (committed-flags _ 0 _ _ t committed _ c.body_at-body.ensures) (ne_eqb _ 1 c.if-body-eq1.false)), refl);
+  bodies = tt;
+}
 
 pub returns : goal.returns
-returns c =
-    record {
-      known = λ ms t.
-          object-none _ ms (sym (c.counts_are.ensures _ ms t) ∙ c.if-counts_are.false) (sym (c.counts_are-2.ensures _ ms t) ∙ c.if-counts_are-2.false)
-          (sym (c.counts_are-3.ensures _ ms t) ∙ c.if-counts_are-3.false);
-      bodies = tt;
-    }
+returns c = record {
+  known = λ ms t.
+      let group = sym (c.counts_are.ensures _ ms t) ∙ c.if-counts_are.false in
+      let dataset = sym (c.counts_are-2.ensures _ ms t) ∙ c.if-counts_are-2.false in
+      let committed = sym (c.counts_are-3.ensures _ ms t) ∙ c.if-counts_are-3.false in
+      object-none _ ms group dataset committed;
+  bodies = tt;
+}

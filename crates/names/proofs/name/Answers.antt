@@ -1,77 +1,61 @@
 -- How many bytes the name has, then the free blocks.
-use Prim.Native.Nat.{◌+◌, ◌<◌}
 use mathlib.Core.List.{[]}
 use mathlib.Core.Path.{sym, ◌∙◌}
-use lib.ListN.{length}
 use Rattle.nul.proofs.NulLaws.{ends}
-use Rattle.names.proofs.NameLaws.{same_check, key-inside, name-fault}
+use Rattle.names.proofs.NameLaws.{key-checked, name-fault}
 use Rattle.names.proofs.FormLaws.{name-formless, name-inside, name-alone, name-hit, name-missed}
 use Rattle.names.proofs.ValueLaws.{none-followed}
 use native.Mathlib.Omega.{arith}
+use Rattle.std.proofs.lemmas.Result.{err_from_is_err_and}
 use Rattle.names.proofs.name.Goals as goal
+use Rattle.names.proofs.name.Goals.{else-free-ne0-via-then-free-ne0+else-meets_free, else-free-ne0-via-else-free-ne0}
+
+pub returns-in_err-key : goal.returns-in_err-key
+returns-in_err-key c =
+    let p = err_from_is_err_and c.from_residual.result c.from_residual.ensures.1 in
+    rw (p.1, p.2) (record { value = name-fault _ _ (c.in_err-key.ensures _); inside = tt })
 
 pub name_size-size-requires : goal.name_size-size-requires
-name_size-size-requires c =
-    let inside : c.args.off < c.args.ended = key-inside c.args.segment.now c.args.ended c.args.off [] c.requires.last_nul (same_check _ c.in-Sound.is (c.key.ensures [])).1 in
-    ends c.args.segment.now c.args.ended c.args.off c.requires.last_nul inside
+name_size-size-requires c = ends _ _ _ c.requires.last_nul (key-checked _ c.requires.last_nul c.in_ok-key.ensures)
 
 pub returns-then-size-eq0 : goal.returns-then-size-eq0
 returns-then-size-eq0 c =
-    let inside : c.args.off < c.args.ended = key-inside c.args.segment.now c.args.ended c.args.off [] c.requires.last_nul (same_check _ c.in-Sound.is (c.key.ensures [])).1 in
-    let a = c.args in
+    let l = c.requires.last_nul in
     record {
-      value = name-formless a.segment.now a.ended a.off _ c.requires.last_nul inside c.name_size-size.ensures c.if-size-eq0.true;
+      value = name-formless _ _ _ _ l (key-checked _ l c.in_ok-key.ensures) c.name_size-size.ensures c.if-size-eq0.true;
       inside = tt;
-    }
-
-pub returns-then-free-eq0 : goal.returns-then-free-eq0
-returns-then-free-eq0 c =
-    let inside : c.args.off < c.args.ended = key-inside c.args.segment.now c.args.ended c.args.off [] c.requires.last_nul (same_check _ c.in-Sound.is (c.key.ensures [])).1 in
-    let whole : c.args.off + c.name_size-size.result < length c.args.segment.now = name-inside c.args.segment.now c.args.ended c.args.off [] c.requires.last_nul inside c.name_size-size.ensures c.if-size-eq0.false in
-    let a = c.args in
-    record {
-      value =
-          name-alone a.segment.now a.ended a.off _ c.requires.last_nul inside c.name_size-size.ensures c.if-size-eq0.false
-          (none-followed _ _ c.if-free-eq0.true);
-      inside = whole;
     }
 
 pub overflow_add-size : goal.overflow_add-size
 overflow_add-size c =
-    let inside : c.args.off < c.args.ended = key-inside c.args.segment.now c.args.ended c.args.off [] c.requires.last_nul (same_check _ c.in-Sound.is (c.key.ensures [])).1 in
-    let whole : c.args.off + c.name_size-size.result < length c.args.segment.now = name-inside c.args.segment.now c.args.ended c.args.off [] c.requires.last_nul inside c.name_size-size.ensures c.if-size-eq0.false in
-    record { fits = omega (arith, whole) }
+    let l = c.requires.last_nul in
+    record { fits = omega (arith, name-inside _ _ _ [] l (key-checked _ l c.in_ok-key.ensures) c.name_size-size.ensures c.if-size-eq0.false) }
 
-pub meets_free-requires : goal.meets_free-requires
-meets_free-requires c =
-    let inside : c.args.off < c.args.ended = key-inside c.args.segment.now c.args.ended c.args.off [] c.requires.last_nul (same_check _ c.in-Sound.is (c.key.ensures [])).1 in
-    let whole : c.args.off + c.name_size-size.result < length c.args.segment.now = name-inside c.args.segment.now c.args.ended c.args.off [] c.requires.last_nul inside c.name_size-size.ensures c.if-size-eq0.false in
-    record {
-      held = c.requires.held;
-      size_nonzero = omega arith;
-      size_in_bounds = omega (arith, whole);
-    }
+pub meets_free-requires-clause-size_in_bounds : goal.meets_free-requires-clause-size_in_bounds
+meets_free-requires-clause-size_in_bounds c =
+    let l = c.requires.last_nul in
+    omega (arith, name-inside _ _ _ [] l (key-checked _ l c.in_ok-key.ensures) c.name_size-size.ensures c.if-size-eq0.false)
 
 pub returns-then-meets_free : goal.returns-then-meets_free
 returns-then-meets_free c =
-    let inside : c.args.off < c.args.ended = key-inside c.args.segment.now c.args.ended c.args.off [] c.requires.last_nul (same_check _ c.in-Sound.is (c.key.ensures [])).1 in
-    let a = c.args in
-    let met = sym c.meets_free.ensures ∙ c.if-meets_free.true in record {
+    let l = c.requires.last_nul in
+    record {
       value =
-          name-hit a.segment.now a.ended a.off _ c.requires.last_nul inside c.name_size-size.ensures c.if-size-eq0.false met;
+          name-hit _ _ _ _ l (key-checked _ l c.in_ok-key.ensures) c.name_size-size.ensures c.if-size-eq0.false
+          (sym c.meets_free.ensures ∙ c.if-meets_free.true);
       inside = tt;
     }
 
-pub returns-in-Fault : goal.returns-in-Fault
-returns-in-Fault c = record { value = name-fault _ _ (same_check _ c.in-Fault.is (c.key.ensures _)); inside = tt }
-
-pub returns-else-meets_free : goal.returns-else-meets_free
-returns-else-meets_free c =
-    let inside : c.args.off < c.args.ended = key-inside c.args.segment.now c.args.ended c.args.off [] c.requires.last_nul (same_check _ c.in-Sound.is (c.key.ensures [])).1 in
-    let whole : c.args.off + c.name_size-size.result < length c.args.segment.now = name-inside c.args.segment.now c.args.ended c.args.off [] c.requires.last_nul inside c.name_size-size.ensures c.if-size-eq0.false in
-    let a = c.args in
-    let met = sym c.meets_free.ensures ∙ c.if-meets_free.false in record {
-      value =
-          name-missed a.segment.now a.ended a.off _ c.requires.last_nul inside c.name_size-size.ensures c.if-size-eq0.false met;
-      inside = whole;
+pub returns : goal.returns
+returns c =
+    let l = c.requires.last_nul in
+    let k = key-checked _ l c.in_ok-key.ensures in
+    record {
+      value = elim c.else-free-ne0.branch [
+        | else-free-ne0-via-then-free-ne0+else-meets_free w ↦
+            name-missed _ _ _ _ l k c.name_size-size.ensures c.if-size-eq0.false (sym w.meets_free.ensures ∙ w.if-meets_free.false)
+        | else-free-ne0-via-else-free-ne0 w ↦
+            name-alone _ _ _ _ l k c.name_size-size.ensures c.if-size-eq0.false (none-followed _ _ (omega arith))
+      ];
+      inside = name-inside _ _ _ [] l k c.name_size-size.ensures c.if-size-eq0.false;
     }

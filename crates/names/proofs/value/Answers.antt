@@ -1,42 +1,34 @@
 -- The string that stands there; then there is no free block, or it is known whether the string ends outside them.
-use Prim.Native.Nat.{◌<◌}
-use mathlib.Core.List.{[]}
 use mathlib.Core.Path.{sym, ◌∙◌}
 use Rattle.format.specs.Names.{string_at}
 use Rattle.nul.proofs.NulLaws.{ends}
-use Rattle.names.proofs.NameLaws.{same_check, key-inside, value-fault}
+use Rattle.names.proofs.NameLaws.{key-checked, value-fault}
 use Rattle.names.proofs.ValueLaws.{value-alone, none-followed, value-sound, value-in-free}
+use native.Mathlib.Omega.{arith}
+use Rattle.std.proofs.lemmas.Result.{err_from_is_err_and}
 use Rattle.names.proofs.value.Goals as goal
+use Rattle.names.proofs.value.Goals.{else-free-ne0-via-then-free-ne0+else-not-outside_free, else-free-ne0-via-else-free-ne0}
 
-pub returns-then-free-eq0 : goal.returns-then-free-eq0
-returns-then-free-eq0 c =
-    let inside : c.args.off < c.args.ended = key-inside c.args.segment.now c.args.ended c.args.off [] c.requires.last_nul (same_check _ c.in-Sound.is (c.key.ensures [])).1 in
-    let a = c.args in
-    let alone = value-alone a.segment.now a.ended a.off _ c.requires.last_nul inside (none-followed _ _ c.if-free-eq0.true) in
-    (string_at a.segment.now a.off, alone)
+pub returns-in_err-key : goal.returns-in_err-key
+returns-in_err-key c =
+    let p = err_from_is_err_and c.from_residual.result c.from_residual.ensures.1 in
+    rw (p.1, p.2) (value-fault _ _ (c.in_err-key.ensures _))
 
-pub outside_free-requires : goal.outside_free-requires
-outside_free-requires c =
-    let inside : c.args.off < c.args.ended = key-inside c.args.segment.now c.args.ended c.args.off [] c.requires.last_nul (same_check _ c.in-Sound.is (c.key.ensures [])).1 in
-    record {
-      segment_in_bounds = ends c.args.segment.now c.args.ended c.args.off c.requires.last_nul inside;
-      held = c.requires.held;
-      marked = c.requires.marked;
-    }
+pub outside_free-requires-clause-segment_in_bounds : goal.outside_free-requires-clause-segment_in_bounds
+outside_free-requires-clause-segment_in_bounds c = ends _ _ _ c.requires.last_nul (key-checked _ c.requires.last_nul c.in_ok-key.ensures)
 
-pub returns-then-outside_free : goal.returns-then-outside_free
-returns-then-outside_free c =
-    let inside : c.args.off < c.args.ended = key-inside c.args.segment.now c.args.ended c.args.off [] c.requires.last_nul (same_check _ c.in-Sound.is (c.key.ensures [])).1 in
-    let a = c.args in
-    let e = c.outside_free.ensures in
-    (string_at a.segment.now a.off, value-sound a.segment.now a.ended a.off _ c.requires.last_nul inside (sym e ∙ c.if-outside_free.true))
+pub returns-then-not-outside_free : goal.returns-then-not-outside_free
+returns-then-not-outside_free c =
+    let l = c.requires.last_nul in
+    value-in-free _ _ _ _ l (key-checked _ l c.in_ok-key.ensures) (sym c.outside_free.ensures ∙ c.if-not-outside_free.true)
 
-pub returns-in-Fault : goal.returns-in-Fault
-returns-in-Fault c = value-fault _ _ (same_check _ c.in-Fault.is (c.key.ensures _))
-
-pub returns-else-outside_free : goal.returns-else-outside_free
-returns-else-outside_free c =
-    let inside : c.args.off < c.args.ended = key-inside c.args.segment.now c.args.ended c.args.off [] c.requires.last_nul (same_check _ c.in-Sound.is (c.key.ensures [])).1 in
-    let a = c.args in
-    let e = c.outside_free.ensures in
-    value-in-free a.segment.now a.ended a.off _ c.requires.last_nul inside (sym e ∙ c.if-outside_free.false)
+pub returns : goal.returns
+returns c =
+    let l = c.requires.last_nul in
+    let k = key-checked _ l c.in_ok-key.ensures in (
+      string_at c.args.segment.now c.args.off,
+      elim c.else-free-ne0.branch [
+        | else-free-ne0-via-then-free-ne0+else-not-outside_free w ↦ value-sound _ _ _ _ l k (sym w.outside_free.ensures ∙ w.if-not-outside_free.false)
+        | else-free-ne0-via-else-free-ne0 w ↦ value-alone _ _ _ _ l k (none-followed _ _ (omega arith))
+      ],
+    )

@@ -1,11 +1,11 @@
 -- Each test against its place in the walk of a node.
 use mathlib.Core.Path.{◌≡◌, refl}
-use Prim.Native.Nat.{ℕ, ◌+◌, ◌*◌, ◌≤◌}
-use lib.ListN.{length}
+use Prim.Native.Nat.{ℕ}
 use Rattle.format.specs.Bytes.{little_endian}
 use Rattle.format.specs.Tree.{TREE}
-use Rattle.node.proofs.NodeLaws.{node-refused, node-inside, node-counted, signature-wrong, type-wrong, level-wrong, entries-wrong, node-read}
+use Rattle.node.proofs.NodeLaws.{node-refused, node-there, node-counted, signature-wrong, type-wrong, level-wrong, entries-wrong, node-read}
 use native.Mathlib.Omega.{arith}
+use Rattle.std.proofs.lemmas.Result.{err_from_is_err_and}
 use Rattle.node.proofs.read_node.Goals as goal
 
 -- the signature is the number of these four bytes
@@ -13,111 +13,102 @@ signed : (n : ℕ) → n ≡ 0x45455254 → n ≡ TREE
 unfolding TREE little_endian
 signed n e = e
 
+pub returns-in_err-with_node : goal.returns-in_err-with_node
+returns-in_err-with_node c =
+    let p = err_from_is_err_and c.from_residual.result c.from_residual.ensures.1 in
+    rw (p.1, p.2) (record {
+      walked = node-refused c.args.image.now _ _ _ _ _ _ c.requires.lent _ c.enter.ensures.entered _ c.in_err-with_node.ensures.value;
+      fields = tt;
+    })
+
 pub u32_at-requires : goal.u32_at-requires
-u32_at-requires c =
-    let whole : c.args.at + (32 + 32 * c.args.group.internal_k) ≤ length c.args.image.now = let i = node-inside c.args.image.now _ _ _ _ _ _ c.requires.lent _ c.enter.ensures.entered _ c.in-Entered.ensures.value in
-    omega (arith, i) in
-    omega (arith, whole)
+u32_at-requires c = omega (
+  arith,
+  node-there c.args.image.now _ _ _ _ _ _ c.requires.lent _ c.enter.ensures.entered _ c.in_ok-with_node.ensures.value c.requires.end_of_file_in_bounds,
+)
+
+pub overflow_add-start : goal.overflow_add-start
+overflow_add-start c = omega (
+  arith,
+  node-there c.args.image.now _ _ _ _ _ _ c.requires.lent _ c.enter.ensures.entered _ c.in_ok-with_node.ensures.value c.requires.end_of_file_in_bounds,
+)
+
+pub bounds-image-start : goal.bounds-image-start
+bounds-image-start c = omega (
+  arith,
+  node-there c.args.image.now _ _ _ _ _ _ c.requires.lent _ c.enter.ensures.entered _ c.in_ok-with_node.ensures.value c.requires.end_of_file_in_bounds,
+)
+
+pub overflow_add-level : goal.overflow_add-level
+overflow_add-level c = omega (
+  arith,
+  node-there c.args.image.now _ _ _ _ _ _ c.requires.lent _ c.enter.ensures.entered _ c.in_ok-with_node.ensures.value c.requires.end_of_file_in_bounds,
+)
+
+pub bounds-image-start-2 : goal.bounds-image-start-2
+bounds-image-start-2 c = omega (
+  arith,
+  node-there c.args.image.now _ _ _ _ _ _ c.requires.lent _ c.enter.ensures.entered _ c.in_ok-with_node.ensures.value c.requires.end_of_file_in_bounds,
+)
+
+pub overflow_add-start-2 : goal.overflow_add-start-2
+overflow_add-start-2 c = omega (
+  arith,
+  node-there c.args.image.now _ _ _ _ _ _ c.requires.lent _ c.enter.ensures.entered _ c.in_ok-with_node.ensures.value c.requires.end_of_file_in_bounds,
+)
+
+pub u16_at-entries-requires : goal.u16_at-entries-requires
+u16_at-entries-requires c = omega (
+  arith,
+  node-there c.args.image.now _ _ _ _ _ _ c.requires.lent _ c.enter.ensures.entered _ c.in_ok-with_node.ensures.value c.requires.end_of_file_in_bounds,
+)
 
 pub returns-then-u32_at-ne-TREE : goal.returns-then-u32_at-ne-TREE
 unfolding TREE little_endian
 returns-then-u32_at-ne-TREE c =
     record {
-      walked = signature-wrong c.args.image.now _ _ _ _ _ _ c.requires.lent _ c.enter.ensures.entered _
-          c.in-Entered.ensures.value _ c.u32_at.ensures c.if-u32_at-ne-TREE.true;
+      walked = signature-wrong c.args.image.now _ _ _ _ _ _ c.requires.lent _ c.enter.ensures.entered _ c.in_ok-with_node.ensures.value _
+          c.u32_at.ensures c.if-u32_at-ne-TREE.true;
       fields = tt;
     }
-
-pub overflow_add-start : goal.overflow_add-start
-overflow_add-start c =
-    let whole : c.args.at + (32 + 32 * c.args.group.internal_k) ≤ length c.args.image.now = let i = node-inside c.args.image.now _ _ _ _ _ _ c.requires.lent _ c.enter.ensures.entered _ c.in-Entered.ensures.value in
-    omega (arith, i) in
-    omega (arith, whole)
-
-pub bounds-image-start : goal.bounds-image-start
-bounds-image-start c =
-    let whole : c.args.at + (32 + 32 * c.args.group.internal_k) ≤ length c.args.image.now = let i = node-inside c.args.image.now _ _ _ _ _ _ c.requires.lent _ c.enter.ensures.entered _ c.in-Entered.ensures.value in
-    omega (arith, i) in
-    omega (arith, whole)
 
 pub returns-then-image-start-ne-GROUP : goal.returns-then-image-start-ne-GROUP
 returns-then-image-start-ne-GROUP c =
     record {
-      walked = type-wrong c.args.image.now _ _ _ _ _ _ c.requires.lent _ c.enter.ensures.entered _
-          c.in-Entered.ensures.value _ c.u32_at.ensures (signed _ c.if-u32_at-ne-TREE.false) c.if-image-start-ne-GROUP.true;
+      walked = type-wrong c.args.image.now _ _ _ _ _ _ c.requires.lent _ c.enter.ensures.entered _ c.in_ok-with_node.ensures.value _
+          c.u32_at.ensures (signed _ c.if-u32_at-ne-TREE.false) c.if-image-start-ne-GROUP.true;
       fields = tt;
     }
-
-pub overflow_add-level : goal.overflow_add-level
-overflow_add-level c =
-    let whole : c.args.at + (32 + 32 * c.args.group.internal_k) ≤ length c.args.image.now = let i = node-inside c.args.image.now _ _ _ _ _ _ c.requires.lent _ c.enter.ensures.entered _ c.in-Entered.ensures.value in
-    omega (arith, i) in
-    omega (arith, whole)
-
-pub bounds-image-start-in-Entered : goal.bounds-image-start-in-Entered
-bounds-image-start-in-Entered c =
-    let whole : c.args.at + (32 + 32 * c.args.group.internal_k) ≤ length c.args.image.now = let i = node-inside c.args.image.now _ _ _ _ _ _ c.requires.lent _ c.enter.ensures.entered _ c.in-Entered.ensures.value in
-    omega (arith, i) in
-    omega (arith, whole)
 
 pub returns-then-limits-level : goal.returns-then-limits-level
 returns-then-limits-level c =
     record {
-      walked = level-wrong c.args.image.now _ _ _ _ _ _ c.requires.lent _ c.enter.ensures.entered _
-          c.in-Entered.ensures.value _ c.u32_at.ensures (signed _ c.if-u32_at-ne-TREE.false) c.if-image-start-ne-GROUP.false
+      walked = level-wrong c.args.image.now _ _ _ _ _ _ c.requires.lent _ c.enter.ensures.entered _ c.in_ok-with_node.ensures.value _
+          c.u32_at.ensures (signed _ c.if-u32_at-ne-TREE.false) c.if-image-start-ne-GROUP.false
           (omega (arith, c.if-limits-level.true, c.the_limits-limits.ensures.level_most_equal));
       fields = tt;
     }
 
-pub overflow_add-start-in-Entered : goal.overflow_add-start-in-Entered
-overflow_add-start-in-Entered c =
-    let whole : c.args.at + (32 + 32 * c.args.group.internal_k) ≤ length c.args.image.now = let i = node-inside c.args.image.now _ _ _ _ _ _ c.requires.lent _ c.enter.ensures.entered _ c.in-Entered.ensures.value in
-    omega (arith, i) in
-    omega (arith, whole)
-
-pub u16_at-entries-requires : goal.u16_at-entries-requires
-u16_at-entries-requires c =
-    let whole : c.args.at + (32 + 32 * c.args.group.internal_k) ≤ length c.args.image.now = let i = node-inside c.args.image.now _ _ _ _ _ _ c.requires.lent _ c.enter.ensures.entered _ c.in-Entered.ensures.value in
-    omega (arith, i) in
-    omega (arith, whole)
-
-pub overflow_mul-k-in-Entered : goal.overflow_mul-k-in-Entered
-overflow_mul-k-in-Entered c =
-    let whole : c.args.at + (32 + 32 * c.args.group.internal_k) ≤ length c.args.image.now = let i = node-inside c.args.image.now _ _ _ _ _ _ c.requires.lent _ c.enter.ensures.entered _ c.in-Entered.ensures.value in
-    omega (arith, i) in
-    omega (arith, whole)
-
 pub returns-then-k-entries : goal.returns-then-k-entries
 returns-then-k-entries c =
     record {
-      walked = entries-wrong c.args.image.now _ _ _ _ _ _ c.requires.lent _ c.enter.ensures.entered _
-          c.in-Entered.ensures.value _ c.u32_at.ensures (signed _ c.if-u32_at-ne-TREE.false) c.if-image-start-ne-GROUP.false
+      walked = entries-wrong c.args.image.now _ _ _ _ _ _ c.requires.lent _ c.enter.ensures.entered _ c.in_ok-with_node.ensures.value _
+          c.u32_at.ensures (signed _ c.if-u32_at-ne-TREE.false) c.if-image-start-ne-GROUP.false
           (omega (arith, c.if-limits-level.false, c.the_limits-limits.ensures.level_most_equal)) _ c.u16_at-entries.ensures c.if-k-entries.true;
       fields = tt;
     }
 
-pub returns-in-Refused : goal.returns-in-Refused
-returns-in-Refused c =
+pub returns : goal.returns
+returns c =
     record {
-      walked = node-refused c.args.image.now _ _ _ _ _ _ c.requires.lent _ c.enter.ensures.entered _
-          c.in-Refused.ensures.value;
-      fields = tt;
-    }
-
-pub returns-else-k-entries : goal.returns-else-k-entries
-returns-else-k-entries c =
-    let whole : c.args.at + (32 + 32 * c.args.group.internal_k) ≤ length c.args.image.now = let i = node-inside c.args.image.now _ _ _ _ _ _ c.requires.lent _ c.enter.ensures.entered _ c.in-Entered.ensures.value in
-    omega (arith, i) in
-    record {
-      walked = node-read c.args.image.now _ _ _ _ _ _ c.requires.lent _ c.enter.ensures.entered _
-          c.in-Entered.ensures.value _ c.u32_at.ensures (signed _ c.if-u32_at-ne-TREE.false) c.if-image-start-ne-GROUP.false
+      walked = node-read c.args.image.now _ _ _ _ _ _ c.requires.lent _ c.enter.ensures.entered _ c.in_ok-with_node.ensures.value _
+          c.u32_at.ensures (signed _ c.if-u32_at-ne-TREE.false) c.if-image-start-ne-GROUP.false
           (omega (arith, c.if-limits-level.false, c.the_limits-limits.ensures.level_most_equal)) _ c.u16_at-entries.ensures c.if-k-entries.false;
       fields = (
-        whole,
+        node-there c.args.image.now _ _ _ _ _ _ c.requires.lent _ c.enter.ensures.entered _ c.in_ok-with_node.ensures.value c.requires.end_of_file_in_bounds,
         refl,
         c.u16_at-entries.ensures.value,
         c.if-k-entries.false,
-        node-counted c.args.image.now _ _ _ _ _ _ c.requires.lent _
-            c.enter.ensures.entered _ c.in-Entered.ensures.value,
+        node-counted c.args.image.now _ _ _ _ _ _ c.requires.lent _ c.enter.ensures.entered _ c.in_ok-with_node.ensures.value,
       );
     }

@@ -4,6 +4,7 @@ use Rattle.format.specs.Limits.{objects_most}
 use Rattle.laws.proofs.Simulation.{start}
 use Rattle.objects.proofs.ObjectsLaws.{objects-done, object-stopped, object-done}
 use native.Mathlib.Omega.{arith}
+use Rattle.std.proofs.lemmas.Result.{err_from_is_err_and}
 use Rattle.objects.proofs.read.Goals as goal
 
 pub loop-i-init : goal.loop-i-init
@@ -27,13 +28,14 @@ read-requires c = record {
   i_lt_objects_most = omega (arith, c.loop-i.invariant.listed.counting.table.fits);
 }
 
-pub returns-in-Stopped : goal.returns-in-Stopped
-returns-in-Stopped c =
+pub returns-in_err-read : goal.returns-in_err-read
+returns-in_err-read c =
     let inv = c.loop-i.invariant in
-    record {
-      walked = object-stopped _ _ _ _ _ _ _ _ _ inv.listed.counting.table inv.come c.loop-i-test.true _ _ c.in-Stopped.ensures.walked;
+    let p = err_from_is_err_and c.from_residual.result c.from_residual.ensures.1 in
+    rw (p.1, p.2) (record {
+      walked = object-stopped _ _ _ _ _ _ _ _ _ inv.listed.counting.table inv.come c.loop-i-test.true _ _ c.in_err-read.ensures.walked;
       listed = tt;
-    }
+    })
 
 pub overflow_add-i : goal.overflow_add-i
 unfolding objects_most
@@ -46,8 +48,8 @@ pub loop-i-preserved : goal.loop-i-preserved
 loop-i-preserved c =
     let inv = c.loop-i.invariant in
     record {
-      listed = c.in-Done.ensures.listed;
-      come = object-done _ _ _ _ _ _ _ _ _ inv.listed.counting.table inv.come c.loop-i-test.true _ _ _ c.read.auto.list c.in-Done.ensures.walked;
+      listed = c.in_ok-read.ensures.listed;
+      come = object-done _ _ _ _ _ _ _ _ _ inv.listed.counting.table inv.come c.loop-i-test.true _ _ _ c.read.auto.list c.in_ok-read.ensures.walked;
       addresses_same = omega (arith, c.read.auto.addresses, inv.addresses_same);
       counts_same = omega (arith, c.read.auto.counts, inv.counts_same);
       marks_same = omega (arith, c.read.auto.marks, inv.marks_same);

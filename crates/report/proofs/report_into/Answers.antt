@@ -6,20 +6,20 @@ use Rattle.report.proofs.Replied.{unopened-is, opened-is}
 use Rattle.report.proofs.report_into.Goals as goal
 
 pub report_opened-requires : goal.report_opened-requires
-report_opened-requires c = record { bounded = c.in-Opened.ensures.fields_bounded; lists = c.requires }
+report_opened-requires c = record { bounded = c.in-Ok.ensures.fields_bounded; lists = c.requires }
 
-pub returns-in-NotOpened : goal.returns-in-NotOpened
-returns-in-NotOpened c =
+pub returns-in-Err : goal.returns-in-Err
+returns-in-Err c =
     let none = ap (λ (f : Fields). f.block_count) c.unopened.ensures in
     record {
       block_count_bound = omega (arith, none);
       by_index = λ lent room.
-          unopened-is c.args.image.now c.in-NotOpened.x _ c.in-NotOpened.ensures.result_value c.unopened.ensures lent _ _ _ _;
+          unopened-is c.args.image.now c.in-Err.answer _ c.in-Err.ensures.result_value c.unopened.ensures lent _ _ _ _;
     }
 
-pub returns-in-Opened : goal.returns-in-Opened
-returns-in-Opened c = record {
+pub returns-in-Ok : goal.returns-in-Ok
+returns-in-Ok c = record {
   block_count_bound = c.report_opened.ensures.block_count_bound;
   by_index = λ lent room.
-      opened-is c.args.image.now _ lent c.in-Opened.s _ _ _ _ _ c.in-Opened.ensures.result_value room (c.report_opened.ensures.by_index lent);
+      opened-is c.args.image.now _ lent c.in-Ok.superblock _ _ _ _ _ c.in-Ok.ensures.result_value room (c.report_opened.ensures.by_index lent);
 }

@@ -19,32 +19,32 @@ pub refused-requires : goal.refused-requires
 refused-requires c =
     let filled = all-filled c.fill_undefined.new.list _ c.fill_undefined.ensures c.fill_undefined.auto.list in
     record {
-      entered_in_bounds = entered-fit c.args.image.now c.fill_undefined.new.list c.args.superblock c.requires.bounded c.in-Stopped.x
-          c.walk_image.new.list _ _ c.walk_image.auto.list filled c.in-Stopped.ensures c.count_entered.result c.count_entered.ensures;
-      list_value = entered-numbered c.args.image.now c.fill_undefined.new.list c.args.superblock c.requires.bounded c.in-Stopped.x
-          c.walk_image.new.list _ _ c.walk_image.auto.list filled c.in-Stopped.ensures c.count_entered.result c.count_entered.ensures;
+      entered_in_bounds = entered-fit c.args.image.now c.fill_undefined.new.list c.args.superblock c.requires.bounded c.in-Err.refusal
+          c.walk_image.new.list _ _ c.walk_image.auto.list filled c.in-Err.ensures c.count_entered.result c.count_entered.ensures;
+      list_value = entered-numbered c.args.image.now c.fill_undefined.new.list c.args.superblock c.requires.bounded c.in-Err.refusal
+          c.walk_image.new.list _ _ c.walk_image.auto.list filled c.in-Err.ensures c.count_entered.result c.count_entered.ensures;
     }
 
 pub read_stored-requires : goal.read_stored-requires
 read_stored-requires c = record {
-  readable = readable c.args.image.now c.fill_undefined.new.list c.args.superblock c.in-Done.count c.in-Done.objects c.walk_image.new.list
-      c.walk_image.new.addresses c.walk_image.new.true_counts c.in-Done.ensures c.requires.bounded;
-  objects_in_bounds = stored-room _ _ _ _ c.requires.lists (c.in-Done.ensures.ready.table refl).fits;
+  readable = readable c.args.image.now c.fill_undefined.new.list c.args.superblock c.in-Ok.read.count c.in-Ok.read.objects c.walk_image.new.list
+      c.walk_image.new.addresses c.walk_image.new.true_counts c.in-Ok.ensures c.requires.bounded;
+  objects_in_bounds = stored-room _ _ _ _ c.requires.lists (c.in-Ok.ensures.ready.table refl).fits;
 }
 
-pub returns-in-Stopped : goal.returns-in-Stopped
-returns-in-Stopped c =
+pub returns-in-Err : goal.returns-in-Err
+returns-in-Err c =
     let filled = all-filled c.fill_undefined.new.list _ c.fill_undefined.ensures c.fill_undefined.auto.list in
     let p = same-long _ _ _ _ _ _ _ _ _ c.fill_undefined.auto.list
-    (refused-is c.args.image.now c.fill_undefined.new.list c.args.superblock c.requires.bounded c.in-Stopped.x c.walk_image.new.list
-    c.walk_image.new.addresses c.walk_image.new.true_counts c.walk_image.auto.list filled c.in-Stopped.ensures c.count_entered.result
+    (refused-is c.args.image.now c.fill_undefined.new.list c.args.superblock c.requires.bounded c.in-Err.refusal c.walk_image.new.list
+    c.walk_image.new.addresses c.walk_image.new.true_counts c.walk_image.auto.list filled c.in-Err.ensures c.count_entered.result
     c.count_entered.ensures c.refused.result c.walk_image.new.addresses c.args.stored.now c.walk_image.new.true_counts c.refused.ensures) in
     record { block_count_bound = p.0; by_index = p.1 }
 
-pub returns-in-Done : goal.returns-in-Done
-returns-in-Done c =
+pub returns-in-Ok : goal.returns-in-Ok
+returns-in-Ok c =
     let p = same-long _ _ _ _ _ _ _ _ _ c.fill_undefined.auto.list
-    (done-is c.args.image.now c.fill_undefined.new.list c.args.superblock c.requires.bounded c.in-Done.count c.in-Done.objects
-    c.walk_image.new.list c.walk_image.new.addresses c.walk_image.new.true_counts c.in-Done.ensures c.args.stored.now c.read_stored.new.stored
+    (done-is c.args.image.now c.fill_undefined.new.list c.args.superblock c.requires.bounded c.in-Ok.read.count c.in-Ok.read.objects
+    c.walk_image.new.list c.walk_image.new.addresses c.walk_image.new.true_counts c.in-Ok.ensures c.args.stored.now c.read_stored.new.stored
     c.requires.lists.stored_empty c.read_stored.ensures c.no_block.result c.no_block.ensures) in
     record { block_count_bound = p.0; by_index = p.1 }

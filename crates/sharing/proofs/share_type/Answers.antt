@@ -4,11 +4,8 @@ use Rattle.sharing.proofs.share_type.Goals as goal
 
 pub returns-in-Shared : goal.returns-in-Shared
 returns-in-Shared c =
-    let share = c in
-    let arm = share in
-    rw arm.in-Shared.is (type-shared _ _ _ _ _ _ _ _ _ share.share.ensures)
+    rw c.in-Shared.is (type-shared _ _ _ _ _ _ _ _ _ c.share.ensures)
 
 pub returns-in-Own : goal.returns-in-Own
 returns-in-Own c =
-    let s = c in
-    rw c.in-Own.is (type-own _ _ _ _ _ _ _ _ s.requires)
+    rw c.in-Own.is (type-own _ _ _ _ _ _ _ _ c.requires)

@@ -3,11 +3,11 @@ use Prim.Native.Nat.{suc, ◌+◌, ◌-◌, ◌*◌}
 use mathlib.Core.List.{List, [], ◌∷◌}
 use mathlib.Core.Path.{◌≡◌, refl}
 use native.Mathlib.Omega.{arith}
-use Rattle.format.specs.Names.{Bound, string_at}
-use Rattle.format.specs.Bytes.{u64}
+use Rattle.format.specs.Names.{Bound}
 use Rattle.laws.proofs.Simulation.{same-walk, returned, callee-done, callee-stopped}
 use Rattle.symbol.specs.Entry.{group_of, state_of}
-use Rattle.subtree.proofs.SubtreeLaws.{children-end, children-here, node-stopped, node_done, leaf_walked, sound_more}
+use Rattle.subtree.proofs.SubtreeLaws.{keys_at, children-end, children-here, node-stopped, node_done, leaf_walked, sound_more}
+use Rattle.std.proofs.lemmas.Result.{err_from_is_err_and}
 use Rattle.subtree.proofs.+subtree.Goals as goal
 
 pub returns-then-height-eq0 : goal.returns-then-height-eq0
@@ -16,74 +16,67 @@ returns-then-height-eq0 t c = record {
   sound = c.symbol_node.ensures.sound;
 }
 
+pub returns-in_err-node : goal.returns-in_err-node
+returns-in_err-node t c =
+    let a = c.args in
+    let p = err_from_is_err_and c.from_residual.result c.from_residual.ensures.1 in
+    let above : a.height ≡ suc (a.height - 1) = omega (arith, c.if-height-eq0.false) in
+    rw (p.1, p.2) (record {
+      walked = λ bounds h.
+          node-stopped _ _ _ _ _ c.requires.sound.lent (group_of a.segment.now a.wanted.now a.group) _ refl _ _ _ above bounds _ _ _
+          (c.in_err-node.ensures.walked (group_of a.segment.now a.wanted.now a.group).heap refl);
+      sound = tt;
+    })
+
 -- where the loop begins, the walk has come to the children
 pub loop-i-init : goal.loop-i-init
 loop-i-init t c =
     let a = c.args in
     let above : a.height ≡ suc (a.height - 1) = omega (arith, c.if-height-eq0.false) in
-    let b = c.in-Read.ensures in
+    let b = c.in_ok-node.ensures in
     let m = λ (bounds : List Bound).
     node_done a.image.now _ _ _ _ c.requires.sound.lent (group_of a.segment.now a.wanted.now a.group) _ refl _ _ _ above bounds
     (state_of a.segment.now a.addresses.now a.counts.now a.state) _ _ _ c.read_branch.auto.list b.fields.1
     (b.walked (group_of a.segment.now a.wanted.now a.group).heap refl) in
-    (omega arith, sound_more _ _ _ _ a.group a.state _ _ c.requires.sound (m []).lent (m []).blocks, λ bounds h. m bounds)
+    (sound_more _ _ _ _ a.group a.state _ _ c.requires.sound (m []).lent (m []).blocks, λ bounds h. m bounds)
 
 pub child_range-inner-requires-clause-key_at_2 : goal.child_range-inner-requires-clause-key_at_2
 child_range-inner-requires-clause-key_at_2 t c =
     let i = c.loop-i.i in
     let e : c.args.at + 24 + 16 * (i + 1) ≡ c.args.at + 24 + 16 * i + 16 = omega arith in
-    rw e at (c.in-Read.ensures.fields.4 (i + 1) (omega (arith, c.loop-i-test.true)))
+    rw e at (c.in_ok-node.ensures.fields.4 (i + 1) (omega (arith, c.loop-i-test.true)))
 
-pub returns-in-Stopped-subtree : goal.returns-in-Stopped-subtree
-returns-in-Stopped-subtree t c =
+pub returns-in_err-s : goal.returns-in_err-s
+returns-in_err-s t c =
     let a = c.args in
-    let here = a.at + 24 + 16 * c.loop-i.i in
-    let bound : Bound = record {
-      low = string_at a.segment.now (u64 a.image.now here);
-      high = string_at a.segment.now (u64 a.image.now (here + 16));
-    } in
-    record {
+    let p = err_from_is_err_and c.from_residual-in_err-s.result c.from_residual-in_err-s.ensures.1 in
+    rw (p.1, p.2) (record {
       walked = λ bounds h.
           callee-stopped _ _ _
           (children-here (group_of a.segment.now a.wanted.now a.group) (a.height - 1) a.image.now (a.at + 24)
-          (8 + 32 * a.group.internal_k) c.in-Read.entries bounds c.loop-i.i _ c.loop-i-test.true
-          (omega (arith, c.in-Read.ensures.fields.2)) _ c.u64_at-child.ensures.value (c.loop-i.invariant.2 bounds h))
-          (c.in-Stopped-subtree.ensures.walked (bound ∷ bounds) (c.child_range-inner.ensures.tight bounds h));
+          (8 + 32 * a.group.internal_k) c.in_ok-node.node.entries bounds c.loop-i.i _ c.loop-i-test.true
+          (omega (arith, c.in_ok-node.ensures.fields.2)) _ c.u64_at-child.ensures.value (c.loop-i.invariant.1 bounds h))
+          (c.in_err-s.ensures.walked (keys_at a.image.now a.segment.now (a.at + 24 + 16 * c.loop-i.i) ∷ bounds)
+          (c.child_range-inner.ensures.tight bounds h));
       sound = tt;
-    }
+    })
 
 pub loop-i-preserved : goal.loop-i-preserved
 loop-i-preserved t c =
-    let a = c.args in
-    let here = a.at + 24 + 16 * c.loop-i.i in
-    let bound : Bound = record {
-      low = string_at a.segment.now (u64 a.image.now here);
-      high = string_at a.segment.now (u64 a.image.now (here + 16));
-    } in (
-      omega (arith, c.loop-i-test.true),
-      c.in-Done.ensures.sound,
+    let a = c.args in (
+      c.in_ok-s.ensures.sound,
       λ bounds h.
           callee-done _ _ _
           (children-here (group_of a.segment.now a.wanted.now a.group) (a.height - 1) a.image.now (a.at + 24)
-          (8 + 32 * a.group.internal_k) c.in-Read.entries bounds c.loop-i.i _ c.loop-i-test.true
-          (omega (arith, c.in-Read.ensures.fields.2)) _ c.u64_at-child.ensures.value (c.loop-i.invariant.2 bounds h))
+          (8 + 32 * a.group.internal_k) c.in_ok-node.node.entries bounds c.loop-i.i _ c.loop-i-test.true
+          (omega (arith, c.in_ok-node.ensures.fields.2)) _ c.u64_at-child.ensures.value (c.loop-i.invariant.1 bounds h))
           c.subtree.auto.list
-          (c.in-Done.ensures.walked (bound ∷ bounds) (c.child_range-inner.ensures.tight bounds h)),
+          (c.in_ok-s.ensures.walked (keys_at a.image.now a.segment.now (a.at + 24 + 16 * c.loop-i.i) ∷ bounds)
+          (c.child_range-inner.ensures.tight bounds h)),
     )
 
-pub returns-in-Stopped : goal.returns-in-Stopped
-returns-in-Stopped t c =
-    let a = c.args in
-    let above : a.height ≡ suc (a.height - 1) = omega (arith, c.if-height-eq0.false) in
-    record {
-      walked = λ bounds h.
-          node-stopped _ _ _ _ _ c.requires.sound.lent (group_of a.segment.now a.wanted.now a.group) _ refl _ _ _ above bounds _ _ _
-          (c.in-Stopped.ensures.walked (group_of a.segment.now a.wanted.now a.group).heap refl);
-      sound = tt;
-    }
-
-pub returns-after-loop-i : goal.returns-after-loop-i
-returns-after-loop-i t c = record {
-  walked = λ bounds h. returned (same-walk _ (children-end _ _ _ _ _ _ bounds _ _ c.loop-i-test.false) (c.loop-i.invariant.2 bounds h));
-  sound = c.loop-i.invariant.1;
+pub returns : goal.returns
+returns t c = record {
+  walked = λ bounds h. returned (same-walk _ (children-end _ _ _ _ _ _ bounds _ _ c.loop-i-test.false) (c.loop-i.invariant.1 bounds h));
+  sound = c.loop-i.invariant.0;
 }

@@ -1,5 +1,5 @@
 -- The height falls at each call; in the loop, the walk from the start has come to the ith child.
-use Prim.Native.Nat.{◌-◌, ◌+◌, ◌*◌, ◌≤◌}
+use Prim.Native.Nat.{◌-◌, ◌+◌, ◌*◌}
 use mathlib.Core.List.{List}
 use Rattle.format.specs.Names.{Bound}
 use Rattle.format.specs.Tree as walk
@@ -15,13 +15,10 @@ decreases-subtree l = l.height
 
 abbrev pub invariant-loop-i : goal.invariant-loop-i
 invariant-loop-i l =
-    (l.i ≤ l.entries) × Sound l.segment l.list l.addresses l.counts l.group l.s
+    Sound l.segment l.list l.addresses l.counts l.group l.s
     × ((bounds : List Bound) → Tight l.segment l.range bounds →
     Simulation l.image l.group.end_of_file l.group.room
     (walk.subtree (group_of l.segment l.wanted l.group) l.height l.at bounds (state_of l.segment l.fn.addresses l.fn.counts l.fn.state)) l.fn.state.count
     l.fn.list
-    (children_from (group_of l.segment l.wanted l.group) (l.height - 1) l.image (l.at + 24) (8 + 32 * l.group.internal_k) l.entries l.i bounds
+    (children_from (group_of l.segment l.wanted l.group) (l.height - 1) l.image (l.at + 24) (8 + 32 * l.group.internal_k) l.i-end l.i bounds
     (state_of l.segment l.addresses l.counts l.s)) l.s.count l.list)
-
-abbrev pub decreases-loop-i : goal.decreases-loop-i
-decreases-loop-i l = l.entries - l.i

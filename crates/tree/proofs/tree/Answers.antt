@@ -11,6 +11,7 @@ use Rattle.subtree.proofs.SubtreeLaws.{sound_more}
 use Rattle.tree.proofs.TreeLaws.{no-bounds, root-used, root-stopped, root-empty, empty-level-wrong, empty-read}
 use native.Mathlib.Omega.{arith}
 use borrow.Author.Rules.{rules}
+use Rattle.std.proofs.lemmas.Result.{err_from_is_err_and}
 use Rattle.tree.proofs.tree.Goals as goal
 
 -- the string of a range that bounds nothing
@@ -36,7 +37,7 @@ returns-then-height-ne0 c =
 pub returns-then-inner : goal.returns-then-inner
 returns-then-inner c =
     let a = c.args in
-    let r = c.in-Read.ensures in
+    let r = c.in_ok-root.ensures in
     let no-entries : u16 a.image.now (a.at + 6) ≡ 0 = c.root_height-height.ensures.empty c.if-height-ne0.false (omega (arith, r.fields.0)) in
     record {
       walked = empty-level-wrong a.image.now (group_of a.segment.now a.wanted.now a.group) a.at
@@ -45,20 +46,21 @@ returns-then-inner c =
       sound = tt;
     }
 
-pub returns-in-Stopped : goal.returns-in-Stopped
-returns-in-Stopped c =
+pub returns-in_err-root : goal.returns-in_err-root
+returns-in_err-root c =
     let a = c.args in
-    record {
+    let p = err_from_is_err_and c.from_residual.result c.from_residual.ensures.1 in
+    rw (p.1, p.2) (record {
       walked = root-stopped a.image.now (group_of a.segment.now a.wanted.now a.group) a.at
           (state_of a.segment.now a.addresses.now a.counts.now a.state) _ _ a.list.now _ c.requires.sound.lent _ refl c.read_node.new.list _
-          c.in-Stopped.ensures.walked;
+          c.in_err-root.ensures.walked;
       sound = tt;
-    }
+    })
 
-pub returns-else-inner : goal.returns-else-inner
-returns-else-inner c =
+pub returns : goal.returns
+returns c =
     let a = c.args in
-    let r = c.in-Read.ensures in
+    let r = c.in_ok-root.ensures in
     let no-entries : u16 a.image.now (a.at + 6) ≡ 0 = c.root_height-height.ensures.empty c.if-height-ne0.false (omega (arith, r.fields.0)) in
     let group = group_of a.segment.now a.wanted.now a.group in
     let state = state_of a.segment.now a.addresses.now a.counts.now a.state in

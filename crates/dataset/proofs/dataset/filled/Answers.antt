@@ -9,7 +9,7 @@ use Rattle.dataset.proofs.dataset.filled.Goals as goal
 pub fills-requires : goal.fills-requires
 fills-requires c =
     let a = c.args in
-    subst (λ (b : List ℕ). 8 + 8 * a.dataset.rank ≤ length b) (sym (body-part a.image.now a.space.place a.space.size)) c.requires.sizes_inside
+    subst (λ (b : List ℕ). 8 + 8 * a.dataset.dimensions.rank ≤ length b) (sym (body-part a.image.now a.space.place a.space.size)) c.requires.sizes_inside
 
 pub returns-in-Own : goal.returns-in-Own
 returns-in-Own c =

@@ -1,5 +1,6 @@
 -- The walk over the parts, then the storage walk, each by what its function returned.
 use mathlib.Core.Path.{refl}
+use Rattle.std.proofs.lemmas.Result.{err_from_is_err_and}
 use Rattle.dataset.proofs.DatasetLaws.{parts-refused, parts-read}
 use Rattle.dataset.proofs.dataset.read.Goals as goal
 
@@ -9,24 +10,25 @@ read_storage-requires c = record {
   storage_inside = record {
     space_inside = c.requires.bodies_inside.space_inside;
     layout_inside = c.requires.bodies_inside.layout_inside;
-    shaped = c.in-Read.ensures.parts_shaped;
+    shaped = c.in_ok-parts.ensures.parts_shaped;
   };
 }
 
-pub returns-in-Refused : goal.returns-in-Refused
-returns-in-Refused c =
+pub returns-in_err-parts : goal.returns-in_err-parts
+returns-in_err-parts c =
     let a = c.args in
-    record {
+    let p = err_from_is_err_and c.from_residual.result c.from_residual.ensures.1 in
+    rw (p.1, p.2) (record {
       walked = parts-refused a.image.now a.end_of_file a.room a.count a.blocks.now c.requires.lent a.space a.datatype a.layout
-          c.in-Refused.ensures.result_value refl;
+          c.in_err-parts.ensures.result_value refl;
       dataset_shaped = tt;
-    }
+    })
 
-pub returns-in-Read : goal.returns-in-Read
-returns-in-Read c =
+pub returns : goal.returns
+returns c =
     let a = c.args in
     record {
       walked = parts-read a.image.now a.end_of_file a.room a.count a.blocks.now c.requires.lent a.space a.datatype a.layout
-          c.in-Read.ensures.result_value refl c.read_storage.new.blocks c.read_storage.ensures.walked;
+          c.in_ok-parts.ensures.result_value refl c.read_storage.new.blocks c.read_storage.ensures.walked;
       dataset_shaped = c.read_storage.ensures.dataset_shaped;
     }

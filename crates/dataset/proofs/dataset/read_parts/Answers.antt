@@ -1,30 +1,42 @@
 -- Each message's reader stands for its walk.
-use mathlib.Core.Path.{refl, ap}
-use Rattle.format.specs.Walk.{located}
+use Prim.Native.Nat.{ℕ, ◌-◌}
+use mathlib.Core.Path.{◌≡◌, refl, ap}
+use native.Mathlib.Omega.{arith}
+use Rattle.std.specs.Prelude.{Ok, Err}
+use Rattle.std.proofs.lemmas.Result.{err_from_is_err_and}
+use Rattle.format.specs.Walk.{fault, located}
 use Rattle.laws.proofs.Checks.{gives, refuses}
 use Rattle.dataset.specs.Dataset.{parts_walk}
 use Rattle.dataset.proofs.dataset.read_parts.Goals as goal
 
-pub returns-in-Refused : goal.returns-in-Refused
+pub returns-in_err-dimensions : goal.returns-in_err-dimensions
 unfolding parts_walk
-returns-in-Refused c = record {
-  result_value = rw c.head_of.ensures (refuses _ (ap (located _) c.in-Refused.ensures.walk));
-  parts_shaped = tt;
-}
+returns-in_err-dimensions c =
+    let p = err_from_is_err_and c.from_residual.result c.from_residual.ensures.1 in
+    let f : (n : ℕ) × (c.read_space.result ≡ Err n) × (c.in_err-dimensions.field-0.0 ≡ fault n (c.args.space.place - 8)) = grind arith in
+    rw (p.1, p.2, f.2) (record {
+      result_value = refuses _ (ap (located _) (rw f.1 at c.read_space.ensures.walk));
+      parts_shaped = tt;
+    })
 
-pub returns-in-Refused-read_type : goal.returns-in-Refused-read_type
+pub returns-in_err-own : goal.returns-in_err-own
 unfolding parts_walk
-returns-in-Refused-read_type c = record {
-  result_value = rw c.head_of-in-Refused-read_type.ensures
-      (gives _ (ap (located _) c.in-Read.ensures.walk) (refuses _ (ap (located _) c.in-Refused-read_type.ensures)));
-  parts_shaped = tt;
-}
+returns-in_err-own c =
+    let p = err_from_is_err_and c.from_residual-in_err-own.result c.from_residual-in_err-own.ensures.1 in
+    let d : c.read_space.result ≡ Ok c.in_ok-dimensions.dimensions = grind arith in
+    let f : (n : ℕ) × (c.read_type.result ≡ Err n) × (c.in_err-own.field-0.0 ≡ fault n (c.args.datatype.place - 8)) = grind arith in
+    rw (p.1, p.2, f.2) (record {
+      result_value = gives _ (ap (located _) (rw d at c.read_space.ensures.walk)) (refuses _ (ap (located _) (rw f.1 at c.read_type.ensures)));
+      parts_shaped = tt;
+    })
 
-pub returns-in-Read-read_type : goal.returns-in-Read-read_type
+pub returns : goal.returns
 unfolding parts_walk
-returns-in-Read-read_type c =
-    let s = c.in-Read.ensures in
+returns c =
+    let d : c.read_space.result ≡ Ok c.in_ok-dimensions.dimensions = grind arith in
+    let t : c.read_type.result ≡ Ok c.in_ok-own.own = grind arith in
+    let s = rw d at c.read_space.ensures in
     record {
-      result_value = gives _ (ap (located _) s.walk) (gives _ (ap (located _) c.in-Read-read_type.ensures) refl);
+      result_value = gives _ (ap (located _) s.walk) (gives _ (ap (located _) (rw t at c.read_type.ensures)) refl);
       parts_shaped = (s.ranked, s.sizes, s.maxima);
     }

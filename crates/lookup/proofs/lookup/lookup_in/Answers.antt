@@ -10,18 +10,18 @@ returns-then-not-is_sound c =
 pub locate-requires : goal.locate-requires
 locate-requires c =
     record {
-      bounded = c.in-Opened.ensures.fields_bounded;
+      bounded = c.in-Ok.ensures.fields_bounded;
       in_bounds = c.is_sound.ensures.begun c.if-not-is_sound.false;
     }
 
-pub returns-in-NotOpened : goal.returns-in-NotOpened
-returns-in-NotOpened c =
+pub returns-in-Err : goal.returns-in-Err
+returns-in-Err c =
     λ lent fit.
-    rw c.refused-in-NotOpened.ensures
-    (not-opened-is c.args.image.now c.args.path.now lent (c.is_sound.ensures.sound c.if-not-is_sound.false) _ c.in-NotOpened.ensures.result_value)
+    rw c.refused-in-Err.ensures
+    (not-opened-is c.args.image.now c.args.path.now lent (c.is_sound.ensures.sound c.if-not-is_sound.false) _ c.in-Err.ensures.result_value)
 
-pub returns-in-Opened : goal.returns-in-Opened
-returns-in-Opened c =
+pub returns-in-Ok : goal.returns-in-Ok
+returns-in-Ok c =
     λ lent fit.
-    opened-is c.args.image.now c.args.path.now lent (c.is_sound.ensures.sound c.if-not-is_sound.false) c.in-Opened.s _
-    c.in-Opened.ensures.result_value (c.locate.ensures lent fit)
+    opened-is c.args.image.now c.args.path.now lent (c.is_sound.ensures.sound c.if-not-is_sound.false) c.in-Ok.superblock _
+    c.in-Ok.ensures.result_value (c.locate.ensures lent fit)

@@ -1,6 +1,11 @@
 -- Dataspace and datatype, the sharing, then layout and data.
+use Prim.Native.Nat.{ℕ, ◌-◌}
 use mathlib.Core.Bool.{true}
-use mathlib.Core.Path.{refl}
+use mathlib.Core.Path.{◌≡◌, refl}
+use native.Mathlib.Omega.{arith}
+use Rattle.std.specs.Prelude.{Ok, Err}
+use Rattle.std.proofs.lemmas.Result.{err_from_is_err_and}
+use Rattle.format.specs.Walk.{fault}
 use Rattle.dataset.specs.Dataset.{body_of, parts_of}
 use Rattle.continuations.proofs.BlockLaws.{counting-tables}
 use Rattle.object.proofs.ObjectLaws.{parts-refused, sharing-refused, storage-stopped, storage-read}
@@ -15,26 +20,37 @@ read_storage-requires c = record {
   storage_inside = record {
     space_inside = c.requires.bodies_inside.space_inside;
     layout_inside = c.requires.bodies_inside.layout_inside;
-    shaped = c.in-Read.ensures.parts_shaped;
+    shaped = c.in_ok-parts.ensures.parts_shaped;
   };
 }
 
-pub returns-in-Refused : goal.returns-in-Refused
-returns-in-Refused c = parts-refused _ _ _ _ _ _ _ _ _ c.requires.listed _ _ _ _ c.in-Refused.ensures.result_value
+pub returns-in_err-parts : goal.returns-in_err-parts
+returns-in_err-parts c =
+    let p = err_from_is_err_and c.from_residual.result c.from_residual.ensures.1 in
+    rw (p.1, p.2) (parts-refused _ _ _ _ _ _ _ _ _ c.requires.listed _ _ _ _ c.in_err-parts.ensures.result_value)
 
-pub returns-in-Refused-share_type : goal.returns-in-Refused-share_type
-returns-in-Refused-share_type c =
-    rw c.head_of.ensures
-    (sharing-refused _ _ _ _ _ _ _ _ _ c.requires.listed _ _ _ (parts_of (body_of c.args.image.now c.args.space) c.in-Read.parts)
-    c.in-Read.ensures.result_value _ _ _ _ c.in-Refused-share_type.ensures.walk)
+pub returns-in_err-shared : goal.returns-in_err-shared
+returns-in_err-shared c =
+    let p = err_from_is_err_and c.from_residual-in_err-shared.result c.from_residual-in_err-shared.ensures.1 in
+    let f : (n : ℕ) × (c.share_type.result ≡ Err n) × (c.in_err-shared.field-0.0 ≡ fault n (c.args.datatype.place - 8)) = grind arith in
+    let s = rw f.1 at c.share_type.ensures in
+    rw (p.1, p.2, f.2)
+    (sharing-refused _ _ _ _ _ _ _ _ _ c.requires.listed _ _ _ (parts_of (body_of c.args.image.now c.args.space) c.in_ok-parts.parts)
+    c.in_ok-parts.ensures.result_value _ _ _ _ s.walk)
 
-pub returns-in-Stopped : goal.returns-in-Stopped
-returns-in-Stopped c =
-    storage-stopped _ _ _ _ _ _ _ _ _ c.requires.listed _ _ _ (parts_of (body_of c.args.image.now c.args.space) c.in-Read.parts)
-    c.in-Read.ensures.result_value _ _ _ _ c.in-Counted.ensures.walk _ _ c.in-Stopped.ensures.walked
+pub returns-in_err-stored : goal.returns-in_err-stored
+returns-in_err-stored c =
+    let p = err_from_is_err_and c.from_residual-in_err-stored.result c.from_residual-in_err-stored.ensures.1 in
+    let f : c.share_type.result ≡ Ok c.in_ok-shared.shared = grind arith in
+    let s = rw f at c.share_type.ensures in
+    rw (p.1, p.2)
+    (storage-stopped _ _ _ _ _ _ _ _ _ c.requires.listed _ _ _ (parts_of (body_of c.args.image.now c.args.space) c.in_ok-parts.parts)
+    c.in_ok-parts.ensures.result_value _ _ _ _ s.walk _ _ c.in_err-stored.ensures.walked)
 
-pub returns-in-Read-read_storage : goal.returns-in-Read-read_storage
-returns-in-Read-read_storage c =
-    storage-read _ _ _ _ _ _ _ _ _ c.requires.listed _ _ _ (parts_of (body_of c.args.image.now c.args.space) c.in-Read.parts)
-    c.in-Read.ensures.result_value _ _ _ _ c.in-Counted.ensures.walk _ _ _ c.read_storage.auto.blocks
-    c.in-Read-read_storage.ensures.walked c.in-Counted.ensures.kept
+pub returns : goal.returns
+returns c =
+    let f : c.share_type.result ≡ Ok c.in_ok-shared.shared = grind arith in
+    let s = rw f at c.share_type.ensures in
+    storage-read _ _ _ _ _ _ _ _ _ c.requires.listed _ _ _ (parts_of (body_of c.args.image.now c.args.space) c.in_ok-parts.parts)
+    c.in_ok-parts.ensures.result_value _ _ _ _ s.walk _ _ _ c.read_storage.auto.blocks
+    c.in_ok-stored.ensures.walked s.kept

@@ -1,65 +1,56 @@
 -- The tests in their order, then the visit.
-use mathlib.Core.Bool.{true}
+use Prim.Native.Nat.{ℕ}
 use mathlib.Core.Path.{◌≡◌, sym, ◌∙◌}
-use Rattle.format.specs.Names.{below}
+use Rattle.format.specs.Walk.{fault}
 use Rattle.heap.proofs.SegmentLaws.{part-between}
-use Rattle.range.specs.Range.{name_in, range_holds}
 use Rattle.range.proofs.RangeLaws.{floor-passed, floor-refused, high-refused}
-use Rattle.symbol.proofs.EntryLaws.{same-value, same-visit, place-refused, type-refused, link-refused, visit-refused, visited}
+use Rattle.symbol.proofs.EntryLaws.{place-refused, type-refused, link-refused, visit-refused, visited}
 use native.Mathlib.Omega.{arith}
+use Rattle.std.specs.Prelude.{Some, None, Ok, Err}
+use Rattle.std.proofs.lemmas.Result.{err_from_is_err_and}
 use Rattle.symbol.proofs.entry.named_entry.Goals as goal
+use Rattle.symbol.proofs.entry.named_entry.Goals.{then-not-below-via-then-not-below, then-not-below-via-else-not-below+then-not-at_most}
 
 pub returns-then-not-below : goal.returns-then-not-below
 returns-then-not-below c =
-    place-refused _ _ _ _ _ _ _ _ _ _ _ _ c.requires.name_sound
-    (floor-refused c.args.segment.now _ _ c.args.floor _ c.requires.floor (sym c.name_below-below.ensures ∙ c.if-not-below.true))
-
-pub returns-then-not-at_most : goal.returns-then-not-at_most
-returns-then-not-at_most c =
-    place-refused _ _ _ _ _ _ _ _ _ _ _ _ c.requires.name_sound
-    (high-refused c.args.segment.now _ _ c.args.floor _ c.requires.floor
-    (sym c.name_below-below.ensures ∙ c.if-not-below.false) (sym c.at_most.ensures ∙ c.if-not-at_most.true))
+    let seg = c.args.segment.now in
+    place-refused _ _ _ _ _ _ _ _ _ _ _ c.requires.name_sound (elim c.then-not-below.branch [
+      | then-not-below-via-then-not-below w ↦
+          floor-refused seg _ _ c.args.floor _ c.requires.floor (sym c.name_below-below.ensures ∙ w.if-not-below.true)
+      | then-not-below-via-else-not-below+then-not-at_most w ↦
+          high-refused seg _ _ c.args.floor _ c.requires.floor (sym c.name_below-below.ensures ∙ w.if-not-below.false)
+          (sym w.at_most.ensures ∙ w.if-not-at_most.true)
+    ])
 
 pub returns-then-unknown : goal.returns-then-unknown
 returns-then-unknown c =
-    let passed : (below (name_in c.args.segment.now c.args.state.last) (name_in c.args.segment.now c.args.name) ≡ true) × (range_holds c.args.segment.now c.args.range (name_in c.args.segment.now c.args.name) ≡ true) = floor-passed c.args.segment.now _ _ c.args.floor _ c.requires.floor
-    (sym c.name_below-below.ensures ∙ c.if-not-below.false) (sym c.at_most.ensures ∙ c.if-not-at_most.false) in
-    type-refused _ _ _ _ _ _ _ _ _ _ _ _ c.requires.name_sound passed.0 passed.1 c.u32_at-kind.result c.u32_at-kind.ensures.value
-    c.if-unknown.true
+    type-refused _ _ _ _ _ _ _ _ _ _ _ c.requires.name_sound (floor-passed c.args.segment.now _ _ c.args.floor _ c.requires.floor
+    (sym c.name_below-below.ensures ∙ c.if-not-below.false) (sym c.at_most.ensures ∙ c.if-not-at_most.false)) c.u32_at-kind.ensures.value c.if-unknown.true
+
+pub returns-in_err-map_err : goal.returns-in_err-map_err
+returns-in_err-map_err c =
+    let p = err_from_is_err_and c.from_residual.result c.from_residual.ensures.1 in
+    let f : (x : ℕ) × (c.check_value.result ≡ Err x) × (c.in_err-map_err.field-0.0 ≡ fault x c.args.at) = grind arith in
+    rw (p.1, p.2, f.2) (link-refused _ _ _ _ _ _ _ _ _ _ _ c.requires.name_sound (floor-passed c.args.segment.now _ _ c.args.floor _ c.requires.floor
+    (sym c.name_below-below.ensures ∙ c.if-not-below.false) (sym c.at_most.ensures ∙ c.if-not-at_most.false)) c.u32_at-kind.ensures.value c.if-unknown.false
+    f.1 c.check_value.ensures)
 
 pub overflow_add-end : goal.overflow_add-end
-overflow_add-end c =
-    omega (arith, c.requires.name_sound.inside.within)
+overflow_add-end c = omega (arith, c.requires.name_sound.inside.within)
 
-pub visit_entry-requires : goal.visit_entry-requires
-visit_entry-requires c =
-    record {
-      table_if = c.requires.ready.table;
-      counts_bound = c.requires.counts_bound;
-    }
+pub returns-in_err-objects : goal.returns-in_err-objects
+returns-in_err-objects c =
+    let p = err_from_is_err_and c.from_residual-in_err-objects.result c.from_residual-in_err-objects.ensures.1 in
+    let e : c.check_value.result ≡ Ok tt = grind arith in
+    let f : (c.visit_entry.result ≡ None) × (c.in_err-objects.field-0.0 ≡ fault 12 c.args.at) = grind arith in
+    rw (p.1, p.2, f.1) (visit-refused _ _ _ _ _ _ _ _ _ _ _ c.requires.name_sound (floor-passed c.args.segment.now _ _ c.args.floor _ c.requires.floor
+    (sym c.name_below-below.ensures ∙ c.if-not-below.false) (sym c.at_most.ensures ∙ c.if-not-at_most.false)) c.u32_at-kind.ensures.value c.if-unknown.false
+    e c.check_value.ensures c.u64_at-header.ensures.value (part-between c.args.segment.now c.args.name.at c.args.name.size) c.visit_entry.ensures f.0)
 
-pub returns-in-Unsound : goal.returns-in-Unsound
-returns-in-Unsound c =
-    let passed : (below (name_in c.args.segment.now c.args.state.last) (name_in c.args.segment.now c.args.name) ≡ true) × (range_holds c.args.segment.now c.args.range (name_in c.args.segment.now c.args.name) ≡ true) = floor-passed c.args.segment.now _ _ c.args.floor _ c.requires.floor
-    (sym c.name_below-below.ensures ∙ c.if-not-below.false) (sym c.at_most.ensures ∙ c.if-not-at_most.false) in
-    link-refused _ _ _ _ _ _ _ _ _ _ _ _ c.requires.name_sound passed.0 passed.1 c.u32_at-kind.result c.u32_at-kind.ensures.value
-    c.if-unknown.false _
-    (same-value _ _ _ _ _ c.in-Unsound.is c.check_value.ensures)
-
-pub returns-in-Full : goal.returns-in-Full
-returns-in-Full c =
-    let passed : (below (name_in c.args.segment.now c.args.state.last) (name_in c.args.segment.now c.args.name) ≡ true) × (range_holds c.args.segment.now c.args.range (name_in c.args.segment.now c.args.name) ≡ true) = floor-passed c.args.segment.now _ _ c.args.floor _ c.requires.floor
-    (sym c.name_below-below.ensures ∙ c.if-not-below.false) (sym c.at_most.ensures ∙ c.if-not-at_most.false) in
-    visit-refused _ _ _ _ _ _ _ _ _ _ _ _ c.requires.name_sound passed.0 passed.1 c.u32_at-kind.result c.u32_at-kind.ensures.value
-    c.if-unknown.false
-    (same-value _ _ _ _ _ c.in-Sound.is c.check_value.ensures) c.u64_at-header.result c.u64_at-header.ensures.value
-    (same-visit (part-between c.args.segment.now c.args.name.at c.args.name.size) c.in-Full.is c.visit_entry.ensures)
-
-pub returns-in-Done : goal.returns-in-Done
-returns-in-Done c =
-    let passed : (below (name_in c.args.segment.now c.args.state.last) (name_in c.args.segment.now c.args.name) ≡ true) × (range_holds c.args.segment.now c.args.range (name_in c.args.segment.now c.args.name) ≡ true) = floor-passed c.args.segment.now _ _ c.args.floor _ c.requires.floor
-    (sym c.name_below-below.ensures ∙ c.if-not-below.false) (sym c.at_most.ensures ∙ c.if-not-at_most.false) in
-    visited _ _ _ _ _ _ _ _ _ _ _ _ c.requires.name_sound passed.0 passed.1 c.u32_at-kind.result c.u32_at-kind.ensures.value
-    c.if-unknown.false
-    (same-value _ _ _ _ _ c.in-Sound.is c.check_value.ensures) c.u64_at-header.result c.u64_at-header.ensures.value _ _
-    (same-visit (part-between c.args.segment.now c.args.name.at c.args.name.size) c.in-Done.is c.visit_entry.ensures)
+pub returns : goal.returns
+returns c =
+    let e : c.check_value.result ≡ Ok tt = grind arith in
+    let f : c.visit_entry.result ≡ Some (c.in_ok-objects.objects, c.in_ok-objects.link) = grind arith in
+    visited _ _ _ _ _ _ _ _ _ _ _ c.requires.name_sound (floor-passed c.args.segment.now _ _ c.args.floor _ c.requires.floor
+    (sym c.name_below-below.ensures ∙ c.if-not-below.false) (sym c.at_most.ensures ∙ c.if-not-at_most.false)) c.u32_at-kind.ensures.value c.if-unknown.false
+    e c.check_value.ensures c.u64_at-header.ensures.value (part-between c.args.segment.now c.args.name.at c.args.name.size) c.visit_entry.ensures f
