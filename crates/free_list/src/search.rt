@@ -14,8 +14,7 @@ pub fn overlaps_free(segment: &[u8], head: u64, count: usize, off: u64, size: u6
 {
     let end = off + size;
     let mut at = head;
-    let mut i = 0;
-    while i < count {
+    for _ in 0..count {
         let place = at as usize;
         let own = u64_at(segment, place + 8);
         if at < end {
@@ -27,7 +26,6 @@ pub fn overlaps_free(segment: &[u8], head: u64, count: usize, off: u64, size: u6
             }
         }
         at = u64_at(segment, place);
-        i += 1;
     }
     false
 }

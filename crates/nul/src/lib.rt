@@ -22,7 +22,7 @@ fn nul_near(segment: &[u8], off: usize, most: usize) -> usize
     segment.len()
 }
 
-// The same, sixteen bytes at a time.
+// The same, sixteen bytes at a time. The place is what the search gives: chunks of the slice would be counted beside it.
 pub fn nul_within(segment: &[u8], off: usize, most: usize) -> usize
     requires { off ≤ length segment.now }
     ensures { NulWithin segment.now off most result }
@@ -55,7 +55,7 @@ fn last_near(segment: &[u8], end: usize) -> usize
     0
 }
 
-// The same of the whole segment, sixteen bytes at a time.
+// The same of the whole segment, sixteen bytes at a time from its end; here too the place is the answer.
 pub fn last_nul(segment: &[u8]) -> usize
     ensures { LastNul segment.now result }
 {

@@ -1,5 +1,5 @@
-// Strings compared bytewise. Whether they are the same: sixteen bytes at a time, eight once, then byte by byte. The loops over sixteen and eight bytes
-// have no way out, so that they are compiled to vector instructions. Which is below: sixteen bytes at a time, then eight or four as one number.
+// Strings compared bytewise, and searched for a byte. The loops over sixteen and eight bytes have no way out, so that they are compiled to vector
+// instructions. Which of two strings is below: sixteen bytes at a time, then eight or four as one number.
 #![tactic(auto)]
 
 ghost use Rattle.std.specs.Prelude.{◌≡◌, ◌+◌, ◌≤◌, ◌<◌, min, length, get_or, drop};
@@ -23,7 +23,7 @@ fn same_16(a: &[u8], b: &[u8], at: usize) -> bool
     differ == 0
 }
 
-// So many bytes that both begin with, in whole sixteens.
+// So many bytes that both begin with, in whole sixteens. Their number is the answer: chunks of both would be counted beside it.
 fn same_start(a: &[u8], b: &[u8]) -> usize
     ensures { SameStart a.now b.now result }
 {
@@ -154,7 +154,7 @@ fn below_short(a: &[u8], b: &[u8], end: usize) -> bool
 }
 
 // The same for 8 bytes or more, the first `from` of which are the same: eight at a time, and then the last eight, of which those that were compared are
-// the same.
+// the same. Chunks of both would leave a rest to be compared byte by byte.
 fn below_long(a: &[u8], b: &[u8], from: usize, end: usize) -> bool
     requires end_value { end ≡ min (length a.now) (length b.now) }
     requires le_end { 8 ≤ end }
@@ -178,7 +178,8 @@ fn below_long(a: &[u8], b: &[u8], from: usize, end: usize) -> bool
     shorter(a, b)
 }
 
-// Whether the first is strictly below the second. A beginning is below the whole. `<` of two slices compares byte by byte. Sixteens are passed only where there are two or more.
+// Whether the first is strictly below the second. A beginning is below the whole. Sixteens are passed only where there are two or more. `<` of two slices
+// compares byte by byte.
 pub fn below(a: &[u8], b: &[u8]) -> bool
     ensures { result ≡ below a.now b.now }
 {
