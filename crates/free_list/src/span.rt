@@ -1,11 +1,10 @@
 // Where the free blocks met so far lie. In a list that rises or falls the next block lies outside, and its bytes are not looked for.
-ghost use Rattle.std.specs.Prelude.{List, [], ◌∷◌, ◌++◌, ◌≡◌, ℕ, ◌+◌, ◌≤◌, ◌<◌, ◌^◌, max, length};
+ghost use Rattle.std.specs.Prelude.{List, [], ◌∷◌, ◌++◌, ◌≡◌, ℕ, ◌+◌, ◌≤◌, ◌<◌, ◌^◌, length};
 ghost use Rattle.format.specs.Blocks.{Block, block, overlaps_any};
 ghost use Rattle.free_list.specs.FreeBlocks.{chain, Held};
 ghost use Rattle.free_list.specs.Spanned.{Spanned};
 
 use crate::search::meets_free;
-use order::lesser;
 
 // No block has a byte before `low`, or one from `high` on.
 #[derive(Clone, Copy)]
@@ -14,23 +13,14 @@ pub struct Span {
     pub high: usize,
 }
 
-fn greater(m: usize, n: usize) -> usize
-    ensures { result ≡ max m n }
-{
-    if m < n {
-        return n;
-    }
-    m
-}
-
 // With one block more.
 pub fn widened(span: Span, off: usize, size: usize) -> Span
     requires { off + size < 2 ^ 64 }
     ensures { (bs : List Block) → Spanned span.low span.high bs → Spanned result.low result.high (bs ++ (block off size ∷ [])) }
 {
     Span {
-        low: lesser(span.low, off),
-        high: greater(span.high, off + size),
+        low: span.low.min(off),
+        high: span.high.max(off + size),
     }
 }
 

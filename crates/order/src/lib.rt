@@ -178,7 +178,8 @@ fn below_long(a: &[u8], b: &[u8], from: usize, end: usize) -> bool
     shorter(a, b)
 }
 
-// Whether the first is strictly below the second. A beginning is below the whole. `<` of two slices compares byte by byte. Sixteens are passed only where there are two or more.
+// Whether the first is strictly below the second. A beginning is below the whole. `<` of two slices compares byte by byte. Sixteens are passed only
+// where there are two or more.
 pub fn below(a: &[u8], b: &[u8]) -> bool
     ensures { result ≡ below a.now b.now }
 {

@@ -6,4 +6,4 @@ pub returns : goal.returns
 returns c =
     let a = c.args in
     λ bs s.
-    rw (c.lesser.ensures, c.greater.ensures) (spanned-more a.span.low a.span.high a.off a.size bs s)
+    rw (c.min.ensures, c.max.ensures) (spanned-more a.span.low a.span.high a.off a.size bs s)
