@@ -29,14 +29,12 @@ fn at_most(body: &[u8], sizes: usize, maxima: usize, rank: usize) -> bool
     requires rank_in_bounds_2 { maxima + 8 * rank ≤ length body.now }
     ensures { result ≡ all_at_most (to_words rank (drop sizes body.now)) (to_words rank (drop maxima body.now)) }
 {
-    let mut i = 0;
-    while i < rank {
+    for i in 0..rank {
         let size = u64_at(body, sizes + 8 * i);
         let maximum = u64_at(body, maxima + 8 * i);
         if maximum < size {
             return false;
         }
-        i += 1;
     }
     true
 }
@@ -89,10 +87,8 @@ pub fn words(body: &[u8], from: usize, rank: usize) -> [u64; format::RANK_MOST]
     ensures { result ≡ padded rank_most (to_words rank (drop from body.now)) }
 {
     let mut words = [0; format::RANK_MOST];
-    let mut i = 0;
-    while i < rank {
+    for i in 0..rank {
         words[i] = u64_at(body, from + 8 * i);
-        i += 1;
     }
     words
 }
@@ -102,12 +98,10 @@ fn has_zero(body: &[u8], rank: usize) -> bool
     requires { 8 + 8 * rank ≤ length body.now }
     ensures { result ≡ contains 0 (to_words rank (drop 8 body.now)) }
 {
-    let mut i = 0;
-    while i < rank {
+    for i in 0..rank {
         if u64_at(body, 8 + 8 * i) == 0 {
             return true;
         }
-        i += 1;
     }
     false
 }
@@ -121,14 +115,12 @@ fn multiplies_to(body: &[u8], rank: usize, element_size: u64, stored: u64) -> bo
         return false;
     }
     let mut so_far = element_size;
-    let mut i = 0;
-    while i < rank {
+    for i in 0..rank {
         let size = u64_at(body, 8 + 8 * i);
         if stored / size < so_far {
             return false;
         }
-        so_far = so_far * size;
-        i += 1;
+        so_far *= size;
     }
     so_far == stored
 }

@@ -1,7 +1,6 @@
 -- The lines that the command prints, one at a time, and the bytes that they take.
 use Rattle.std.specs.Prelude.{ℕ, ◌+◌, ◌*◌, ◌≤◌, List, [], ◌∷◌, ◌++◌, ◌≡◌, length, take, drop}
 use Rattle.format.specs.Limits.{objects_most}
-use Rattle.format.specs.Audit.{Counted}
 use Rattle.format.specs.Command.{hex, object_lines, command}
 
 -- "First: answer, object count (8 digits each)."

@@ -30,11 +30,9 @@ pub fn put_hex(out: &mut [u8], at: usize, x: u64, digits: usize)
     requires { at + digits ≤ length out.old }
     ensures { out.new ≡ overwrite out.old at (hex digits x) }
 {
-    let mut left = digits;
     let mut rest = x;
-    while 0 < left {
-        left -= 1;
-        out[at + left] = ascii_digit(rest % 16);
+    for i in (0..digits).rev() {
+        out[at + i] = ascii_digit(rest % 16);
         rest /= 16;
     }
 }
@@ -67,10 +65,8 @@ pub fn put_objects(out: &mut [u8], at: usize, ledger: Ledger) -> usize
     ensures value { result ≡ at + 33 * ledger.objects }
     ensures out_after { out.new ≡ overwrite out.old at (object_lines (counted_of ledger)) }
 {
-    let objects = ledger.objects;
     let mut place = at;
-    let mut i: usize = 0;
-    while i < objects {
+    for i in 0..ledger.objects {
         put_object(
             out,
             place,
@@ -79,7 +75,6 @@ pub fn put_objects(out: &mut [u8], at: usize, ledger: Ledger) -> usize
             ledger.true_counts[i],
         );
         place += OBJECT_LINE;
-        i += 1;
     }
     place
 }

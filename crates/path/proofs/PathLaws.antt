@@ -1,5 +1,5 @@
 -- Laws of a path's form: one turn of the search for a component's end, one component of many, and the tests of a whole path.
-use Prim.Native.Nat.{ℕ, suc, ◌+◌, ◌-◌, ◌≤◌, ◌<◌}
+use Prim.Native.Nat.{ℕ, zero, suc, ◌+◌, ◌-◌, ◌≤◌, ◌<◌}
 use mathlib.Core.Bool.{Bool, true, false}
 use mathlib.Core.List.{List, [], ◌∷◌}
 use mathlib.Core.Path.{◌≡◌, refl, ap, sym, ◌∙◌}
@@ -7,8 +7,8 @@ use native.Mathlib.Numerals.{add-one}
 use native.Mathlib.Omega.{arith}
 use borrow.Author.Tests.{ltb-true, ltb-false, eq-eqb, ne_eqb}
 use lib.Dec.{ltb}
-use lib.ListN.{length, get_or, drop, drop_of_length-le}
-use lib.Seq.{drop-cons}
+use lib.ListN.{length, get_or, take, drop, drop_of_length-le, length-drop}
+use lib.Seq.{drop-cons, take_all, length-take-le, get_or-drop}
 use Rattle.format.specs.Limits.{path_most}
 use Rattle.format.specs.Bytes.{part, u8}
 use Rattle.format.specs.Path.{with_byte, path_parts, is_component, all_components, parse_path, components, bad_path}
@@ -59,6 +59,37 @@ module _ (path : List ℕ) (i : ℕ) where
     last = λ z. rw (part_none path i) (parts-end k);
     more = λ z. absurd (omega arith);
   }
+
+-- behind n bytes that aren't '/'
+pub ends-behind : (path : List ℕ) (n i r : ℕ) → i + n ≤ length path → ((k : ℕ) → k < n → get_or path (i + k) 0 ≡ 0x2f → ⊥) → EndsAt path (i + n) r → EndsAt path i r
+ends-behind path zero i r h f e = let z : i + 0 ≡ i = omega arith in rw z at e
+ends-behind path (suc n) i r h f e =
+    let z : i + 0 ≡ i = omega arith in
+    let m : i + suc n ≡ i + 1 + n = omega arith in
+    ends-later path i r (omega arith) (rw z at (f 0 (omega arith)))
+    (ends-behind path n (i + 1) r (omega arith) (λ k l. let g : i + 1 + k ≡ i + (k + 1) = omega arith in rw g (f (k + 1) (omega arith))) (rw m at e))
+
+-- by the first '/' of the rest of a path, or where the rest has none
+module _ (path : List ℕ) (a : ℕ) (h : a ≤ length path) where
+  abbrev pub rest : List ℕ
+  rest = take (length path - a) (drop a path)
+
+  rest-long : length rest ≡ length path - a
+  rest-long = length-take-le (length path - a) (drop a path) (simp length-drop (omega arith))
+
+  rest-byte : (k : ℕ) → get_or rest k 0 ≡ get_or path (a + k) 0
+  rest-byte k = ap (λ (l : List ℕ). get_or l k 0) (take_all (length path - a) (drop a path) (simp length-drop (omega arith))) ∙ get_or-drop a path k 0
+
+  pub ends-first : (n : ℕ) → n < length rest → get_or rest n 0 ≡ 0x2f → ((k : ℕ) → k < n → get_or rest k 0 ≡ 0x2f → ⊥) → EndsAt path a (a + n)
+  ends-first n l here before =
+      let fits : n < length path - a = omega (arith, rest-long) in
+      ends-behind path n a (a + n) (omega arith) (λ k m e. before k m (rest-byte k ∙ e)) (ends-here path (a + n) (omega arith) (sym (rest-byte n) ∙ here))
+
+  pub ends-none : ((k : ℕ) → k < length rest → get_or rest k 0 ≡ 0x2f → ⊥) → EndsAt path a (length path)
+  ends-none none =
+      let e : a + (length path - a) ≡ length path = omega arith in
+      let all : EndsAt path (length path) (length path) = ends_last path (length path) (omega arith) (omega arith) in
+      ends-behind path (length path - a) a (length path) (omega arith) (λ k m q. none k (omega (arith, rest-long)) (rest-byte k ∙ q)) (rw e all)
 
 -- the components from a on, the first of which ends at r: that one decides, or it is the last, or the others do
 module _ (path : List ℕ) (a r : ℕ) (ends : EndsAt path a r) (whole : Bool) (e : whole ≡ all_components (path_parts (drop a path))) where

@@ -12,14 +12,10 @@ pub fn component_end(path: &[u8], from: usize) -> usize
     requires { from ≤ length path.now }
     ensures { EndsAt path.now from result }
 {
-    let mut i = from;
-    while i < path.len() {
-        if path[i] == b'/' {
-            return i;
-        }
-        i += 1;
+    match path[from..].iter().position(|byte| *byte == b'/') {
+        Some(n) => from + n,
+        None => path.len(),
     }
-    i
 }
 
 // Whether these bytes, none of them '/', may be a component: 1 to 255 of them, not ".", and no NUL.

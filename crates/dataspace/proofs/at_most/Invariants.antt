@@ -1,5 +1,4 @@
 -- What the whole comparison finds is what is found from the ith size on; each turn settles one.
-use Prim.Native.Nat.{◌-◌, ◌≤◌}
 use mathlib.Core.Path.{◌≡◌}
 use lib.ListN.{drop}
 use Rattle.format.specs.Bytes.{to_words}
@@ -9,8 +8,5 @@ use Rattle.dataspace.proofs.at_most.Given as goal
 
 abbrev pub invariant-loop-i : goal.invariant-loop-i
 invariant-loop-i l =
-    (l.i ≤ l.rank) × (all_at_most (to_words l.rank (drop l.sizes l.body)) (to_words l.rank (drop l.maxima l.body)) ≡ all_at_most (words_from l.body l.sizes l.rank l.i)
+    (all_at_most (to_words l.rank (drop l.sizes l.body)) (to_words l.rank (drop l.maxima l.body)) ≡ all_at_most (words_from l.body l.sizes l.rank l.i)
     (words_from l.body l.maxima l.rank l.i))
-
-abbrev pub decreases-loop-i : goal.decreases-loop-i
-decreases-loop-i l = l.rank - l.i

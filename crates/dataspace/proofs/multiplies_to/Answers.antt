@@ -10,7 +10,6 @@ use Rattle.format.specs.Bytes.{to_words, contains}
 use Rattle.format.specs.Dataspace.{product}
 use Rattle.dataspace.proofs.DataspaceLaws.{words_from, words-start, fills-larger, Turn, product-end, product-turn}
 use native.Mathlib.Omega.{arith}
-use borrow.Author.Rules.{rules}
 use Rattle.dataspace.proofs.multiplies_to.Goals as goal
 
 turn : (b : List ℕ) (rank i size so_far stored s : ℕ) → contains 0 (words_from b 8 rank i) ≡ false →
@@ -27,24 +26,24 @@ pub loop-i-init : goal.loop-i-init
 loop-i-init c =
     let s = c in
     let w = words-start s.args.body.now 8 s.args.rank in
-    (search rules, c.if-stored-element_size.false, rw (← w) s.requires.nonzero, rw (← w) (mul_comm _ _))
+    (c.if-stored-element_size.false, rw (← w) s.requires.nonzero, rw (← w) (mul_comm _ _))
 
 pub returns-then-stored-size : goal.returns-then-stored-size
-returns-then-stored-size c = (turn _ _ _ c.args.element_size _ c.args.stored _ c.loop-i.invariant.2 c.loop-i.invariant.3 c.loop-i-test.true c.u64_at-size.ensures).above c.if-stored-size.true
+returns-then-stored-size c = (turn _ _ _ c.args.element_size _ c.args.stored _ c.loop-i.invariant.1 c.loop-i.invariant.2 c.loop-i-test.true c.u64_at-size.ensures).above c.if-stored-size.true
 
 pub nonzero_div-stored : goal.nonzero_div-stored
-nonzero_div-stored c = let t = turn _ _ _ c.args.element_size _ c.args.stored _ c.loop-i.invariant.2 c.loop-i.invariant.3 c.loop-i-test.true c.u64_at-size.ensures in omega (arith, t.least)
+nonzero_div-stored c = let t = turn _ _ _ c.args.element_size _ c.args.stored _ c.loop-i.invariant.1 c.loop-i.invariant.2 c.loop-i-test.true c.u64_at-size.ensures in omega (arith, t.least)
 
 pub overflow_mul-so_far : goal.overflow_mul-so_far
 overflow_mul-so_far c =
     let start = c in
-    omega (arith, (turn _ _ _ c.args.element_size _ c.args.stored _ c.loop-i.invariant.2 c.loop-i.invariant.3 c.loop-i-test.true c.u64_at-size.ensures).within c.if-stored-size.false, start.ranges.stored)
+    omega (arith, (turn _ _ _ c.args.element_size _ c.args.stored _ c.loop-i.invariant.1 c.loop-i.invariant.2 c.loop-i-test.true c.u64_at-size.ensures).within c.if-stored-size.false, start.ranges.stored)
 
 pub loop-i-preserved : goal.loop-i-preserved
-loop-i-preserved c = let t = turn _ _ _ c.args.element_size _ c.args.stored _ c.loop-i.invariant.2 c.loop-i.invariant.3 c.loop-i-test.true c.u64_at-size.ensures in (search rules, t.within c.if-stored-size.false, t.nonzero, t.next)
+loop-i-preserved c = let t = turn _ _ _ c.args.element_size _ c.args.stored _ c.loop-i.invariant.1 c.loop-i.invariant.2 c.loop-i-test.true c.u64_at-size.ensures in (t.within c.if-stored-size.false, t.nonzero, t.next)
 
 pub returns : goal.returns
 returns c =
     let s = c in
     let a = s.args in
-    product-end a.body.now a.rank s.loop-i.i _ _ a.stored s.loop-i.invariant.2 s.loop-i.invariant.3 c.loop-i-test.false
+    product-end a.body.now a.rank s.loop-i.i _ _ a.stored s.loop-i.invariant.1 s.loop-i.invariant.2 c.loop-i-test.false

@@ -1,5 +1,5 @@
 -- The whole product is the product so far times the sizes that are left; none of them is 0, so it only grows.
-use Prim.Native.Nat.{◌*◌, ◌-◌, ◌≤◌}
+use Prim.Native.Nat.{◌*◌, ◌≤◌}
 use mathlib.Core.Path.{◌≡◌}
 use mathlib.Core.Bool.{false}
 use lib.ListN.{drop}
@@ -10,8 +10,5 @@ use Rattle.dataspace.proofs.multiplies_to.Given as goal
 
 abbrev pub invariant-loop-i : goal.invariant-loop-i
 invariant-loop-i l =
-    (l.i ≤ l.rank) × (l.so_far ≤ l.stored) × (contains 0 (words_from l.body 8 l.rank l.i) ≡ false) × (product (to_words l.rank (drop 8 l.body)) * l.element_size ≡ l.so_far * product
+    (l.so_far ≤ l.stored) × (contains 0 (words_from l.body 8 l.rank l.i) ≡ false) × (product (to_words l.rank (drop 8 l.body)) * l.element_size ≡ l.so_far * product
     (words_from l.body 8 l.rank l.i))
-
-abbrev pub decreases-loop-i : goal.decreases-loop-i
-decreases-loop-i l = l.rank - l.i

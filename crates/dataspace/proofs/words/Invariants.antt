@@ -1,5 +1,4 @@
 -- The words read so far stand in front of zeros; each turn writes one more.
-use Prim.Native.Nat.{◌-◌, ◌≤◌}
 use mathlib.Core.Path.{◌≡◌}
 use lib.ListN.{drop}
 use Rattle.format.specs.Limits.{rank_most}
@@ -7,7 +6,4 @@ use Rattle.format.specs.Bytes.{to_words, padded}
 use Rattle.dataspace.proofs.words.Given as goal
 
 abbrev pub invariant-loop-i : goal.invariant-loop-i
-invariant-loop-i l = (l.i ≤ l.rank) × (l.words ≡ padded rank_most (to_words l.i (drop l.from l.body)))
-
-abbrev pub decreases-loop-i : goal.decreases-loop-i
-decreases-loop-i l = l.rank - l.i
+invariant-loop-i l = (l.words ≡ padded rank_most (to_words l.i (drop l.from l.body)))

@@ -1,7 +1,6 @@
 -- Either answer is the definition's.
 use borrow.Author.Tests.{lt-ltb, le-ltb}
 use Rattle.format.specs.Command.{digit}
-use borrow.Author.Rules.{rules}
 use Rattle.output.proofs.ascii_digit.Goals as goal
 
 pub returns-then-d-lt10 : goal.returns-then-d-lt10

@@ -2,7 +2,6 @@
 use native.Mathlib.Omega.{arith}
 use lib.ListN.{length-set}
 use Rattle.output.proofs.LineLaws.{object-written}
-use borrow.Author.Rules.{rules}
 use Rattle.output.proofs.put_object.Goals as goal
 
 pub shape_of-out : goal.shape_of-out

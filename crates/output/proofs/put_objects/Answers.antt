@@ -1,9 +1,7 @@
 -- The lines of the first i objects are written; each turn writes one more.
 use borrow.Author.Rules.{rules}
-use Prim.Native.Nat.{◌+◌, ◌*◌, ◌-◌, ◌≤◌}
 use mathlib.Core.Path.{◌≡◌, refl, ◌∙◌}
 use native.Mathlib.Omega.{arith}
-use lib.ListN.{length}
 use Rattle.format.specs.Limits.{objects_most}
 use Rattle.format.specs.Bytes.{overwrite}
 use Rattle.format.specs.Command.{object_lines}
@@ -13,7 +11,7 @@ use Rattle.output.proofs.put_objects.Goals as goal
 
 pub loop-i-init : goal.loop-i-init
 unfolding object_lines counted_places overwrite
-loop-i-init c = (omega arith, omega arith, refl, refl)
+loop-i-init c = (omega arith, refl, refl)
 
 pub bounds-ledger-i : goal.bounds-ledger-i
 unfolding objects_most
@@ -33,8 +31,7 @@ loop-i-preserved c =
     let a = c.args in (
       omega arith,
       omega arith,
-      omega arith,
-      rw (c.put_object.ensures, l.invariant.1, l.invariant.3)
+      rw (c.put_object.ensures, l.invariant.0, l.invariant.2)
           (line-written a.out.now a.at l.i a.ledger.addresses a.ledger.stored a.ledger.true_counts),
     )
 
@@ -44,5 +41,5 @@ returns c =
     let e : l.i ≡ c.args.ledger.objects = omega arith in
     record {
       value = omega arith;
-      out_after = l.invariant.3 ∙ rw e;
+      out_after = l.invariant.2 ∙ rw e;
     }

@@ -1,22 +1,19 @@
--- A component that begins at i and ends at r begins at from too, as no byte from there to i is a '/'.
-use Rattle.path.proofs.PathLaws.{ends-here, ends-later, ends_last}
-use native.Mathlib.Omega.{arith}
+-- The first '/' ends the component, or the path's end.
+use Rattle.std.proofs.Common.{◌≡◌, rules, tests, arith}
+use Rattle.std.proofs.lemmas.Iterator.{YieldsList-from_slice, IsFirst-from_position}
+use Rattle.path.proofs.PathLaws.{ends-first, ends-none}
 use Rattle.path.proofs.component_end.Goals as goal
 
-pub loop-i-init : goal.loop-i-init
-loop-i-init c = (omega arith, λ r e. e)
+pub returns-in-Some : goal.returns-in-Some
+returns-in-Some c =
+    let first = IsFirst-from_position _ _ c.position.result (λ b. b ≡ 0x2f) (λ b. b ≡ 0x2f → ⊥) c.position.ensures.ran
+    (YieldsList-from_slice _ c.iter.ensures.rest) (λ b q k. search (rules, tests)) (λ b q k. search (rules, tests)) in
+    let found = rw c.in-Some.is at first in
+    ends-first c.args.path.now c.args.from c.requires c.in-Some.n found.0 (found.1 0) (λ k l. found.2 k 0 (omega arith) l)
 
-pub returns-then-path-i-eq47 : goal.returns-then-path-i-eq47
-returns-then-path-i-eq47 c =
-    let l = c in
-    l.loop-i.invariant.1 _ (ends-here l.args.path.now l.loop-i.i (omega arith) (omega arith))
-
-pub loop-i-preserved : goal.loop-i-preserved
-loop-i-preserved c =
-    let l = c in
-    (omega arith, λ r e. l.loop-i.invariant.1 r (ends-later l.args.path.now l.loop-i.i r (omega arith) (λ z. omega arith) e))
-
-pub returns : goal.returns
-returns c =
-    let l = c in
-    l.loop-i.invariant.1 _ (ends_last l.args.path.now l.loop-i.i (omega arith) (omega arith))
+pub returns-in-None : goal.returns-in-None
+returns-in-None c =
+    let first = IsFirst-from_position _ _ c.position.result (λ b. b ≡ 0x2f) (λ b. b ≡ 0x2f → ⊥) c.position.ensures.ran
+    (YieldsList-from_slice _ c.iter.ensures.rest) (λ b q k. search (rules, tests)) (λ b q k. search (rules, tests)) in
+    let none = rw c.in-None.is at first in
+    ends-none c.args.path.now c.args.from c.requires (λ k l. none k 0 (omega arith) l)
