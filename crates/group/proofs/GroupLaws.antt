@@ -4,9 +4,10 @@ use mathlib.Core.List.{List, []}
 use mathlib.Core.Path.{◌≡◌, ap, sym}
 use lib.ListN.{length}
 use mathlib.Core.Bool.{Bool}
+use Rattle.std.specs.Prelude.{Option, Result, Ok, Err}
 use Rattle.format.specs.Blocks.{Block}
 use Rattle.format.specs.declared.Refusal.{Refusal}
-use Rattle.format.specs.Result.{Result, value, answer}
+use Rattle.format.specs.Result.{Result as Read, value, answer}
 use Rattle.format.specs.Walk.{Walk, ret, fault, located, ◌>>=◌, run}
 use Rattle.format.specs.FreeList.{free_list}
 use Rattle.format.specs.Heap.{Heap}
@@ -19,27 +20,25 @@ use Rattle.heap.specs.declared.header.Heap as heaps
 use Rattle.heap.proofs.HeaderLaws.{heap-opened}
 use Rattle.free_list.specs.FreeBlocks.{chain}
 use Rattle.segment.specs.Segment.{SegmentIs}
-use Rattle.segment.specs.declared.SegmentRead.{SegmentRead}
-use Rattle.visit.specs.Visit.{visit_both, both_of, no_link}
+use Rattle.segment.specs.declared.Segment.{Segment}
+use Rattle.visit.specs.Visit.{Both, visit_both, both_of, no_link}
 use Rattle.symbol.specs.Entry.{group_of, state_of}
 use Rattle.symbol.specs.declared.entry.Group as entries
 use Rattle.symbol.specs.declared.entry.State.{State}
-use Rattle.symbol.specs.declared.entry.Step.{Step}
-use Rattle.symbol.specs.declared.entry.Step.TheVariants.{Done, Stopped}
 use Rattle.symbol_node.specs.Tree.{step_end, SoundIf}
 use Rattle.group.specs.Group.{group_end, ReadyIf, contents_walk}
 use Rattle.laws.proofs.Bind.{bind_assoc, ret-bind, bind-ret}
 use Rattle.laws.proofs.Simulation.{Simulation, start, same-walk, returned, callee-done, callee-stopped, callee-value, callee-refusal}
 
 -- a group is its heap, entered, then what stands behind it
-group-opened : {S : Type 0} (leaf_k internal_k tree heap : ℕ) (visit : Entry → S → Result S) (found : S) →
+group-opened : {S : Type 0} (leaf_k internal_k tree heap : ℕ) (visit : Entry → S → Read S) (found : S) →
     group_walk leaf_k internal_k tree heap visit found ≡ (open_walk heap >>= λ o. contents_walk leaf_k internal_k tree o visit found)
 unfolding group_walk contents_walk
 group-opened leaf_k internal_k tree heap visit found = rw (heap-opened heap) (simp (bind_assoc, ret-bind))
 
 -- What stands behind a heap, by its free list.
 module _ {S : Type 0} (im : List ℕ) (eof room : ℕ) (ws : List ℕ) (count : ℕ) (l : Lent ws count room) (leaf_k internal_k tree : ℕ) (o : OpenHeap)
-    (visit : Entry → S → Result S) (found : S) where
+    (visit : Entry → S → Read S) (found : S) where
   abbrev w : Walk S
   w = contents_walk leaf_k internal_k tree o visit found
 
@@ -89,54 +88,65 @@ module _ (im : List ℕ) (eof room : ℕ) (ws : List ℕ) (count : ℕ) (l : Len
   abbrev begun : State
   begun = record { count = count; objects = objects; last = record { at = 0; size = 0; first = 0; second = 0 }; link = no_link }
 
-  pub tree-ended : free_list (segment_of im h) h.head ≡ value (chain free (segment_of im h) h.head) → (ws₂ addresses₂ counts₂ : List ℕ) (r : Step) →
+  abbrev bytes : List ℕ
+  bytes = segment_of im h
+
+  abbrev contents : Walk Both
+  contents = contents_walk leaf_k internal_k tree (open_heap im h) (visit_both auditing wanted) (both_of addresses counts objects no_link)
+
+  pub tree-ended : free_list bytes h.head ≡ value (chain free bytes h.head) → (ws₂ addresses₂ counts₂ : List ℕ) (r : Result State Refusal) →
       length ws₂ ≡ length ws →
-      Walked ws ws₂ (step_end (segment_of im h) addresses₂ counts₂ r)
-      (run im eof room (tree_walk (group_of (segment_of im h) wanted in_group) tree (state_of (segment_of im h) addresses counts begun)) (blocks_of count ws)) →
-      Walked ws ws₂ (group_end addresses₂ counts₂ r)
-      (run im eof room (contents_walk leaf_k internal_k tree (open_heap im h) (visit_both auditing wanted) (both_of addresses counts objects no_link)) (blocks_of count ws))
-  tree-ended e ws₂ addresses₂ counts₂ (Done s) same t =
-      tree-done im eof room ws count l leaf_k internal_k tree (open_heap im h) (visit_both auditing wanted) _ _ e ws₂ (state_of (segment_of im h) addresses₂ counts₂ s)
-      s.count same t
-  tree-ended e ws₂ addresses₂ counts₂ (Stopped n) same t =
+      Walked ws ws₂ (step_end bytes addresses₂ counts₂ r)
+      (run im eof room (tree_walk (group_of bytes wanted in_group) tree (state_of bytes addresses counts begun)) (blocks_of count ws)) →
+      Walked ws ws₂ (group_end addresses₂ counts₂ r) (run im eof room contents (blocks_of count ws))
+  tree-ended e ws₂ addresses₂ counts₂ (Ok s) same t =
+      tree-done im eof room ws count l leaf_k internal_k tree (open_heap im h) (visit_both auditing wanted) _ _ e ws₂
+      (state_of bytes addresses₂ counts₂ s) s.count same t
+  tree-ended e ws₂ addresses₂ counts₂ (Err n) same t =
       tree-stopped im eof room ws count l leaf_k internal_k tree (open_heap im h) (visit_both auditing wanted) _ _ e ws₂ n t
 
 -- what was read of a segment, by the case that it is
-pub same-segment : {seg seg' map : List ℕ} {head : ℕ} {r r' : SegmentRead} → seg ≡ seg' → r ≡ r' → SegmentIs seg map head r → SegmentIs seg' map head r'
+pub same-segment : {seg seg' map : List ℕ} {head : ℕ} {r r' : Option Segment} → seg ≡ seg' → r ≡ r' → SegmentIs seg map head r → SegmentIs seg' map head r'
 same-segment e f h = rw f at (rw e at h)
 
 -- A group, by its heap.
 module _ {S : Type 0} (im : List ℕ) (eof room : ℕ) (ws : List ℕ) (count : ℕ) (l : Lent ws count room) (leaf_k internal_k tree heap : ℕ)
-    (visit : Entry → S → Result S) (found : S) (ws₁ : List ℕ) where
-  split : Simulation im eof room (group_walk leaf_k internal_k tree heap visit found) count ws
-      (open_walk heap >>= λ o. contents_walk leaf_k internal_k tree o visit found) count ws
-  split = same-walk _ (group-opened leaf_k internal_k tree heap visit found) (start im eof room (group_walk leaf_k internal_k tree heap visit found) count ws l)
+    (visit : Entry → S → Read S) (found : S) (ws₁ : List ℕ) where
+  abbrev whole : Walk S
+  whole = group_walk leaf_k internal_k tree heap visit found
+
+  -- what follows the heap
+  abbrev behind : OpenHeap → Walk S
+  behind o = contents_walk leaf_k internal_k tree o visit found
+
+  split : Simulation im eof room whole count ws (open_walk heap >>= behind) count ws
+  split = same-walk _ (group-opened leaf_k internal_k tree heap visit found) (start im eof room whole count ws l)
 
   pub heap-stopped : (x : Refusal) → Walked ws ws₁ (stopped x) (run im eof room (open_walk heap) (blocks_of count ws)) →
-      Walked ws ws₁ (stopped x) (run im eof room (group_walk leaf_k internal_k tree heap visit found) (blocks_of count ws))
+      Walked ws ws₁ (stopped x) (run im eof room whole (blocks_of count ws))
   heap-stopped x h = callee-stopped ws₁ (open_walk heap) _ split h
 
-  module _ (o : OpenHeap) (m : ℕ) (same : length ws₁ ≡ length ws) (h : Walked ws ws₁ (ended o m) (run im eof room (open_walk heap) (blocks_of count ws))) where
-    pub at-contents : Simulation im eof room (group_walk leaf_k internal_k tree heap visit found) count ws (contents_walk leaf_k internal_k tree o visit found) m ws₁
+  module _ (o : OpenHeap) (m : ℕ) (same : length ws₁ ≡ length ws)
+      (h : Walked ws ws₁ (ended o m) (run im eof room (open_walk heap) (blocks_of count ws))) where
+    pub at-contents : Simulation im eof room whole count ws (behind o) m ws₁
     at-contents = callee-done ws₁ (open_walk heap) _ split same h
 
-    last_step : Simulation im eof room (group_walk leaf_k internal_k tree heap visit found) count ws
-        (contents_walk leaf_k internal_k tree o visit found >>= λ x. ret x) m ws₁
-    last_step = same-walk _ (sym (bind-ret (contents_walk leaf_k internal_k tree o visit found))) at-contents
+    last_step : Simulation im eof room whole count ws (behind o >>= λ x. ret x) m ws₁
+    last_step = same-walk _ (sym (bind-ret (behind o))) at-contents
 
     -- what the code of the contents returned is what the group's returns
-    pub contents-ended : (to_end : Step → Ended S) (ws₂ : List ℕ) (r : Step) → ((s : State) → (x : S) × (to_end (Done s) ≡ ended x s.count)) →
-        ((x : Refusal) → to_end (Stopped x) ≡ stopped x) → length ws₂ ≡ length ws₁ →
-        Walked ws₁ ws₂ (to_end r) (run im eof room (contents_walk leaf_k internal_k tree o visit found) (blocks_of m ws₁)) →
-        Walked ws ws₂ (to_end r) (run im eof room (group_walk leaf_k internal_k tree heap visit found) (blocks_of count ws))
-    contents-ended to_end ws₂ (Done s) d q same₂ t =
+    pub contents-ended : (to_end : Result State Refusal → Ended S) (ws₂ : List ℕ) (r : Result State Refusal) →
+        ((s : State) → (x : S) × (to_end (Ok s) ≡ ended x s.count)) → ((x : Refusal) → to_end (Err x) ≡ stopped x) → length ws₂ ≡ length ws₁ →
+        Walked ws₁ ws₂ (to_end r) (run im eof room (behind o) (blocks_of m ws₁)) →
+        Walked ws ws₂ (to_end r) (run im eof room whole (blocks_of count ws))
+    contents-ended to_end ws₂ (Ok s) d q same₂ t =
         let e = (d s).1 in
-        rw e (returned (callee-done ws₂ (contents_walk leaf_k internal_k tree o visit found) (λ (x : S). ret x) last_step same₂ (rw e at t)))
-    contents-ended to_end ws₂ (Stopped x) d q same₂ t =
-        rw (q x) (callee-stopped ws₂ (contents_walk leaf_k internal_k tree o visit found) (λ (y : S). ret y) last_step (rw (q x) at t))
+        rw e (returned (callee-done ws₂ (behind o) (λ (x : S). ret x) last_step same₂ (rw e at t)))
+    contents-ended to_end ws₂ (Err x) d q same₂ t =
+        rw (q x) (callee-stopped ws₂ (behind o) (λ (y : S). ret y) last_step (rw (q x) at t))
 
 -- a sound state has what the next group is read with
-pub sound-ready : (seg ws addresses counts : List ℕ) (g : entries.Group) (r : Step) → SoundIf seg ws addresses counts g r →
+pub sound-ready : (seg ws addresses counts : List ℕ) (g : entries.Group) (r : Result State Refusal) → SoundIf seg ws addresses counts g r →
     ReadyIf g.auditing ws addresses counts g.end_of_file g.room r
-sound-ready seg ws addresses counts g (Done s) h = record { lent = h.lent; table = h.table; apart = h.apart; inside = h.inside; links = h.links }
-sound-ready seg ws addresses counts g (Stopped n) h = tt
+sound-ready seg ws addresses counts g (Ok s) h = record { lent = h.lent; table = h.table; apart = h.apart; inside = h.inside; links = h.links }
+sound-ready seg ws addresses counts g (Err n) h = tt

@@ -1,4 +1,3 @@
 pub mod GroupLaws
-pub mod MapLaws
 pub mod Visits
 pub mod Entries

@@ -6,8 +6,7 @@ ghost use Rattle.group.specs.Group.{Settings, Ready, ContentsAre};
 use format::{Refusal, answers};
 use heap::header::Heap;
 use range::Name;
-use segment::SegmentRead;
-use symbol::entry::{Group, State, Step};
+use symbol::entry::{Group, State};
 use tree;
 use visit::{ABSENT, Link};
 
@@ -35,7 +34,7 @@ pub fn read_with(
     heap: Heap,
     count: usize,
     objects: usize,
-) -> Step
+) -> Result<State, Refusal>
     requires settings { Settings image.now reading.end_of_file reading.room reading.leaf_k reading.internal_k }
     requires ready { Ready reading.auditing list.old addresses.old counts.old reading.end_of_file reading.room count objects }
     requires segment_inside { SegmentInside image.now reading.end_of_file heap }
@@ -46,46 +45,34 @@ pub fn read_with(
 {
     let start = heap.segment;
     let end = start + heap.size;
-    let head = heap.head;
-    match segment::read(&image[start..end], map, head) {
-        SegmentRead::Unsound => Step::Stopped(Refusal::Fault(answers::HEAP_UNSOUND, start)),
-        SegmentRead::Sound { free, ended } => {
-            let group = Group {
-                end_of_file: reading.end_of_file,
-                room: reading.room,
-                leaf_k: reading.leaf_k,
-                internal_k: reading.internal_k,
-                head,
-                free,
-                ended,
-                auditing: reading.auditing,
-            };
-            let state = State {
-                count,
-                objects,
-                last: Name {
-                    at: 0,
-                    size: 0,
-                    first: 0,
-                    second: 0,
-                },
-                link: Link {
-                    found: ABSENT,
-                    header: 0,
-                },
-            };
-            tree::tree(
-                image,
-                &image[start..end],
-                map,
-                wanted,
-                list,
-                addresses,
-                counts,
-                group,
-                tree,
-                state,
-            )
-        }
-    }
+    let bytes = &image[start..end];
+    let unsound = Refusal::Fault(answers::HEAP_UNSOUND, start);
+    let known = segment::read(bytes, map, heap.head).ok_or(unsound)?;
+    let group = Group {
+        end_of_file: reading.end_of_file,
+        room: reading.room,
+        leaf_k: reading.leaf_k,
+        internal_k: reading.internal_k,
+        head: heap.head,
+        free: known.free,
+        ended: known.ended,
+        auditing: reading.auditing,
+    };
+    let state = State {
+        count,
+        objects,
+        last: Name {
+            at: 0,
+            size: 0,
+            first: 0,
+            second: 0,
+        },
+        link: Link {
+            found: ABSENT,
+            header: 0,
+        },
+    };
+    tree::tree(
+        image, bytes, map, wanted, list, addresses, counts, group, tree, state,
+    )
 }

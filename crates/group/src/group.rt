@@ -3,9 +3,9 @@ ghost use Rattle.group.specs.Group.{Settings, Ready, GroupIs};
 
 use crate::contents::Reading;
 use crate::maps;
+use format::Refusal;
 use heap::header;
-use heap::header::HeapOpened;
-use symbol::entry::Step;
+use symbol::entry::State;
 
 // The group with the tree and the heap at these addresses, for the audit or for a lookup of `wanted`.
 pub fn read(
@@ -19,7 +19,7 @@ pub fn read(
     heap: u64,
     count: usize,
     objects: usize,
-) -> Step
+) -> Result<State, Refusal>
     requires settings { Settings image.now reading.end_of_file reading.room reading.leaf_k reading.internal_k }
     requires ready { Ready reading.auditing list.old addresses.old counts.old reading.end_of_file reading.room count objects }
     ensures { GroupIs image.now wanted.now list.old addresses.old counts.old
@@ -28,10 +28,8 @@ pub fn read(
 {
     let end_of_file = reading.end_of_file;
     let room = reading.room;
-    match header::open(image, end_of_file, list, count, room, heap) {
-        HeapOpened::Stopped(x) => Step::Stopped(x),
-        HeapOpened::Opened(h, c) => maps::read_in(
-            image, wanted, list, addresses, counts, reading, tree, h, c, objects,
-        ),
-    }
+    let (heap, with_heap) = header::open(image, end_of_file, list, count, room, heap)?;
+    maps::read_in(
+        image, wanted, list, addresses, counts, reading, tree, heap, with_heap, objects,
+    )
 }

@@ -1,13 +1,14 @@
 // The map of a heap's free bytes in three sizes: no file pays for a longer map than its heap needs. Without a free list, and for a segment that is
 // too long for a map, it has no cells.
-ghost use Rattle.std.specs.Prelude.{◌||◌, ◌≡◌, ◌+◌, ◌/◌, ◌≤◌, eqb};
+ghost use Rattle.std.specs.Prelude.{◌||◌, ◌≡◌, ◌+◌, ◌/◌, ◌^◌, ◌≤◌, ◌<◌, eqb};
 ghost use Rattle.format.specs.Bytes.{undefined_address};
 ghost use Rattle.heap.specs.Header.{SegmentInside};
-ghost use Rattle.group.specs.Group.{Settings, Ready, ContentsAre, few_cells, many_cells, most_cells};
+ghost use Rattle.group.specs.Group.{Settings, Ready, ContentsAre};
 
 use crate::contents::{Reading, read_with};
+use format::Refusal;
 use heap::header::Heap;
-use symbol::entry::Step;
+use symbol::entry::State;
 use walk::numbers::UNDEFINED_ADDRESS;
 
 // So many cells of 16 bytes: for segments below 2 KiB, for those below 128 KiB, and for those below 1 MiB.
@@ -21,10 +22,7 @@ const MOST_CELLS: usize = 65536;
 fn no_list(head: u64) -> bool
     ensures { result ≡ (eqb head 1 || eqb head undefined_address) }
 {
-    if head == 1 {
-        return true;
-    }
-    head == UNDEFINED_ADDRESS
+    head == 1 || head == UNDEFINED_ADDRESS
 }
 
 // A map of no cells.
@@ -39,7 +37,7 @@ fn read_plain(
     heap: Heap,
     count: usize,
     objects: usize,
-) -> Step
+) -> Result<State, Refusal>
     requires settings { Settings image.now reading.end_of_file reading.room reading.leaf_k reading.internal_k }
     requires ready { Ready reading.auditing list.old addresses.old counts.old reading.end_of_file reading.room count objects }
     requires segment_inside { SegmentInside image.now reading.end_of_file heap }
@@ -47,14 +45,13 @@ fn read_plain(
         reading.end_of_file reading.room reading.leaf_k reading.internal_k reading.auditing tree heap count objects
         list.new addresses.new counts.new result }
 {
-    let mut map = [0u8; 1];
     read_with(
         image,
         wanted,
         list,
         addresses,
         counts,
-        &mut map[..0],
+        &mut [],
         reading,
         tree,
         heap,
@@ -63,8 +60,8 @@ fn read_plain(
     )
 }
 
-// A short segment.
-fn read_few(
+// A map of so many cells, as many of them as the segment has.
+fn read_mapped<const CELLS: usize>(
     image: &[u8],
     wanted: &[u8],
     list: &mut [u64],
@@ -75,92 +72,17 @@ fn read_few(
     heap: Heap,
     count: usize,
     objects: usize,
-) -> Step
+) -> Result<State, Refusal>
     requires settings { Settings image.now reading.end_of_file reading.room reading.leaf_k reading.internal_k }
     requires ready { Ready reading.auditing list.old addresses.old counts.old reading.end_of_file reading.room count objects }
     requires segment_inside { SegmentInside image.now reading.end_of_file heap }
-    requires size_bound { heap.size / 16 + 1 ≤ few_cells }
+    requires size_bound { heap.size / 16 + 1 ≤ CELLS }
+    requires cells_bound { CELLS < 2 ^ 63 }
     ensures { ContentsAre image.now wanted.now list.old addresses.old counts.old
         reading.end_of_file reading.room reading.leaf_k reading.internal_k reading.auditing tree heap count objects
         list.new addresses.new counts.new result }
 {
-    let mut map = [0u8; FEW_CELLS];
-    let cells = heap.size / 16 + 1;
-    read_with(
-        image,
-        wanted,
-        list,
-        addresses,
-        counts,
-        &mut map[..cells],
-        reading,
-        tree,
-        heap,
-        count,
-        objects,
-    )
-}
-
-// A longer one.
-fn read_many(
-    image: &[u8],
-    wanted: &[u8],
-    list: &mut [u64],
-    addresses: &mut [u64],
-    counts: &mut [u32],
-    reading: Reading,
-    tree: u64,
-    heap: Heap,
-    count: usize,
-    objects: usize,
-) -> Step
-    requires settings { Settings image.now reading.end_of_file reading.room reading.leaf_k reading.internal_k }
-    requires ready { Ready reading.auditing list.old addresses.old counts.old reading.end_of_file reading.room count objects }
-    requires segment_inside { SegmentInside image.now reading.end_of_file heap }
-    requires size_bound { heap.size / 16 + 1 ≤ many_cells }
-    ensures { ContentsAre image.now wanted.now list.old addresses.old counts.old
-        reading.end_of_file reading.room reading.leaf_k reading.internal_k reading.auditing tree heap count objects
-        list.new addresses.new counts.new result }
-{
-    let mut map = [0u8; MANY_CELLS];
-    let cells = heap.size / 16 + 1;
-    read_with(
-        image,
-        wanted,
-        list,
-        addresses,
-        counts,
-        &mut map[..cells],
-        reading,
-        tree,
-        heap,
-        count,
-        objects,
-    )
-}
-
-// One longer than that.
-fn read_most(
-    image: &[u8],
-    wanted: &[u8],
-    list: &mut [u64],
-    addresses: &mut [u64],
-    counts: &mut [u32],
-    reading: Reading,
-    tree: u64,
-    heap: Heap,
-    count: usize,
-    objects: usize,
-) -> Step
-    requires settings { Settings image.now reading.end_of_file reading.room reading.leaf_k reading.internal_k }
-    requires ready { Ready reading.auditing list.old addresses.old counts.old reading.end_of_file reading.room count objects }
-    requires segment_inside { SegmentInside image.now reading.end_of_file heap }
-    requires size_bound { heap.size / 16 + 1 ≤ most_cells }
-    ensures { ContentsAre image.now wanted.now list.old addresses.old counts.old
-        reading.end_of_file reading.room reading.leaf_k reading.internal_k reading.auditing tree heap count objects
-        list.new addresses.new counts.new result }
-{
-    let mut map = [0u8; MOST_CELLS];
+    let mut map = [0u8; CELLS];
     let cells = heap.size / 16 + 1;
     read_with(
         image,
@@ -190,7 +112,7 @@ pub fn read_in(
     heap: Heap,
     count: usize,
     objects: usize,
-) -> Step
+) -> Result<State, Refusal>
     requires settings { Settings image.now reading.end_of_file reading.room reading.leaf_k reading.internal_k }
     requires ready { Ready reading.auditing list.old addresses.old counts.old reading.end_of_file reading.room count objects }
     requires segment_inside { SegmentInside image.now reading.end_of_file heap }
@@ -204,17 +126,17 @@ pub fn read_in(
         );
     }
     if heap.size / 16 < FEW_CELLS {
-        return read_few(
+        return read_mapped::<FEW_CELLS>(
             image, wanted, list, addresses, counts, reading, tree, heap, count, objects,
         );
     }
     if heap.size / 16 < MANY_CELLS {
-        return read_many(
+        return read_mapped::<MANY_CELLS>(
             image, wanted, list, addresses, counts, reading, tree, heap, count, objects,
         );
     }
     if heap.size / 16 < MOST_CELLS {
-        return read_most(
+        return read_mapped::<MOST_CELLS>(
             image, wanted, list, addresses, counts, reading, tree, heap, count, objects,
         );
     }

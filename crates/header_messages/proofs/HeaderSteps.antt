@@ -32,10 +32,11 @@ use Rattle.scan.proofs.ScanLaws.{messages-held}
 use Rattle.header_messages.proofs.HeaderBlock.{version-shown, field-shown, header-length, header-known, block-messages, first-waiting}
 use Rattle.header_messages.proofs.HeaderBlock.{total-equal, total-unequal}
 
-module _ {S : Type 0} (visit : Message → S → reader.Result S) (im : List ℕ) (eof room : ℕ) (ws : List ℕ) (count at : ℕ) (found : S) (l : Lent ws count room) where
+module _ {S : Type 0} (visit : Message → S → reader.Result S) (im : List ℕ) (eof room : ℕ) (ws : List ℕ) (count at : ℕ) (found : S)
+    (l : Lent ws count room) where
   -- The header block: its prefix isn't inside, it isn't entered, or it is.
-  at-start : Simulation im eof room (header_messages visit at found) count ws (enter header_block at (stored 16 (λ p. u32 p 8)) (header_contents visit at found))
-      count ws
+  at-start : Simulation im eof room (header_messages visit at found) count ws
+      (enter header_block at (stored 16 (λ p. u32 p 8)) (header_contents visit at found)) count ws
   unfolding header_messages
   at-start = start im eof room (header_messages visit at found) count ws l
 
@@ -54,14 +55,15 @@ module _ {S : Type 0} (visit : Message → S → reader.Result S) (im : List ℕ
     header-entered m e = block-entered (16 + size) (header-length im at size h n) (header-known im eof at size h k n) ws₁ at-start q m e
 
 -- a callee that gathers the messages of what is left
-pub gathered-last : (im : List ℕ) (q : Reading) (w₀ w : Walk (Gathered Found)) (n₀ n : ℕ) (ws₀ ws ws₁ a c m : List ℕ) (r : Result (Gathering × ℕ) Refusal) →
+pub gathered-last : (im : List ℕ) (q : Reading) (w₀ w : Walk (Gathered Found)) (n₀ n : ℕ) (ws₀ ws ws₁ a c m : List ℕ)
+    (r : Result (Gathering × ℕ) Refusal) →
     Simulation im q.end_of_file q.room w₀ n₀ ws₀ w n ws → GatheredIs im q ws n w ws₁ a c m r → GatheredIs im q ws₀ n₀ w₀ ws₁ a c m r
 gathered-last im q w₀ w n₀ n ws₀ ws ws₁ a c m (Ok g) s h = (h.0, callee-last ws₁ s h.1, h.2)
 gathered-last im q w₀ w n₀ n ws₀ ws ws₁ a c m (Err x) s h = callee-last ws₁ s h
 
 -- What stands in the header block.
-module _ {S : Type 0} (visit : Message → S → reader.Result S) (im : List ℕ) (eof room : ℕ) (ws : List ℕ) (count at size : ℕ) (found : S) (l : Lent ws count room)
-    (i : at + (16 + size) ≤ length im) where
+module _ {S : Type 0} (visit : Message → S → reader.Result S) (im : List ℕ) (eof room : ℕ) (ws : List ℕ) (count at size : ℕ) (found : S)
+    (l : Lent ws count room) (i : at + (16 + size) ≤ length im) where
   abbrev b : List ℕ
   b = shown header_block (part im at (16 + size))
 

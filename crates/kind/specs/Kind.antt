@@ -26,7 +26,8 @@ pub record BodyAt (im : List ℕ) (place : ℕ) (b : Body) : Type 0 where
 -- the object, with the number of blocks then entered, or the refusal
 abbrev pub header_end : List ℕ → Result HeaderRead Refusal → Ended Object
 header_end im (Ok (Group tree heap count)) = ended (group tree heap) count
-header_end im (Ok (Dataset space type layout count)) = ended (dataset (message_of im 0x0001 space) (message_of im 0x0003 type) (message_of im 0x0008 layout)) count
+header_end im (Ok (Dataset space type layout count)) =
+    ended (dataset (message_of im 0x0001 space) (message_of im 0x0003 type) (message_of im 0x0008 layout)) count
 header_end im (Ok (Committed count)) = ended committed count
 header_end im (Err r) = stopped r
 

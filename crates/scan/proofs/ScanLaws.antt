@@ -284,9 +284,6 @@ module _ (im : List ℕ) (at end : ℕ) (ms : List Message) (h : Holds im at end
 abbrev pub Seeking : List ℕ → ℕ → ℕ → ℕ → Type 0
 Seeking im from end at = (ms : List Message) → Holds im from end ms → (rest : List Message) × (of_type 0x0010 ms ≡ of_type 0x0010 rest) × Holds im at end rest
 
-pub seek-start : (im : List ℕ) (from end : ℕ) → Seeking im from end from
-seek-start im from end ms h = (ms, refl, h)
-
 module _ (im : List ℕ) (from end at : ℕ) (s : Seeking im from end at) where
   pub seek-skip : at < end → (u16 im at ≡ 0x0010 → ⊥) → Seeking im from end (at + 8 + u16 im (at + 2))
   seek-skip l n ms h =

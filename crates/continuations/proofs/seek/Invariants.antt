@@ -8,8 +8,9 @@ use Rattle.continuations.proofs.seek.Given as goal
 
 abbrev pub invariant-loop-block : goal.invariant-loop-block
 invariant-loop-block l =
-    (l.block < l.count) × ((waiting : List Message) → Waiting l.image l.list l.count (cursor l.initial.block l.first l.initial.end) waiting → Searched l.image l.list l.count
-    (cursor l.block l.at l.end) waiting)
+    (l.block < l.count)
+    × ((waiting : List Message) → Waiting l.image l.list l.count (cursor l.initial.block l.first l.initial.end) waiting →
+    Searched l.image l.list l.count (cursor l.block l.at l.end) waiting)
 
 abbrev pub decreases-loop-block : goal.decreases-loop-block
 decreases-loop-block l = l.count - l.block

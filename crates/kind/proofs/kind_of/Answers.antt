@@ -73,7 +73,8 @@ returns-then-counts_are-3 c = record {
       let group = sym (c.counts_are.ensures _ ms t) ∙ c.if-counts_are.false in
       let dataset = sym (c.counts_are-2.ensures _ ms t) ∙ c.if-counts_are-2.false in
       let committed = sym (c.counts_are-3.ensures _ ms t) ∙ c.if-counts_are-3.true in
-      (object-committed _ ms group dataset committed (rw (committed-flags _ 0 _ _ t committed _ c.body_at-body.ensures) (ne_eqb _ 1 c.if-body-eq1.false)), refl);
+      let unshared = ne_eqb _ 1 c.if-body-eq1.false in
+      (object-committed _ ms group dataset committed (rw (committed-flags _ 0 _ _ t committed _ c.body_at-body.ensures) unshared), refl);
   bodies = tt;
 }
 

@@ -1,7 +1,7 @@
 -- Each test against its place in the walk.
-use mathlib.Core.Logic.{inl, inr}
+use mathlib.Core.Logic.{inr}
 use mathlib.Core.Path.{refl, sym, ◌∙◌}
-use Prim.Native.Nat.{◌≤◌, ◌-◌}
+use Prim.Native.Nat.{◌-◌}
 use Rattle.format.specs.Message.{read_message}
 use Rattle.format.specs.Result.{◌>>=◌}
 use Rattle.walk.proofs.Parts.{part_length}
@@ -51,11 +51,6 @@ returns-then-not-fields_there c =
     let a = c.args in
     let s = head-shown a.image.now a.at (a.end - a.at) (omega arith) (omega arith) in
     record { walk = grind (arith, common_steps); fields = tt }
-
-pub continuation_sound-requires : goal.continuation_sound-requires
-continuation_sound-requires c = λ e.
-    let l : 16 ≤ c.u16_at-size.result = fields-long _ _ (sym c.if-not-fields_there.false ∙ c.fields_there.ensures) (inl e) in
-    omega arith
 
 pub returns-then-not-continuation_sound : goal.returns-then-not-continuation_sound
 unfolding read_message ◌>>=◌

@@ -3,12 +3,9 @@ use mathlib.Core.Path.{◌≡◌, sym, ◌∙◌, subst}
 use mathlib.Core.Logic.{inl, inr}
 use Prim.Native.Nat.{ℕ, ◌+◌}
 use Rattle.scan.specs.Scan.{Readable}
-use Rattle.scan.proofs.ScanLaws.{holds-step, Seeking, seek-start, seek-skip, seek_found, seek-end}
+use Rattle.scan.proofs.ScanLaws.{holds-step, Seeking, seek-skip, seek_found, seek-end}
 use native.Mathlib.Omega.{arith}
 use Rattle.scan.proofs.next_continuation.Goals as goal
-
-pub loop-at-init : goal.loop-at-init
-loop-at-init c = (c.requires, seek-start _ _ _)
 
 pub u16_at-requires : goal.u16_at-requires
 u16_at-requires c =
@@ -23,28 +20,10 @@ returns-then-u16_at-eq16 c =
           (sym c.u16_at.ensures.value ∙ c.if-u16_at-eq16.true) ms h,
     )
 
-pub overflow_add-at : goal.overflow_add-at
-overflow_add-at c =
-    let h = c.loop-at.invariant.0.1 in
-    omega (arith, h.inside, (holds-step _ _ _ _ h c.loop-at-test.true).body)
-
-pub overflow_add-at-in-loop-at : goal.overflow_add-at-in-loop-at
-overflow_add-at-in-loop-at c =
-    let h = c.loop-at.invariant.0.1 in
-    omega (arith, h.inside, (holds-step _ _ _ _ h c.loop-at-test.true).body)
-
 pub u16_at-requires-in-loop-at : goal.u16_at-requires-in-loop-at
 u16_at-requires-in-loop-at c =
     let h = c.loop-at.invariant.0.1 in
     omega (arith, h.inside, (holds-step _ _ _ _ h c.loop-at-test.true).body)
-
-pub overflow_add-at-in-loop-at-2 : goal.overflow_add-at-in-loop-at-2
-overflow_add-at-in-loop-at-2 c =
-    let h = c.loop-at.invariant.0.1 in
-    omega (arith, h.inside, (holds-step _ _ _ _ h c.loop-at-test.true).body, c.u16_at-in-loop-at.ensures.value)
-
-pub loop-at-smaller : goal.loop-at-smaller
-loop-at-smaller c = omega (arith, c.loop-at-test.true)
 
 pub loop-at-preserved : goal.loop-at-preserved
 loop-at-preserved c =
