@@ -4,7 +4,7 @@
 ghost use Rattle.std.specs.Prelude.{◌≤◌, length};
 ghost use Rattle.nul.specs.Nul.{NulWithin, NoneFrom, LastNul};
 
-use order::contains_16;
+use order::contains_at;
 
 // Where the first NUL from `off` on stands, if it is among the next `most` bytes; else how far these reach in the segment. Byte by byte.
 fn nul_near(segment: &[u8], off: usize, most: usize) -> usize
@@ -33,7 +33,7 @@ pub fn nul_within(segment: &[u8], off: usize, most: usize) -> usize
         if left < 16 {
             return nul_near(segment, i, left);
         }
-        if contains_16(0, segment, i) {
+        if contains_at::<16>(0, segment, i) {
             return nul_near(segment, i, left);
         }
         i += 16;
@@ -61,7 +61,7 @@ pub fn last_nul(segment: &[u8]) -> usize
 {
     let mut end = segment.len();
     while 16 <= end {
-        if contains_16(0, segment, end - 16) {
+        if contains_at::<16>(0, segment, end - 16) {
             return last_near(segment, end);
         }
         end -= 16;

@@ -202,7 +202,7 @@ pub fn same(a: &[u8], b: &[u8]) -> bool
 
 // Whether `x` is one of the N bytes at `at`. The library's search of so few bytes is a call where it has several callers; this loop is one comparison of
 // vectors.
-fn contains_at<const N: usize>(x: u8, s: &[u8], at: usize) -> bool
+pub fn contains_at<const N: usize>(x: u8, s: &[u8], at: usize) -> bool
     requires { at + N ≤ length s.now }
     ensures { result ≡ contains x (part s.now at N) }
 {
@@ -213,21 +213,6 @@ fn contains_at<const N: usize>(x: u8, s: &[u8], at: usize) -> bool
         }
     }
     found == 1
-}
-
-// Whether `x` is one of the 16 bytes at `at`, and of 8.
-pub fn contains_16(x: u8, s: &[u8], at: usize) -> bool
-    requires { at + 16 ≤ length s.now }
-    ensures { result ≡ contains x (part s.now at 16) }
-{
-    contains_at::<16>(x, s, at)
-}
-
-pub fn contains_8(x: u8, s: &[u8], at: usize) -> bool
-    requires { at + 8 ≤ length s.now }
-    ensures { result ≡ contains x (part s.now at 8) }
-{
-    contains_at::<8>(x, s, at)
 }
 
 // Whether `x` is one of the bytes: sixteen at a time, and the last sixteen in any case, so that none is left. For 16 to 60 bytes the library's search
@@ -241,10 +226,10 @@ pub fn contains(x: u8, s: &[u8]) -> bool
     let last = s.len() - 16;
     let mut i = 0;
     while i < last {
-        if contains_16(x, s, i) {
+        if contains_at::<16>(x, s, i) {
             return true;
         }
         i += 16;
     }
-    contains_16(x, s, last)
+    contains_at::<16>(x, s, last)
 }

@@ -6,7 +6,7 @@ use native.Mathlib.Omega.{arith}
 use Rattle.names.proofs.string_size.Goals as goal
 
 pub loop-k-init : goal.loop-k-init
-loop-k-init c = c.eight_passed-k.ensures
+loop-k-init c = c.eight_passed-passed.ensures
 
 pub returns-then-segment-off-eq0 : goal.returns-then-segment-off-eq0
 returns-then-segment-off-eq0 c =
