@@ -42,12 +42,10 @@ fn write_reply(
 {
     words::put_word(reply, 0, block_count as u64);
     words::put_word(reply, 8, objects as u64);
-    let mut i: usize = 0;
-    while i < objects {
+    for i in 0..objects {
         put_object(reply, 16 + 24 * i, addresses[i], stored[i], true_counts[i]);
-        i += 1;
     }
-    words::clear_from(reply, 16 + 24 * i);
+    words::clear_from(reply, 16 + 24 * objects);
 }
 
 // The audit with room for so many blocks in a list, and with the table of objects in another.

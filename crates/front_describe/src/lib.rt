@@ -19,10 +19,8 @@ fn put_words(reply: &mut [u8], at: usize, words: &[u64])
     requires { at + 8 * length words.now ≤ length reply.old }
     ensures { reply.new ≡ overwrite reply.old at (word_bytes words.now) }
 {
-    let mut i: usize = 0;
-    while i < words.len() {
-        words::put_word(reply, at + 8 * i, words[i]);
-        i += 1;
+    for (i, word) in words.iter().enumerate() {
+        words::put_word(reply, at + 8 * i, *word);
     }
 }
 

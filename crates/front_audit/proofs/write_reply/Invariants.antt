@@ -8,7 +8,4 @@ use Rattle.front_audit.proofs.write_reply.Given as goal
 
 abbrev pub invariant-loop-i : goal.invariant-loop-i
 invariant-loop-i l =
-    (l.i ≤ l.objects) × (length l.reply ≡ length l.fn.reply) × Begins l.reply (reply_words l.block_count l.objects l.addresses l.stored l.true_counts l.i)
-
-abbrev pub decreases-loop-i : goal.decreases-loop-i
-decreases-loop-i l = l.objects - l.i
+    (length l.reply ≡ length l.fn.reply) × Begins l.reply (reply_words l.block_count l.objects l.addresses l.stored l.true_counts l.i)

@@ -8,20 +8,19 @@ use Rattle.front_describe.proofs.put_words.Goals as goal
 
 pub loop-i-init : goal.loop-i-init
 unfolding overwrite word_bytes
-loop-i-init c = (omega arith, refl, refl)
+loop-i-init c = (refl, refl)
 
 pub loop-i-preserved : goal.loop-i-preserved
 loop-i-preserved c =
     let l = c.loop-i in
     let a = c.args in
     let w = c.put_word in (
-      omega (arith, c.loop-i-test.true),
-      w.auto.out ∙ l.invariant.1,
-      put-more a.reply.now l.reply _ a.words.now a.at l.i l.invariant.2 c.loop-i-test.true w.ensures,
+      w.auto.out ∙ l.invariant.0,
+      put-more a.reply.now l.reply _ a.words.now a.at l.i l.invariant.1 c.loop-i-test.true w.ensures,
     )
 
 pub returns : goal.returns
 returns c =
     let l = c.loop-i in
     let a = c.args in
-    put_all a.reply.now l.reply a.words.now a.at l.i l.invariant.2 c.loop-i-test.false
+    put_all a.reply.now l.reply a.words.now a.at l.i l.invariant.1 c.loop-i-test.false

@@ -8,7 +8,4 @@ use Rattle.front_describe.proofs.put_words.Given as goal
 
 abbrev pub invariant-loop-i : goal.invariant-loop-i
 invariant-loop-i l =
-    (l.i ≤ length l.words) × (length l.reply ≡ length l.initial.reply) × (l.reply ≡ overwrite l.initial.reply l.at (word_bytes (take l.i l.words)))
-
-abbrev pub decreases-loop-i : goal.decreases-loop-i
-decreases-loop-i l = length l.words - l.i
+    (length l.reply ≡ length l.initial.reply) × (l.reply ≡ overwrite l.initial.reply l.at (word_bytes (take l.i l.words)))
