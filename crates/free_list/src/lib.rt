@@ -54,21 +54,19 @@ pub fn free_list(segment: &[u8], map: &mut [u8], head: u64) -> Option<usize>
         return Some(0);
     }
     let mut at = head;
-    let mut met = 0;
     let mut span = Span {
         low: segment.len(),
         high: 0,
     };
-    while met < segment.len() {
+    for met in 0..segment.len() {
         if !add_block(segment, map, span, head, met, at) {
             return None;
         }
         let off = at as usize;
         span = widened(span, off, u64_at(segment, off + 8) as usize);
         let next = u64_at(segment, off);
-        met += 1;
         if next == 1 {
-            return Some(met);
+            return Some(met + 1);
         }
         at = next;
     }

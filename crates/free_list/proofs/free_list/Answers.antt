@@ -26,7 +26,6 @@ pub loop-met-init : goal.loop-met-init
 unfolding undefined_address chain
 loop-met-init c =
     let a = c.args in (
-      omega arith,
       free-start a.segment.now a.map.now a.head (ne_eqb a.head 1 (λ e. omega arith)) (ne_eqb a.head undefined_address (λ e. omega arith))
           c.requires.zeros,
       refl,
@@ -37,54 +36,53 @@ pub add_block-requires : goal.add_block-requires
 add_block-requires c =
     let l = c.loop-met in
     record {
-      segment_len_bound = λ h. omega (arith, l.invariant.2, c.requires.long (omega (arith, l.invariant.2)));
-      held = l.invariant.1.held;
-      spanned = l.invariant.3;
+      segment_len_bound = λ h. omega (arith, l.invariant.1, c.requires.long (omega (arith, l.invariant.1)));
+      held = l.invariant.0.held;
+      spanned = l.invariant.2;
     }
 
 pub returns-then-not-add_block : goal.returns-then-not-add_block
 returns-then-not-add_block c =
     let l = c.loop-met in
     let t = c.add_block.ensures in
-    record { value = block-unsound l.invariant.1 t (omega arith) c.if-not-add_block.true; held = tt; long = t.long ∙ l.invariant.2 }
+    record { value = block-unsound l.invariant.0 t (omega arith) c.if-not-add_block.true; held = tt; long = t.long ∙ l.invariant.1 }
 
 -- the block lies in the segment
 pub overflow_add-off : goal.overflow_add-off
-overflow_add-off c = omega (arith, (block_inside c.loop-met.invariant.1 c.add_block.ensures (omega arith) c.if-not-add_block.false).0)
+overflow_add-off c = omega (arith, (block_inside c.loop-met.invariant.0 c.add_block.ensures (omega arith) c.if-not-add_block.false).0)
 
 pub u64_at-requires : goal.u64_at-requires
-u64_at-requires c = omega (arith, (block_inside c.loop-met.invariant.1 c.add_block.ensures (omega arith) c.if-not-add_block.false).0)
+u64_at-requires c = omega (arith, (block_inside c.loop-met.invariant.0 c.add_block.ensures (omega arith) c.if-not-add_block.false).0)
 
 pub widened-span-requires : goal.widened-span-requires
 widened-span-requires c =
     omega (
       arith,
-      (block_inside c.loop-met.invariant.1 c.add_block.ensures (omega arith) c.if-not-add_block.false).1,
+      (block_inside c.loop-met.invariant.0 c.add_block.ensures (omega arith) c.if-not-add_block.false).1,
       c.u64_at.ensures.value,
     )
 
 pub u64_at-next-requires : goal.u64_at-next-requires
-u64_at-next-requires c = omega (arith, (block_inside c.loop-met.invariant.1 c.add_block.ensures (omega arith) c.if-not-add_block.false).0)
+u64_at-next-requires c = omega (arith, (block_inside c.loop-met.invariant.0 c.add_block.ensures (omega arith) c.if-not-add_block.false).0)
 
 pub returns-then-next-eq1 : goal.returns-then-next-eq1
 returns-then-next-eq1 c =
     let l = c.loop-met in
     let t = c.add_block.ensures in
     let s = c.if-not-add_block.false in record {
-      value = block_last l.invariant.1 t (omega arith) s (sym c.u64_at-next.ensures.value ∙ c.if-next-eq1.true);
-      held = block_held l.invariant.1 t (omega arith) s;
-      long = t.long ∙ l.invariant.2;
+      value = block_last l.invariant.0 t (omega arith) s (sym c.u64_at-next.ensures.value ∙ c.if-next-eq1.true);
+      held = block_held l.invariant.0 t (omega arith) s;
+      long = t.long ∙ l.invariant.1;
     }
 
 pub loop-met-preserved : goal.loop-met-preserved
 loop-met-preserved c =
     let l = c.loop-met in
     let t = c.add_block.ensures in (
-      omega arith,
-      block_more l.invariant.1 t (omega arith) c.if-not-add_block.false c.u64_at-next.ensures.value c.if-next-eq1.false,
-      t.long ∙ l.invariant.2,
-      block-spanned l.invariant.1 t (omega arith) l.invariant.3 c.u64_at.ensures.value c.widened-span.ensures,
+      block_more l.invariant.0 t (omega arith) c.if-not-add_block.false c.u64_at-next.ensures.value c.if-next-eq1.false,
+      t.long ∙ l.invariant.1,
+      block-spanned l.invariant.0 t (omega arith) l.invariant.2 c.u64_at.ensures.value c.widened-span.ensures,
     )
 
 pub returns : goal.returns
-returns c = record { value = free-long c.loop-met.invariant.1 (omega arith); held = tt; long = c.loop-met.invariant.2 }
+returns c = record { value = free-long c.loop-met.invariant.0 (omega arith); held = tt; long = c.loop-met.invariant.1 }

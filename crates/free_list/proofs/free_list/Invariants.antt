@@ -1,5 +1,4 @@
 -- The fuel of the definition is what is left of the segment's length; each turn is one block, which the map then has.
-use Prim.Native.Nat.{◌-◌, ◌≤◌}
 use mathlib.Core.Path.{◌≡◌}
 use lib.ListN.{length}
 use Rattle.free_list.specs.FreeBlocks.{chain}
@@ -9,10 +8,6 @@ use Rattle.free_list.proofs.free_list.Given as goal
 
 abbrev pub invariant-loop-met : goal.invariant-loop-met
 invariant-loop-met l =
-    (l.met ≤ length l.segment)
-    × Following l.segment l.map l.head l.at l.met
+    Following l.segment l.map l.head l.at l.met
     × (length l.map ≡ length l.initial.map)
     × Spanned l.span.low l.span.high (chain l.met l.segment l.head)
-
-abbrev pub decreases-loop-met : goal.decreases-loop-met
-decreases-loop-met l = length l.segment - l.met

@@ -1,5 +1,5 @@
--- What the whole search finds is what is found from the ith block on, which stands at `at`; each test settles one block.
-use Prim.Native.Nat.{◌≤◌, ◌-◌}
+-- What the whole search finds is what is found from the ith block on, which stands at `at`; each turn settles one block.
+use Prim.Native.Nat.{◌-◌}
 use mathlib.Core.Path.{◌≡◌}
 use Rattle.format.specs.Blocks.{overlaps_any}
 use Rattle.free_list.specs.FreeBlocks.{chain, Chained}
@@ -7,7 +7,5 @@ use Rattle.free_list.proofs.search.overlaps_free.Given as goal
 
 abbrev pub invariant-loop-i : goal.invariant-loop-i
 invariant-loop-i l =
-    (l.i ≤ l.count) × Chained (l.count - l.i) l.segment l.at × (overlaps_any (chain l.count l.segment l.head) l.off l.size ≡ overlaps_any (chain (l.count - l.i) l.segment l.at) l.off l.size)
-
-abbrev pub decreases-loop-i : goal.decreases-loop-i
-decreases-loop-i l = l.count - l.i
+    Chained (l.count - l._i) l.segment l.at
+    × (overlaps_any (chain l.count l.segment l.head) l.off l.size ≡ overlaps_any (chain (l.count - l._i) l.segment l.at) l.off l.size)
