@@ -12,8 +12,7 @@ fn least_met(blocks: &[u64], run: Run, place: usize, end: u64, least: usize) -> 
     ensures { (a n : ℕ) → a + n ≡ end → Placed blocks.now run a place → LeastMet blocks.now run a n least result }
 {
     let mut low = least;
-    let mut k = place;
-    while k < run.count {
+    for k in place..run.count {
         let b = run.first + blocks[run.base + k] as usize;
         if end <= blocks[4 * b] {
             return low;
@@ -21,7 +20,6 @@ fn least_met(blocks: &[u64], run: Run, place: usize, end: u64, least: usize) -> 
         if b < low {
             low = b;
         }
-        k += 1;
     }
     low
 }

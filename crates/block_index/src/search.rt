@@ -18,7 +18,7 @@ pub struct Place {
     pub tests: usize,
 }
 
-// Finds the place by halving.
+// Finds the place by halving. `partition_point` finds it too, but doesn't say how many blocks are compared.
 fn halve(blocks: &[u64], run: Run, at: u64) -> Place
     requires { Sorted blocks.now run }
     ensures placed { Placed blocks.now run at result.place }

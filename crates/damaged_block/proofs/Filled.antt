@@ -1,14 +1,12 @@
 -- How many blocks a refused walk has entered, in a list that was filled with the undefined address before it.
 use Prim.Native.Nat.{ℕ, ◌+◌, ◌*◌, ◌^◌, ◌≤◌, ◌<◌}
 use mathlib.Core.Bool.{Bool, true, false}
-use mathlib.Core.List.{List, [], ◌∷◌, ◌++◌}
+use mathlib.Core.List.{List, ◌++◌}
 use mathlib.Core.Path.{◌≡◌, refl, ap, sym, ◌∙◌}
 use native.Mathlib.Omega.{arith}
-use native.Mathlib.Numerals.{add-one}
 use borrow.Author.Tests.{ltb-true, ltb-false, eqb-true, eqb-false}
 use lib.Dec.{ltb, eqb}
-use lib.ListN.{length, get_or, take, drop, set, replicate, replicate-append-replicate, get_or-replicate, take-append-drop}
-use lib.Seq.{take-suc-set}
+use lib.ListN.{length, get_or, take, drop, replicate, get_or-replicate, take-append-drop}
 use Rattle.format.specs.Bytes.{undefined_address}
 use Rattle.format.specs.Blocks.{Block, block, no_object, block_words}
 use Rattle.block_index.specs.Index.{first_from}
@@ -18,14 +16,6 @@ use Rattle.links.specs.Fours.{Four, number_at}
 use Rattle.links.proofs.BlockWords.{list-holds}
 use Rattle.links.proofs.BlocksBefore.{inside-at}
 use Rattle.damaged_block.specs.Entered.{Leading}
-
--- one word more is filled
-pub filled_more : (ws : List ℕ) (i x : ℕ) → i < length ws → take i ws ≡ replicate i x → take (i + 1) (set ws i x) ≡ replicate (i + 1) x
-filled_more ws i x h e =
-    ap (λ (n : ℕ). take n (set ws i x)) (add-one i)
-    ∙ take-suc-set ws i x h
-    ∙ ap (λ (l : List ℕ). l ++ (x ∷ [])) e
-    ∙ replicate-append-replicate i 1 x
 
 -- one block more has an address
 pub addressed-more : (ws : List ℕ) (n : ℕ) → ((k : ℕ) → k < n → get_or ws (4 * k) 0 ≡ undefined_address → ⊥) → (get_or ws (4 * n) 0 ≡ undefined_address → ⊥) →

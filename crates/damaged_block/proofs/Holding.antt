@@ -1,11 +1,12 @@
 -- The block that holds a byte, found in the words of a list.
-use Prim.Native.Nat.{ℕ, zero, suc, ◌+◌, ◌*◌, ◌≤◌, ◌<◌}
-use mathlib.Core.Bool.{true, false, and-false}
+use Prim.Native.Nat.{ℕ, zero, suc, ◌+◌, ◌-◌, ◌*◌, ◌≤◌, ◌<◌}
+use mathlib.Core.Bool.{Bool, true, false, ◌&&◌, and-false}
 use mathlib.Core.List.{List, [], ◌∷◌}
 use mathlib.Core.Path.{◌≡◌, refl, ap, sym, ◌∙◌}
 use native.Mathlib.Omega.{arith}
 use native.Mathlib.Numerals.{add-one}
-use borrow.Author.Tests.{lt-ltb, le-ltb, le-leb, lt-leb}
+use borrow.Author.Tests.{lt-ltb, le-ltb, le-leb, lt-leb, ltb-true, ltb-false}
+use lib.Dec.{ltb, leb}
 use lib.ListN.{get_or, take, drop, drop_of_length-le}
 use Rattle.format.specs.Blocks.{Block, block, no_object, owner_after, last_owner, block_words}
 use Rattle.format.specs.Report.{ListedBlock, no_block, holds_byte, holding}
@@ -16,17 +17,18 @@ use Rattle.damaged_block.proofs.Filled.{four-of}
 
 -- whether a byte lies in a block, by the tests
 module _ (a n x : ℕ) where
-  pub holds-inside : a ≤ x → x < a + n → true ≡ holds_byte (block a n) x
+  -- by the distance from the block's start
+  pub holds-from : a ≤ x → ltb (x - a) n ≡ holds_byte (block a n) x
   unfolding holds_byte
-  holds-inside h k = simp (le-leb a x h, lt-ltb x (a + n) k)
+  holds-from h = go (ltb (x - a) n) refl
+    where
+      go : (t : Bool) → ltb (x - a) n ≡ t → t ≡ (leb a x && ltb x (a + n))
+      go true p = let l = ltb-true (x - a) n p in simp (le-leb a x h, lt-ltb x (a + n) (omega arith))
+      go false p = let l = ltb-false (x - a) n p in simp (le-ltb x (a + n) (omega arith), and-false)
 
-  pub holds-before : x < a → false ≡ holds_byte (block a n) x
+  pub holds-before : x < a → leb a x ≡ holds_byte (block a n) x
   unfolding holds_byte
   holds-before h = simp (lt-leb a x h)
-
-  pub holds-behind : a + n ≤ x → false ≡ holds_byte (block a n) x
-  unfolding holds_byte
-  holds-behind h = simp (le-ltb x (a + n) h, and-false)
 
 -- the object of the block behind the first i
 last_more : (o i : ℕ) (bs rest : List Block) (b : Block) → drop i bs ≡ b ∷ rest →

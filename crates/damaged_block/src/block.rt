@@ -52,13 +52,7 @@ pub fn superblock_head(answer: u8) -> ListedBlock
 fn holds_byte(at: u64, size: u64, place: u64) -> bool
     ensures { result ≡ reports.holds_byte (definitions.block at size) place }
 {
-    if place < at {
-        return false;
-    }
-    if place - at < size {
-        return true;
-    }
-    false
+    at <= place && place - at < size
 }
 
 // Block number `i` of the list.
@@ -80,12 +74,10 @@ fn holding(list: &[u64], count: usize, place: u64) -> ListedBlock
     requires list_value { take (4 * count) list.now ≡ block_words no_object (blocks_of count list.now) }
     ensures { listed_of result ≡ reports.holding no_object (blocks_of count list.now) place }
 {
-    let mut i = 0;
-    while i < count {
+    for i in 0..count {
         if holds_byte(list[4 * i], list[4 * i + 1], place) {
             return listed(list, i);
         }
-        i += 1;
     }
     no_block()
 }

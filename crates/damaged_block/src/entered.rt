@@ -11,11 +11,7 @@ use walk::numbers::UNDEFINED_ADDRESS;
 pub fn fill_undefined(list: &mut [u64])
     ensures { list.new ≡ replicate (length list.old) undefined_address }
 {
-    let mut i = 0;
-    while i < list.len() {
-        list[i] = UNDEFINED_ADDRESS;
-        i += 1;
-    }
+    list.fill(UNDEFINED_ADDRESS);
 }
 
 // How many blocks stand before the first four whose address is undefined.
@@ -23,12 +19,10 @@ pub fn count_entered(list: &[u64]) -> usize
     ensures { Leading list.now result }
 {
     let room = blocks::places(list.len());
-    let mut count = 0;
-    while count < room {
+    for count in 0..room {
         if list[4 * count] == UNDEFINED_ADDRESS {
             return count;
         }
-        count += 1;
     }
-    count
+    room
 }

@@ -17,12 +17,6 @@ pub struct Dimensions {
     pub maxima_stored: bool,
 }
 
-fn wide(x: u8) -> usize
-    ensures { result ≡ x }
-{
-    x as usize
-}
-
 // Whether no size is above the maximum in its place: `rank` words at `sizes`, and as many at `maxima`.
 fn at_most(body: &[u8], sizes: usize, maxima: usize, rank: usize) -> bool
     requires rank_in_bounds { sizes + 8 * rank ≤ length body.now }
@@ -50,7 +44,7 @@ pub fn read(body: &[u8]) -> Result<Dimensions, u8>
     if body[0] != 1 {
         return Err(answers::NOT_READ);
     }
-    let rank = wide(body[1]);
+    let rank = usize::from(body[1]);
     if limits.rank_most < rank {
         return Err(answers::DATASET_UNSOUND);
     }

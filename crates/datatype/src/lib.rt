@@ -56,19 +56,13 @@ fn needed(class: u8) -> usize
     8
 }
 
-fn wide(x: u8) -> u32
-    ensures { result ≡ x }
-{
-    x as u32
-}
-
 // The class bits, three bytes behind the first.
 fn class_bits(body: &[u8]) -> u32
     requires { 4 ≤ length body.now }
     ensures { Number body.now 1 3 result }
 {
     let low = u16_at(body, 1) as u32;
-    low + 65536 * wide(body[3])
+    low + 65536 * u32::from(body[3])
 }
 
 // Whether the precision is 1 or more, and offset and precision fit the element's size.

@@ -25,7 +25,7 @@ fn read_behind<R: Read>(reader: &mut R, buffer: &mut [u8], at: usize) -> io::Res
 }
 
 // Reads until a read brings nothing or the buffer is full. The buffer is longer than the most input that is answered for, so that
-// a longer input is known as longer.
+// a longer input is known as longer. A read brings as many bytes as it likes, so that no `for` says where the next one begins.
 pub fn read_to_end<R: Read>(reader: &mut R, buffer: &mut [u8]) -> io::Result<Input>
     requires { input_most < length buffer.old }
     ensures { Reads buffer.old 0 buffer.new result }

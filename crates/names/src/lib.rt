@@ -15,7 +15,7 @@ ghost use Rattle.names.specs.Sizes.{Plain, Slashless, name_size};
 
 use free_list::search::{meets_free, overlaps_free};
 use nul::nul_within;
-use order::{contains, contains_8, contains_16};
+use order::{contains, contains_at};
 use string_ends::ends_outside;
 
 // What can be wrong with a string, in this order.
@@ -81,7 +81,7 @@ fn eight_passed(segment: &[u8], off: usize) -> usize
     requires { off + 8 ≤ length segment.now }
     ensures { before_nul (drop off segment.now) ≡ result + before_nul (drop (off + result) segment.now) }
 {
-    if contains_8(0, segment, off) {
+    if contains_at::<8>(0, segment, off) {
         return 0;
     }
     8
@@ -108,7 +108,7 @@ fn has_slash(segment: &[u8], off: usize, n: usize) -> bool
     requires n_bound { n ≤ 16 }
     ensures { result ≡ contains 0x2f (part segment.now off n) }
 {
-    if !contains_16(b'/', segment, off) {
+    if !contains_at::<16>(b'/', segment, off) {
         return false;
     }
     let end = off + n;
@@ -123,8 +123,8 @@ fn name_size(segment: &[u8], off: usize) -> Option<usize>
     if segment.len() - off < 16 {
         return size_behind(segment, off, 0);
     }
-    if !contains_16(0, segment, off) {
-        if contains_16(b'/', segment, off) {
+    if !contains_at::<16>(0, segment, off) {
+        if contains_at::<16>(b'/', segment, off) {
             return None;
         }
         return size_behind(segment, off, 16);

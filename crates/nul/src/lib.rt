@@ -4,7 +4,7 @@
 ghost use Rattle.std.specs.Prelude.{◌≤◌, length};
 ghost use Rattle.nul.specs.Nul.{NulWithin, NoneFrom, LastNul};
 
-use order::contains_16;
+use order::contains_at;
 
 // Where the first NUL from `off` on stands, if it is among the next `most` bytes; else how far these reach in the segment. Byte by byte.
 fn nul_near(segment: &[u8], off: usize, most: usize) -> usize
@@ -22,7 +22,7 @@ fn nul_near(segment: &[u8], off: usize, most: usize) -> usize
     segment.len()
 }
 
-// The same, sixteen bytes at a time.
+// The same, sixteen bytes at a time. The place is what the search gives: chunks of the slice would be counted beside it.
 pub fn nul_within(segment: &[u8], off: usize, most: usize) -> usize
     requires { off ≤ length segment.now }
     ensures { NulWithin segment.now off most result }
@@ -33,7 +33,7 @@ pub fn nul_within(segment: &[u8], off: usize, most: usize) -> usize
         if left < 16 {
             return nul_near(segment, i, left);
         }
-        if contains_16(0, segment, i) {
+        if contains_at::<16>(0, segment, i) {
             return nul_near(segment, i, left);
         }
         i += 16;
@@ -55,13 +55,13 @@ fn last_near(segment: &[u8], end: usize) -> usize
     0
 }
 
-// The same of the whole segment, sixteen bytes at a time.
+// The same of the whole segment, sixteen bytes at a time from its end; here too the place is the answer.
 pub fn last_nul(segment: &[u8]) -> usize
     ensures { LastNul segment.now result }
 {
     let mut end = segment.len();
     while 16 <= end {
-        if contains_16(0, segment, end - 16) {
+        if contains_at::<16>(0, segment, end - 16) {
             return last_near(segment, end);
         }
         end -= 16;

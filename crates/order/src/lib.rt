@@ -1,5 +1,5 @@
-// Strings compared bytewise. Whether they are the same: sixteen bytes at a time, eight once, then byte by byte. The loops over sixteen and eight bytes
-// have no way out, so that they are compiled to vector instructions. Which is below: sixteen bytes at a time, then eight or four as one number.
+// Strings compared bytewise, and searched for a byte. The loops over sixteen and eight bytes have no way out, so that they are compiled to vector
+// instructions. Which of two strings is below: sixteen bytes at a time, then eight or four as one number.
 #![tactic(auto)]
 
 ghost use Rattle.std.specs.Prelude.{◌≡◌, ◌+◌, ◌≤◌, ◌<◌, min, length, get_or, drop};
@@ -23,7 +23,7 @@ fn same_16(a: &[u8], b: &[u8], at: usize) -> bool
     differ == 0
 }
 
-// So many bytes that both begin with, in whole sixteens.
+// So many bytes that both begin with, in whole sixteens. Their number is the answer: chunks of both would be counted beside it.
 fn same_start(a: &[u8], b: &[u8]) -> usize
     ensures { SameStart a.now b.now result }
 {
@@ -154,7 +154,7 @@ fn below_short(a: &[u8], b: &[u8], end: usize) -> bool
 }
 
 // The same for 8 bytes or more, the first `from` of which are the same: eight at a time, and then the last eight, of which those that were compared are
-// the same.
+// the same. Chunks of both would leave a rest to be compared byte by byte.
 fn below_long(a: &[u8], b: &[u8], from: usize, end: usize) -> bool
     requires end_value { end ≡ min (length a.now) (length b.now) }
     requires le_end { 8 ≤ end }
@@ -178,8 +178,8 @@ fn below_long(a: &[u8], b: &[u8], from: usize, end: usize) -> bool
     shorter(a, b)
 }
 
-// Whether the first is strictly below the second. A beginning is below the whole. `<` of two slices compares byte by byte. Sixteens are passed only
-// where there are two or more.
+// Whether the first is strictly below the second. A beginning is below the whole. Sixteens are passed only where there are two or more. `<` of two slices
+// compares byte by byte.
 pub fn below(a: &[u8], b: &[u8]) -> bool
     ensures { result ≡ below a.now b.now }
 {
@@ -202,7 +202,7 @@ pub fn same(a: &[u8], b: &[u8]) -> bool
 
 // Whether `x` is one of the N bytes at `at`. The library's search of so few bytes is a call where it has several callers; this loop is one comparison of
 // vectors.
-fn contains_at<const N: usize>(x: u8, s: &[u8], at: usize) -> bool
+pub fn contains_at<const N: usize>(x: u8, s: &[u8], at: usize) -> bool
     requires { at + N ≤ length s.now }
     ensures { result ≡ contains x (part s.now at N) }
 {
@@ -213,21 +213,6 @@ fn contains_at<const N: usize>(x: u8, s: &[u8], at: usize) -> bool
         }
     }
     found == 1
-}
-
-// Whether `x` is one of the 16 bytes at `at`, and of 8.
-pub fn contains_16(x: u8, s: &[u8], at: usize) -> bool
-    requires { at + 16 ≤ length s.now }
-    ensures { result ≡ contains x (part s.now at 16) }
-{
-    contains_at::<16>(x, s, at)
-}
-
-pub fn contains_8(x: u8, s: &[u8], at: usize) -> bool
-    requires { at + 8 ≤ length s.now }
-    ensures { result ≡ contains x (part s.now at 8) }
-{
-    contains_at::<8>(x, s, at)
 }
 
 // Whether `x` is one of the bytes: sixteen at a time, and the last sixteen in any case, so that none is left. For 16 to 60 bytes the library's search
@@ -241,10 +226,10 @@ pub fn contains(x: u8, s: &[u8]) -> bool
     let last = s.len() - 16;
     let mut i = 0;
     while i < last {
-        if contains_16(x, s, i) {
+        if contains_at::<16>(x, s, i) {
             return true;
         }
         i += 16;
     }
-    contains_16(x, s, last)
+    contains_at::<16>(x, s, last)
 }

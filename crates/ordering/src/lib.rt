@@ -47,11 +47,9 @@ pub fn merge(words: &mut [u64], runs: Runs)
     ensures { MergedIn words.old runs words.new }
 {
     let mut left = runs.count;
-    let mut k = runs.added;
-    while 0 < k {
-        let place = words[runs.places + (k - 1)] as usize;
-        raise(words, runs.first + place, runs.first + left, k);
-        k -= 1;
+    for k in (0..runs.added).rev() {
+        let place = words[runs.places + k] as usize;
+        raise(words, runs.first + place, runs.first + left, k + 1);
         words[runs.first + (place + k)] = runs.count as u64 + words[runs.second + k];
         left = place;
     }

@@ -9,7 +9,7 @@ ghost use Rattle.string_ends.specs.Ends.{ends_outside, marked, Marked};
 ghost use Rattle.string_ends.specs.Cells.{CellOf, Remarked};
 
 use free_map::{cell, free_end, free_start};
-use order::contains_16;
+use order::contains_at;
 
 // The number of a marked cell without a free byte, and of a cell whose bytes are all free.
 const MARKED: u8 = 17;
@@ -78,7 +78,7 @@ fn ends_at(segment: &[u8], v: u8, c: usize) -> bool
     if 0 < free_start(v) {
         return false;
     }
-    if contains_16(0, segment, 16 * c) {
+    if contains_at::<16>(0, segment, 16 * c) {
         return ends_in_cell(segment, v, 16 * c);
     }
     is_marked(v)

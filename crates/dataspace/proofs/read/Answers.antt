@@ -56,13 +56,13 @@ pub returns-then-limits-rank : goal.returns-then-limits-rank
 returns-then-limits-rank c =
     let limits = c.the_limits-limits.ensures in
     refused-space (versioned _ c.if-body-lt8.false c.if-body-ne1.false (fails _ _
-    (field-above (sym c.wide-rank.ensures) (omega (arith, c.if-limits-rank.true, limits.rank_most_equal)))))
+    (field-above (sym c.from-rank.ensures) (omega (arith, c.if-limits-rank.true, limits.rank_most_equal)))))
 
 pub returns-then-flags-gt1 : goal.returns-then-flags-gt1
 returns-then-flags-gt1 c = refused-space (ranked _ _ (record {
   long_enough = c.if-body-lt8.false;
   version = c.if-body-ne1.false;
-  rank = c.wide-rank.ensures;
+  rank = c.from-rank.ensures;
   most = small _ _ c.the_limits-limits.ensures c.if-limits-rank.false;
 }) (fails _ _ (lt-leb _ _ c.if-flags-gt1.true)))
 
@@ -70,9 +70,9 @@ pub returns-then-body-maxima : goal.returns-then-body-maxima
 returns-then-body-maxima c = refused-space (flagged _ _ (record {
   long_enough = c.if-body-lt8.false;
   version = c.if-body-ne1.false;
-  rank = c.wide-rank.ensures;
+  rank = c.from-rank.ensures;
   most = small _ _ c.the_limits-limits.ensures c.if-limits-rank.false;
-}) c.if-flags-gt1.false (sizes-outside _ _ c.wide-rank.ensures c.if-body-maxima.true))
+}) c.if-flags-gt1.false (sizes-outside _ _ c.from-rank.ensures c.if-body-maxima.true))
 
 pub returns-then-flags-ne1 : goal.returns-then-flags-ne1
 returns-then-flags-ne1 c =
@@ -81,9 +81,9 @@ returns-then-flags-ne1 c =
     plain-space (inside b _ (record {
       long_enough = c.if-body-lt8.false;
       version = c.if-body-ne1.false;
-      rank = c.wide-rank.ensures;
+      rank = c.from-rank.ensures;
       most = small _ _ c.the_limits-limits.ensures c.if-limits-rank.false;
-    }) c.if-flags-gt1.false c.if-body-maxima.false (none-stored b fifth.wide-rank.ensures c.if-flags-ne1.true))
+    }) c.if-flags-gt1.false c.if-body-maxima.false (none-stored b fifth.from-rank.ensures c.if-flags-ne1.true))
     (small _ _ c.the_limits-limits.ensures c.if-limits-rank.false) fifth.if-body-maxima.false
 
 pub returns-then-body-maxima-2 : goal.returns-then-body-maxima-2
@@ -93,9 +93,9 @@ returns-then-body-maxima-2 c =
     refused-space (inside b _ (record {
       long_enough = c.if-body-lt8.false;
       version = c.if-body-ne1.false;
-      rank = c.wide-rank.ensures;
+      rank = c.from-rank.ensures;
       most = small _ _ c.the_limits-limits.ensures c.if-limits-rank.false;
-    }) c.if-flags-gt1.false c.if-body-maxima.false (maxima-short b fifth.wide-rank.ensures c.if-flags-ne1.false c.if-body-maxima-2.true))
+    }) c.if-flags-gt1.false c.if-body-maxima.false (maxima-short b fifth.from-rank.ensures c.if-flags-ne1.false c.if-body-maxima-2.true))
 
 pub returns-then-not-at_most : goal.returns-then-not-at_most
 returns-then-not-at_most c =
@@ -105,9 +105,9 @@ returns-then-not-at_most c =
     refused-space (inside b _ (record {
       long_enough = c.if-body-lt8.false;
       version = c.if-body-ne1.false;
-      rank = c.wide-rank.ensures;
+      rank = c.from-rank.ensures;
       most = small _ _ c.the_limits-limits.ensures c.if-limits-rank.false;
-    }) c.if-flags-gt1.false c.if-body-maxima.false (maxima-low b fifth.wide-rank.ensures sixth.if-flags-ne1.false c.if-body-maxima-2.false
+    }) c.if-flags-gt1.false c.if-body-maxima.false (maxima-low b fifth.from-rank.ensures sixth.if-flags-ne1.false c.if-body-maxima-2.false
     c.at_most.ensures c.if-not-at_most.true))
 
 pub returns : goal.returns
@@ -118,8 +118,8 @@ returns c =
     stored-space (inside b _ (record {
       long_enough = c.if-body-lt8.false;
       version = c.if-body-ne1.false;
-      rank = c.wide-rank.ensures;
+      rank = c.from-rank.ensures;
       most = small _ _ c.the_limits-limits.ensures c.if-limits-rank.false;
-    }) c.if-flags-gt1.false c.if-body-maxima.false (maxima-stored b fifth.wide-rank.ensures sixth.if-flags-ne1.false
+    }) c.if-flags-gt1.false c.if-body-maxima.false (maxima-stored b fifth.from-rank.ensures sixth.if-flags-ne1.false
     c.if-body-maxima-2.false c.at_most.ensures c.if-not-at_most.false))
     (small _ _ c.the_limits-limits.ensures c.if-limits-rank.false) c.if-body-maxima-2.false

@@ -5,7 +5,7 @@ use lib.ListN.{length}
 use Prim.Native.Nat.{ℕ, ◌*◌}
 use Rattle.front.proofs.Call.{of-slices}
 use Rattle.front_report.proofs.Reported.{few-reply}
-use Rattle.format.specs.Limits.{blocks_most}
+use Rattle.format.specs.Limits.{blocks_most, objects_most}
 use native.Mathlib.Omega.{arith}
 use Rattle.front_report.proofs.+report_in.Goals as goal
 
@@ -15,6 +15,14 @@ returns-then-answer-ne-NO_ROOM t c =
     few-reply a.image.now (length a.blocks.now) (length a.reply.now) c.few_room.result a.room _
     c.report_in-answer.ensures (omega (arith, c.few_room.ensures, c.if-room-le-FEW_BLOCKS.false)) c.requires.room_in_bounds
     c.if-answer-ne-NO_ROOM.true
+
+pub report_sized-requires-clause-table : goal.report_sized-requires-clause-table
+unfolding objects_most
+report_sized-requires-clause-table t c = omega arith
+
+pub report_sized-requires-2-clause-table : goal.report_sized-requires-2-clause-table
+unfolding objects_most
+report_sized-requires-2-clause-table t c = omega arith
 
 pub report_sized-requires-2-clause-words : goal.report_sized-requires-2-clause-words
 unfolding blocks_most

@@ -5,10 +5,10 @@ use Rattle.names.proofs.StartLaws.{fewer}
 use native.Mathlib.Omega.{arith}
 use Rattle.names.proofs.has_slash.Goals as goal
 
-pub returns-then-not-contains_16 : goal.returns-then-not-contains_16
-returns-then-not-contains_16 c =
+pub returns-then-not-contains_at : goal.returns-then-not-contains_at
+returns-then-not-contains_at c =
     let a = c.args in
-    sym (fewer a.segment.now a.off (sym c.contains_16.ensures ∙ c.if-not-contains_16.true) a.n (omega arith))
+    sym (fewer a.segment.now a.off (sym c.contains_at.ensures ∙ c.if-not-contains_at.true) a.n (omega arith))
 
 pub returns : goal.returns
 returns c =

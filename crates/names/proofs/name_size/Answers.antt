@@ -15,24 +15,24 @@ size_behind-requires c =
       plain = plain-none _ _;
     }
 
-pub returns-then-contains_16 : goal.returns-then-contains_16
-returns-then-contains_16 c =
-    let without-nul : contains 0 (part c.args.segment.now c.args.off 16) ≡ false = sym c.contains_16.ensures ∙ c.if-not-contains_16.true in
+pub returns-then-contains_at : goal.returns-then-contains_at
+returns-then-contains_at c =
+    let without-nul : contains 0 (part c.args.segment.now c.args.off 16) ≡ false = sym c.contains_at.ensures ∙ c.if-not-contains_at.true in
     size-slashed _ _ c.requires
-    (slash-first c.args.segment.now c.args.off (omega arith) without-nul (sym c.contains_16-then-not-contains_16.ensures ∙ c.if-contains_16.true))
+    (slash-first c.args.segment.now c.args.off (omega arith) without-nul (sym c.contains_at-then-not-contains_at.ensures ∙ c.if-contains_at.true))
 
-pub size_behind-requires-then-not-contains_16 : goal.size_behind-requires-then-not-contains_16
-size_behind-requires-then-not-contains_16 c =
-    let without-nul : contains 0 (part c.args.segment.now c.args.off 16) ≡ false = sym c.contains_16.ensures ∙ c.if-not-contains_16.true in
+pub size_behind-requires-then-not-contains_at : goal.size_behind-requires-then-not-contains_at
+size_behind-requires-then-not-contains_at c =
+    let without-nul : contains 0 (part c.args.segment.now c.args.off 16) ≡ false = sym c.contains_at.ensures ∙ c.if-not-contains_at.true in
     record {
       segment_in_bounds = c.requires;
       passed_bound = omega arith;
-      plain = goes_on _ _ (omega arith) without-nul (sym c.contains_16-then-not-contains_16.ensures ∙ c.if-contains_16.false);
+      plain = goes_on _ _ (omega arith) without-nul (sym c.contains_at-then-not-contains_at.ensures ∙ c.if-contains_at.false);
     }
 
 pub has_slash-requires : goal.has_slash-requires
 has_slash-requires c =
-    let with-nul : contains 0 (part c.args.segment.now c.args.off 16) ≡ true = sym c.contains_16.ensures ∙ c.if-not-contains_16.false in
+    let with-nul : contains 0 (part c.args.segment.now c.args.off 16) ≡ true = sym c.contains_at.ensures ∙ c.if-not-contains_at.false in
     let a = c.args in
     record {
       off_in_bounds = omega arith;
@@ -45,7 +45,7 @@ returns-then-has_slash c =
 
 pub size_unless_dot-requires : goal.size_unless_dot-requires
 size_unless_dot-requires c =
-    let with-nul : contains 0 (part c.args.segment.now c.args.off 16) ≡ true = sym c.contains_16.ensures ∙ c.if-not-contains_16.false in
+    let with-nul : contains 0 (part c.args.segment.now c.args.off 16) ≡ true = sym c.contains_at.ensures ∙ c.if-not-contains_at.false in
     record {
       segment_in_bounds = c.requires;
       slashless = ends-plain _ _ with-nul c.string_size-n.ensures (sym c.has_slash.ensures ∙ c.if-has_slash.false);

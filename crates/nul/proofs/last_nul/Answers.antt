@@ -12,5 +12,5 @@ loop-end-init c = (omega arith, λ k h l. absurd (omega arith))
 pub loop-end-preserved : goal.loop-end-preserved
 loop-end-preserved c =
     let seg = c.args.segment.now in
-    let none = none_found 0 seg (c.loop-end.end - 16) 16 (omega arith) (sym c.contains_16.ensures ∙ c.if-contains_16.false) in
+    let none = none_found 0 seg (c.loop-end.end - 16) 16 (omega arith) (sym c.contains_at.ensures ∙ c.if-contains_at.false) in
     (omega arith, none_from seg c.loop-end.end 16 (omega arith) (omega arith) none c.loop-end.invariant.1)

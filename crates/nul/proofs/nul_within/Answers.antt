@@ -10,4 +10,4 @@ loop-i-init c = at-start _ _ _ c.requires
 pub loop-i-preserved : goal.loop-i-preserved
 loop-i-preserved c =
     let l = c.loop-i in
-    at-16 _ _ _ l.i l.invariant (omega arith) (omega arith) (sym c.contains_16.ensures ∙ c.if-contains_16.false)
+    at-16 _ _ _ l.i l.invariant (omega arith) (omega arith) (sym c.contains_at.ensures ∙ c.if-contains_at.false)

@@ -18,17 +18,17 @@ returns-then-s-lt16 c =
 pub loop-i-init : goal.loop-i-init
 loop-i-init c = (omega arith, refl)
 
-pub returns-then-contains_16 : goal.returns-then-contains_16
-returns-then-contains_16 c =
+pub returns-then-contains_at : goal.returns-then-contains_at
+returns-then-contains_at c =
     let a = c.args in
-    contains-found a.x a.s.now c.loop-i.i _ c.loop-i.invariant.1 (sym c.if-contains_16.true ∙ c.contains_16.ensures)
+    contains-found a.x a.s.now c.loop-i.i _ c.loop-i.invariant.1 (sym c.if-contains_at.true ∙ c.contains_at.ensures)
 
 pub loop-i-preserved : goal.loop-i-preserved
 loop-i-preserved c =
     let a = c.args in
-    (omega arith, contains-behind a.x a.s.now c.loop-i.i _ c.loop-i.invariant.1 (sym c.if-contains_16.false ∙ c.contains_16.ensures))
+    (omega arith, contains-behind a.x a.s.now c.loop-i.i _ c.loop-i.invariant.1 (sym c.if-contains_at.false ∙ c.contains_at.ensures))
 
 pub returns : goal.returns
 returns c =
     let a = c.args in
-    c.contains_16-2.ensures ∙ contains-last a.x a.s.now c.loop-i.i (omega arith) (omega arith) c.loop-i.invariant.1
+    c.contains_at-2.ensures ∙ contains-last a.x a.s.now c.loop-i.i (omega arith) (omega arith) c.loop-i.invariant.1

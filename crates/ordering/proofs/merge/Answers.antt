@@ -1,4 +1,5 @@
 -- The numbers that are not left stand where they belong; each turn places one of the second run and what stands behind it of the first.
+use Prim.Native.Nat.{◌+◌, ◌-◌}
 use mathlib.Core.Path.{◌≡◌}
 use Rattle.ordering.proofs.MergeLaws.{merging-none, merging-all, merging-more, place_read, place-low, second-small}
 use native.Mathlib.Omega.{arith}
@@ -20,7 +21,8 @@ pub overflow_add-words-in-loop-k : goal.overflow_add-words-in-loop-k
 overflow_add-words-in-loop-k c =
     let held = c.requires in
     let inv = c.loop-k.invariant in
-    omega (arith, second-small held inv (omega arith) (place_read held inv (omega arith)) c.raise.ensures)
+    let e : c.loop-k.k - 1 + 1 ≡ c.loop-k.k = omega arith in
+    omega (arith, second-small held inv (omega arith) (place_read held inv (omega arith)) (rw e at c.raise.ensures))
 
 pub overflow_add-words-in-loop-k-2 : goal.overflow_add-words-in-loop-k-2
 overflow_add-words-in-loop-k-2 c = omega (arith, place-low c.requires c.loop-k.invariant (omega arith))
@@ -39,7 +41,8 @@ pub loop-k-preserved : goal.loop-k-preserved
 loop-k-preserved c =
     let held = c.requires in
     let inv = c.loop-k.invariant in
-    merging-more held inv (omega arith) (place_read held inv (omega arith)) c.raise.ensures
+    let e : c.loop-k.k - 1 + 1 ≡ c.loop-k.k = omega arith in
+    merging-more held inv (omega arith) (place_read held inv (omega arith)) (rw e at c.raise.ensures)
 
 pub returns : goal.returns
 returns c =

@@ -4,6 +4,3 @@ use Rattle.ordering.proofs.merge.Given as goal
 
 abbrev pub invariant-loop-k : goal.invariant-loop-k
 invariant-loop-k l = Merging l.initial.words l.runs l.left l.k l.words
-
-abbrev pub decreases-loop-k : goal.decreases-loop-k
-decreases-loop-k l = l.k

@@ -24,13 +24,13 @@ returns-then-free_start-gt0 c =
     let a = c.args in
     λ bs k. scan-free a.segment.now a.v (16 * a.c) (omega (arith, c.free_start.ensures)) bs (same-cell k)
 
-pub returns-then-contains_16 : goal.returns-then-contains_16
-returns-then-contains_16 c = λ bs k. c.ends_in_cell-then-contains_16.ensures bs (same-cell k)
+pub returns-then-contains_at : goal.returns-then-contains_at
+returns-then-contains_at c = λ bs k. c.ends_in_cell-then-contains_at.ensures bs (same-cell k)
 
 pub returns : goal.returns
 returns c =
     let a = c.args in
-    let none = none_found 0 a.segment.now (16 * a.c) 16 (omega arith) (sym c.contains_16.ensures ∙ c.if-contains_16.false) in
+    let none = none_found 0 a.segment.now (16 * a.c) 16 (omega arith) (sym c.contains_at.ensures ∙ c.if-contains_at.false) in
     let whole : 16 * a.c + 16 ≤ length a.segment.now = omega arith in
     let start : free_start a.v ≡ 0 = omega (arith, c.free_start.ensures) in
     let end = end-most a.v (omega arith) in

@@ -1,5 +1,4 @@
 -- A fault has its place; the other case the block's address.
-use borrow.Author.Rules.{rules}
 use Rattle.damaged_block.proofs.block.damage_place.Goals as goal
 
 pub returns-in-Fault : goal.returns-in-Fault

@@ -1,5 +1,4 @@
 -- A fault lies in a block of the list; a block that can't be entered is named as it is pointed to.
-use borrow.Author.Rules.{rules}
 use Rattle.damaged_block.proofs.block.damaged.Goals as goal
 
 pub returns-in-Fault : goal.returns-in-Fault

@@ -7,21 +7,19 @@ use Rattle.damaged_block.proofs.block.holding.Goals as goal
 
 pub loop-i-init : goal.loop-i-init
 unfolding last_owner
-loop-i-init c = (omega arith, refl)
+loop-i-init c = refl
 
 pub returns-then-holds_byte : goal.returns-then-holds_byte
 returns-then-holds_byte c =
     c.listed.ensures
-    ∙ found_here c.args.count c.loop-i.i c.args.list.now c.args.place _ c.requires.list_value (omega arith) c.loop-i.invariant.1
+    ∙ found_here c.args.count c.loop-i.i c.args.list.now c.args.place _ c.requires.list_value (omega arith) c.loop-i.invariant
     (sym c.if-holds_byte.true ∙ c.holds_byte.ensures)
 
 pub loop-i-preserved : goal.loop-i-preserved
-loop-i-preserved c = (
-  omega arith,
-  found-later c.args.count c.loop-i.i c.args.list.now c.args.place _ c.requires.list_value (omega arith) c.loop-i.invariant.1
-      (sym c.if-holds_byte.false ∙ c.holds_byte.ensures),
-)
+loop-i-preserved c =
+    found-later c.args.count c.loop-i.i c.args.list.now c.args.place _ c.requires.list_value (omega arith) c.loop-i.invariant
+    (sym c.if-holds_byte.false ∙ c.holds_byte.ensures)
 
 pub returns : goal.returns
 returns c =
-    c.no_block.ensures ∙ found_none c.args.count c.loop-i.i c.args.list.now c.args.place _ (omega arith) c.loop-i.invariant.1
+    c.no_block.ensures ∙ found_none c.args.count c.loop-i.i c.args.list.now c.args.place _ (omega arith) c.loop-i.invariant

@@ -1,6 +1,5 @@
 -- The number behind that of the last block.
 use mathlib.Core.Path.{refl}
-use borrow.Author.Rules.{rules}
 use Rattle.damaged_block.proofs.block.refused_block.Goals as goal
 
 pub returns : goal.returns

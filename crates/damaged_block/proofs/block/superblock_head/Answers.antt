@@ -2,7 +2,6 @@
 use borrow.Author.Tests.{eq-eqb, ne_eqb}
 use Rattle.format.specs.Limits.{image_least}
 use Rattle.format.specs.Bytes.{undefined_address}
-use borrow.Author.Rules.{rules}
 use Rattle.damaged_block.proofs.block.superblock_head.Goals as goal
 
 pub returns-then-short : goal.returns-then-short
