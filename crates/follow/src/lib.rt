@@ -35,8 +35,15 @@ fn follow(
     while from <= path.len() {
         let end = path::component_end(path, from);
         let last = end == path.len();
-        let target =
-            component::component(image, &path[from..end], list, superblock, room, at, last)?;
+        let target = component::component(
+            image,
+            &path[from..end],
+            list,
+            superblock,
+            room,
+            at,
+            last,
+        )?;
         match target {
             Target::Symbolic => return Ok(Target::Symbolic),
             Target::Object(address) => {
@@ -49,7 +56,12 @@ fn follow(
 }
 
 // Where a path leads in an opened image, with the whole list lent for the blocks of each component.
-pub fn find_object(image: &[u8], path: &[u8], list: &mut [u64], superblock: Superblock) -> Result<Target, Refusal>
+pub fn find_object(
+    image: &[u8],
+    path: &[u8],
+    list: &mut [u64],
+    superblock: Superblock,
+) -> Result<Target, Refusal>
     requires bounded { Bounded image.now superblock }
     requires in_bounds { 1 ≤ length path.now }
     ensures { EndsAs result (target_run image.now (superblock_of superblock) (places_of (length list.old))

@@ -14,16 +14,11 @@ pub fn overlaps_free(segment: &[u8], head: u64, count: usize, off: u64, size: u6
 {
     let end = off + size;
     let mut at = head;
-    for _ in 0..count {
+    for _i in 0..count {
         let place = at as usize;
         let own = u64_at(segment, place + 8);
-        if at < end {
-            if off < at {
-                return true;
-            }
-            if off - at < own {
-                return true;
-            }
+        if at < end && (off < at || off - at < own) {
+            return true;
         }
         at = u64_at(segment, place);
     }

@@ -1,7 +1,7 @@
 // The audit on byte slices.
 #![tactic(auto)]
 
-ghost use Rattle.std.specs.Prelude.{◌≡◌, [], ◌∷◌, ◌+◌, ◌*◌, ◌/◌, ◌≤◌, length};
+ghost use Rattle.std.specs.Prelude.{◌≡◌, [], ◌∷◌, ◌+◌, ◌*◌, ◌/◌, ◌≤◌, length, ◌<◌, ◌^◌};
 ghost use Rattle.format.specs.Bytes.{overwrite};
 ghost use Rattle.format.specs.Limits.{objects_most, blocks_most};
 ghost use Rattle.format.specs.Front.{word_bytes, padded_bytes, object_words, CReply, c_audit};
@@ -100,6 +100,8 @@ fn audit_sized<const WORDS: usize, const TABLE: usize>(
     room: usize,
 ) -> u32
     requires words { work_words room ≤ WORDS }
+    requires words_fit { WORDS < 2 ^ 60 }
+    requires table_fits { TABLE < 2 ^ 60 }
     requires table { index_words ≤ TABLE }
     requires room_in_bounds { 4 * room ≤ length blocks.old / 8 }
     requires objects_most_in_bounds { 2 + 3 * objects_most ≤ length reply.old / 8 }

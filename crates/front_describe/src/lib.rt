@@ -1,7 +1,7 @@
 // The description of a dataset on byte slices.
 #![tactic(auto)]
 
-ghost use Rattle.std.specs.Prelude.{◌≡◌, [], ◌+◌, ◌*◌, ◌/◌, ◌≤◌, length};
+ghost use Rattle.std.specs.Prelude.{◌≡◌, [], ◌+◌, ◌*◌, ◌/◌, ◌≤◌, length, ◌<◌, ◌^◌};
 ghost use Rattle.format.specs.Bytes.{overwrite};
 ghost use Rattle.format.specs.Limits.{rank_most, blocks_most};
 ghost use Rattle.format.specs.Front.{word_bytes, padded_bytes, description_words, CReply, c_describe};
@@ -84,6 +84,7 @@ fn describe_sized<const WORDS: usize>(
     room: usize,
 ) -> u32
     requires words { work_words room ≤ WORDS }
+    requires words_fit { WORDS < 2 ^ 60 }
     requires room_in_bounds { 4 * room ≤ length blocks.old / 8 }
     requires rank_most_in_bounds { 10 + 2 * rank_most ≤ length reply.old / 8 }
     ensures { DescribesWith image.now path.now (length blocks.old) (length reply.old) room

@@ -1,7 +1,7 @@
 // Path lookup on byte slices.
 #![tactic(auto)]
 
-ghost use Rattle.std.specs.Prelude.{◌≡◌, ◌*◌, ◌/◌, ◌≤◌, length};
+ghost use Rattle.std.specs.Prelude.{◌≡◌, ◌*◌, ◌/◌, ◌≤◌, length, ◌<◌, ◌^◌};
 ghost use Rattle.format.specs.Limits.{blocks_most};
 ghost use Rattle.format.specs.Front.{CReply, c_lookup};
 ghost use Rattle.front_lookup.specs.With.{LooksUpWith};
@@ -50,6 +50,7 @@ fn lookup_sized<const WORDS: usize>(
     room: usize,
 ) -> u32
     requires words { work_words room ≤ WORDS }
+    requires words_fit { WORDS < 2 ^ 60 }
     requires room_in_bounds { 4 * room ≤ length blocks.old / 8 }
     requires in_bounds { 3 ≤ length reply.old / 8 }
     ensures { LooksUpWith image.now path.now (length blocks.old) (length reply.old) room

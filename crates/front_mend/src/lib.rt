@@ -1,7 +1,7 @@
 // Mending on byte slices.
 #![tactic(auto)]
 
-ghost use Rattle.std.specs.Prelude.{◌≡◌, ◌*◌, ◌/◌, ◌≤◌, min, length, replicate};
+ghost use Rattle.std.specs.Prelude.{◌≡◌, ◌*◌, ◌/◌, ◌≤◌, min, length, replicate, ◌<◌, ◌^◌};
 ghost use Rattle.format.specs.Limits.{objects_most, blocks_most};
 ghost use Rattle.format.specs.Front.{padded_bytes, refusal_words, CMend, c_mend};
 ghost use Rattle.front_mend.specs.With.{MendsWith};
@@ -89,6 +89,7 @@ fn mend_sized<const WORDS: usize>(
     room: usize,
 ) -> u32
     requires words { work_words room ≤ WORDS }
+    requires words_fit { WORDS < 2 ^ 60 }
     requires room_in_bounds { 4 * room ≤ length blocks.old / 8 }
     requires in_bounds { 3 ≤ length reply.old / 8 }
     ensures { MendsWith image.old (length blocks.old) (length log.old) (length reply.old) limit room

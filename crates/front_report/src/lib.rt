@@ -1,7 +1,7 @@
 // The damage report on byte slices.
 #![tactic(auto)]
 
-ghost use Rattle.std.specs.Prelude.{◌≡◌, ◌*◌, ◌/◌, ◌≤◌, length};
+ghost use Rattle.std.specs.Prelude.{◌≡◌, ◌*◌, ◌/◌, ◌≤◌, length, ◌<◌, ◌^◌};
 ghost use Rattle.format.specs.Limits.{blocks_most};
 ghost use Rattle.format.specs.Front.{padded_bytes, CReply};
 ghost use Rattle.format.specs.Report.{c_report};
@@ -81,6 +81,8 @@ fn report_sized<const WORDS: usize, const TABLE: usize>(
     room: usize,
 ) -> u32
     requires words { work_words room ≤ WORDS }
+    requires words_fit { WORDS < 2 ^ 60 }
+    requires table_fits { TABLE < 2 ^ 60 }
     requires table { index_words ≤ TABLE }
     requires room_in_bounds { 4 * room ≤ length blocks.old / 8 }
     requires in_bounds { 8 ≤ length reply.old / 8 }

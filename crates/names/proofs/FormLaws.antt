@@ -11,21 +11,19 @@ use Rattle.format.specs.Names.{bad_form, in_free_block, text, fault, before_nul,
 use Rattle.heap.specs.Segment.{heap_with}
 use Rattle.nul.specs.Nul.{LastNul}
 use Rattle.nul.proofs.NulLaws.{ends}
+use Rattle.std.specs.Prelude.{Some, None}
 use Rattle.names.specs.Sizes.{name_size}
 use Rattle.names.proofs.NameLaws.{key-sound, name-bad, name_free, free-hit, free-missed, string-length}
 use Rattle.names.proofs.SizeLaws.{name-none, name-some}
 
 -- the name at off, which ends in the segment and has n bytes, or is none
-module _ (seg : List ℕ) (ended off : ℕ) (bs : List Block) (l : LastNul seg ended) (h : off < ended) {n : ℕ} (e : n ≡ name_size seg off) where
-  pub name-formless : n ≡ 0 → fault bad_form ≡ name_text (heap_with seg bs) off
-  name-formless z = name-bad (heap_with seg bs) off (key-sound seg ended off bs l h) (name-none seg off (ends seg ended off l h) (sym e ∙ z))
+module _ (seg : List ℕ) (ended off : ℕ) (bs : List Block) (l : LastNul seg ended) (h : off < ended) where
+  pub name-formless : name_size seg off ≡ None → fault bad_form ≡ name_text (heap_with seg bs) off
+  name-formless z = name-bad (heap_with seg bs) off (key-sound seg ended off bs l h) (name-none seg off (ends seg ended off l h) z)
 
-  module _ (p : n ≡ 0 → ⊥) where
-    form : is_name (string_at seg off) ≡ true
-    form = (name-some seg off (ends seg ended off l h) (λ z. p (e ∙ z))).0
-
+  module _ {n : ℕ} (e : name_size seg off ≡ Some n) where
     whole : n ≡ before_nul (drop off seg)
-    whole = e ∙ (name-some seg off (ends seg ended off l h) (λ z. p (e ∙ z))).1
+    whole = (name-some seg off (ends seg ended off l h) e).1
 
     pub name-inside : off + n < length seg
     name-inside = omega (arith, whole, ends seg ended off l h)
@@ -42,7 +40,7 @@ module _ (seg : List ℕ) (ended off : ℕ) (bs : List Block) (l : LastNul seg e
     read = rw string (key-sound seg ended off bs l h)
 
     formed : is_name (part seg off n) ≡ true
-    formed = rw string form
+    formed = rw string (name-some seg off (ends seg ended off l h) e).0
 
     pub name-hit : overlaps_any bs off (n + 1) ≡ true → fault in_free_block ≡ name_text (heap_with seg bs) off
     name-hit o = free-hit (heap_with seg bs) off (part seg off n) (rw sized o) ∙ name_free (heap_with seg bs) off read formed

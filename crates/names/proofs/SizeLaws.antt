@@ -4,8 +4,7 @@ use mathlib.Core.Bool.{Bool, true, false, not}
 use mathlib.Core.List.{List, [], ◌∷◌}
 use mathlib.Core.Path.{◌≡◌, refl, ap, sym, ◌∙◌}
 use native.Mathlib.Omega.{arith}
-use borrow.Author.Tests.{ltb-true, ltb-false, ne_eqb}
-use lib.Dec.{ltb}
+use borrow.Author.Tests.{ne_eqb}
 use lib.ListN.{length, get_or, drop}
 use lib.Seq.{take-add, drop-drop, drop-cons}
 use Rattle.format.specs.Limits.{name_most}
@@ -17,6 +16,9 @@ use Rattle.order.proofs.Parts.{contains-parts}
 use Rattle.nul.specs.Nul.{NulWithin}
 use Rattle.names.specs.Sizes.{Plain, Slashless, name_size}
 use Rattle.names.proofs.NameLaws.{string-length}
+use Rattle.names.proofs.StartLaws.{sixteen}
+use Rattle.std.specs.Prelude.{Some, None}
+use Rattle.std.proofs.lemmas.Option.{none-some, same_Some}
 
 -- which strings are names
 module _ (t : List ℕ) where
@@ -50,81 +52,73 @@ module _ (seg : List ℕ) (off : ℕ) (h : off + before_nul (drop off seg) < len
   sized : length (string_at seg off) ≡ before_nul (drop off seg)
   sized = string-length seg off (omega arith)
 
-  size_none : is_name (string_at seg off) ≡ false → 0 ≡ name_size seg off
+  size_none : is_name (string_at seg off) ≡ false → None ≡ name_size seg off
   unfolding name_size
   size_none e = rw e
 
-  size-whole : is_name (string_at seg off) ≡ true → before_nul (drop off seg) ≡ name_size seg off
+  size-whole : is_name (string_at seg off) ≡ true → Some (before_nul (drop off seg)) ≡ name_size seg off
   unfolding name_size
-  size-whole e = rw e (sym sized)
+  size-whole e = rw (e, sized)
 
-  -- a size of 0 is no name's
-  pub name-none : name_size seg off ≡ 0 → is_name (string_at seg off) ≡ false
+  -- no size is no name's
+  pub name-none : name_size seg off ≡ None → is_name (string_at seg off) ≡ false
   name-none z = go (is_name (string_at seg off)) refl
     where
       go : (t : Bool) → is_name (string_at seg off) ≡ t → t ≡ false
-      go true p =
-          let f = empty_name (string_at seg off) (sized ∙ size-whole p ∙ z) in
-          let o : ◌≡◌ {A = ℕ} 0 1 = cc in
-          absurd (omega arith)
+      go true p = absurd (none-some _ (sym z ∙ sym (size-whole p)))
       go false p = refl
 
-  pub name-some : (name_size seg off ≡ 0 → ⊥) → (is_name (string_at seg off) ≡ true) × (name_size seg off ≡ before_nul (drop off seg))
-  name-some z = go (is_name (string_at seg off)) refl
+  pub name-some : {n : ℕ} → name_size seg off ≡ Some n → (is_name (string_at seg off) ≡ true) × (n ≡ before_nul (drop off seg))
+  name-some {n} z = go (is_name (string_at seg off)) refl
     where
-      go : (t : Bool) → is_name (string_at seg off) ≡ t → (t ≡ true) × (name_size seg off ≡ before_nul (drop off seg))
-      go true p = (refl, sym (size-whole p))
-      go false p = absurd (z (sym (size_none p)))
+      go : (t : Bool) → is_name (string_at seg off) ≡ t → (t ≡ true) × (n ≡ before_nul (drop off seg))
+      go true p = (refl, same_Some _ _ (sym z ∙ sym (size-whole p)))
+      go false p = absurd (none-some n (size_none p ∙ z))
 
   -- it has a '/'
-  pub size-slashed : contains 0x2f (string_at seg off) ≡ true → 0 ≡ name_size seg off
+  pub size-slashed : contains 0x2f (string_at seg off) ≡ true → None ≡ name_size seg off
   size-slashed e = size_none (slash-name _ e)
 
-  pub size-slashed-short : {n : ℕ} → n ≡ before_nul (drop off seg) → contains 0x2f (part seg off n) ≡ true → 0 ≡ name_size seg off
+  pub size-slashed-short : {n : ℕ} → n ≡ before_nul (drop off seg) → contains 0x2f (part seg off n) ≡ true → None ≡ name_size seg off
   unfolding string_at
   size-slashed-short q e = size-slashed (rw q at e)
 
   -- it has n bytes and no '/'
   module _ {n : ℕ} (r : Slashless seg off n) where
-    empty : n ≡ 0 → n ≡ name_size seg off
-    empty z = go (is_name (string_at seg off)) refl
-      where
-        go : (t : Bool) → is_name (string_at seg off) ≡ t → n ≡ name_size seg off
-        go true p = sym r.size ∙ size-whole p
-        go false p = z ∙ size_none p
+    pub size-empty : n ≡ 0 → None ≡ name_size seg off
+    size-empty z = size_none (empty_name _ (omega (arith, sized, r.size)))
 
-    named : 0 < n → same_bytes (string_at seg off) (0x2e ∷ []) ≡ false → n ≡ name_size seg off
+    named : 0 < n → same_bytes (string_at seg off) (0x2e ∷ []) ≡ false → Some n ≡ name_size seg off
     named l s =
-        sym r.size
+        ap Some (sym r.size)
         ∙ size-whole (good-name _ (omega (arith, sized, r.size)) (omega (arith, sized, r.size, r.most)) r.plain s)
 
-    pub size-other : (n ≡ 1 → ⊥) → n ≡ name_size seg off
-    size-other d = go (ltb 0 n) refl
-      where
-        go : (t : Bool) → ltb 0 n ≡ t → n ≡ name_size seg off
-        go true p = named (ltb-true 0 n p) (sym (same-lengths (string_at seg off) (0x2e ∷ []) (λ q. d (omega (arith, q, sized, r.size)))))
-        go false p = empty (omega (arith, ltb-false 0 n p))
+    pub size-other : 0 < n → (n ≡ 1 → ⊥) → Some n ≡ name_size seg off
+    size-other l d = named l (sym (same-lengths (string_at seg off) (0x2e ∷ []) (λ q. d (omega (arith, q, sized, r.size)))))
 
     one : n ≡ 1 → string_at seg off ≡ get_or seg off 0 ∷ []
     unfolding string_at
     one e = rw (r.size, e, drop-cons seg off 0 (omega arith))
 
-    pub size-dot : n ≡ 1 → get_or seg off 0 ≡ 0x2e → 0 ≡ name_size seg off
+    pub size-dot : n ≡ 1 → get_or seg off 0 ≡ 0x2e → None ≡ name_size seg off
     size-dot e q = size_none (rw (one e, q) dot-name)
 
-    pub size-one : n ≡ 1 → (get_or seg off 0 ≡ 0x2e → ⊥) → 1 ≡ name_size seg off
+    pub size-one : n ≡ 1 → (get_or seg off 0 ≡ 0x2e → ⊥) → Some n ≡ name_size seg off
     unfolding same_bytes
-    size-one e q = sym e ∙ named (omega arith) (rw (one e, ne_eqb _ _ q))
+    size-one e q = named (omega arith) (rw (one e, ne_eqb _ _ q))
 
   -- its first m bytes are passed, and the bytes up to `end` were looked at
-  module _ {m : ℕ} (p : Plain seg off m) (l : m ≤ name_most) {end : ℕ} (w : NulWithin seg (off + m) (name_most + 1 - m) end) where
-    pub size_above : name_most < end - off → 0 ≡ name_size seg off
-    size_above k = size_none (long-name _ (omega (arith, sized, w.value, p.long)))
+  module _ {m limit : ℕ} (p : Plain seg off m) (l : m ≤ 16) (same : limit ≡ name_most) {end : ℕ} (w : NulWithin seg (off + m) (limit + 1 - m) end) where
+    looked : NulWithin seg (off + m) (name_most + 1 - m) end
+    looked = rw same at w
+
+    pub size_above : limit < end - off → None ≡ name_size seg off
+    size_above k = size_none (long-name _ (omega (arith, sized, sixteen, looked.value, p.long)))
 
     -- all were looked at
-    module _ (k : end - off ≤ name_most) where
+    module _ (k : (limit < end - off → ⊥)) where
       whole : before_nul (drop off seg) ≡ m + (end - (off + m))
-      whole = omega (arith, w.value, p.long, l)
+      whole = omega (arith, looked.value, sixteen, p.long)
 
       slashes : contains 0x2f (string_at seg off) ≡ contains 0x2f (part seg (off + m) (end - (off + m)))
       unfolding string_at
@@ -132,8 +126,8 @@ module _ (seg : List ℕ) (off : ℕ) (h : off + before_nul (drop off seg) < len
           rw (whole, take-add m (end - (off + m)) (drop off seg), drop-drop m off seg)
           (contains-parts 0x2f (part seg off m) _ ∙ rw p.plain)
 
-      pub size-slash : contains 0x2f (part seg (off + m) (end - (off + m))) ≡ true → 0 ≡ name_size seg off
+      pub size-slash : contains 0x2f (part seg (off + m) (end - (off + m))) ≡ true → None ≡ name_size seg off
       size-slash e = size-slashed (slashes ∙ e)
 
       pub size-plain : contains 0x2f (part seg (off + m) (end - (off + m))) ≡ false → Slashless seg off (end - off)
-      size-plain e = record { size = omega (arith, whole, w.value); most = k; plain = slashes ∙ e }
+      size-plain e = record { size = omega (arith, whole, looked.value); most = omega arith; plain = slashes ∙ e }

@@ -1,5 +1,5 @@
 -- A link value, by the free blocks.
-use Prim.Native.Nat.{ℕ, ◌+◌, ◌<◌}
+use Prim.Native.Nat.{ℕ, ◌+◌, ◌-◌, ◌<◌}
 use mathlib.Core.Bool.{true, false, not}
 use mathlib.Core.List.{List, []}
 use mathlib.Core.Path.{◌≡◌, refl, sym, ◌∙◌}
@@ -9,7 +9,7 @@ use lib.ListN.{length, drop}
 use Rattle.format.specs.Blocks.{Block, overlaps_any}
 use Rattle.format.specs.Names.{in_free_block, text, fault, before_nul, string_at, value_text}
 use Rattle.heap.specs.Segment.{heap_with}
-use Rattle.nul.specs.Nul.{LastNul}
+use Rattle.nul.specs.Nul.{LastNul, NulWithin}
 use Rattle.nul.proofs.NulLaws.{ends}
 use Rattle.free_list.specs.FreeBlocks.{chain}
 use Rattle.string_ends.specs.Ends.{ends_outside}
@@ -20,6 +20,11 @@ pub free-decides : (seg : List ℕ) (bs : List Block) (off n : ℕ) → off + be
     not (overlaps_any bs off n) ≡ ends_outside seg bs off
 unfolding ends_outside
 free-decides seg bs off n h e = rw (e, lt-ltb (off + before_nul (drop off seg)) (length seg) h)
+
+-- where a string ends, whose end was looked for up to the segment's
+pub nul-found : {seg : List ℕ} {off end : ℕ} → off + before_nul (drop off seg) < length seg → NulWithin seg off (length seg - off) end →
+    end ≡ off + before_nul (drop off seg)
+nul-found h n = omega (arith, n.value)
 
 -- no blocks are followed
 pub none-followed : (seg : List ℕ) (head : ℕ) {free : ℕ} → free ≡ 0 → chain free seg head ≡ []

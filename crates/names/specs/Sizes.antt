@@ -1,12 +1,12 @@
 -- How many bytes a name has, and what its bytes tell of it.
-use Rattle.std.specs.Prelude.{ℕ, ◌+◌, ◌≤◌, false, List, ◌≡◌, length, drop, if◌then◌else◌}
+use Rattle.std.specs.Prelude.{ℕ, ◌+◌, ◌≤◌, false, List, ◌≡◌, length, drop, if◌then◌else◌, Option, Some, None}
 use Rattle.format.specs.Limits.{name_most}
 use Rattle.format.specs.Bytes.{part, contains}
 use Rattle.format.specs.Names.{before_nul, string_at, is_name}
 
--- how many bytes the name at off has; 0 if the string there is no name
-unfoldable pub name_size : List ℕ → ℕ → ℕ
-name_size seg off = if is_name (string_at seg off) then length (string_at seg off) else 0
+-- how many bytes the name at off has; none if the string there is no name
+unfoldable pub name_size : List ℕ → ℕ → Option ℕ
+name_size seg off = if is_name (string_at seg off) then Some (length (string_at seg off)) else None
 
 -- the string at off has n bytes or more, and no '/' among the first n
 pub record Plain (seg : List ℕ) (off n : ℕ) : Type 0 where

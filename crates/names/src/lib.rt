@@ -41,24 +41,24 @@ pub fn key(segment: &[u8], ended: usize, off: u64) -> Result<(), NameFault>
     Ok(())
 }
 
-// How many bytes a name has, where the string has so many, at most as many as a name may have, and no '/'; 0 if it is empty or ".".
-fn size_unless_dot(segment: &[u8], off: usize, n: usize) -> usize
+// How many bytes a name has, where the string has so many, at most as many as a name may have, and no '/'; none if it is empty or ".".
+fn size_unless_dot(segment: &[u8], off: usize, n: usize) -> Option<usize>
     requires segment_in_bounds { off + before_nul (drop off segment.now) < length segment.now }
     requires slashless { Slashless segment.now off n }
     ensures { result ≡ name_size segment.now off }
 {
-    if n != 1 {
-        return n;
+    if n == 0 {
+        return None;
     }
-    if segment[off] == b'.' {
-        return 0;
+    if n == 1 && segment[off] == b'.' {
+        return None;
     }
-    1
+    Some(n)
 }
 
 // How many bytes a name has, the first `passed` of which are known to be neither NUL nor '/'. One byte more than a name may have is looked at: a longer
 // string has no other fault.
-fn size_behind(segment: &[u8], off: usize, passed: usize) -> usize
+fn size_behind(segment: &[u8], off: usize, passed: usize) -> Option<usize>
     requires segment_in_bounds { off + before_nul (drop off segment.now) < length segment.now }
     requires passed_bound { passed ≤ 16 }
     requires plain { Plain segment.now off passed }
@@ -68,10 +68,10 @@ fn size_behind(segment: &[u8], off: usize, passed: usize) -> usize
     let from = off + passed;
     let end = nul_within(segment, from, limits.name_most + 1 - passed);
     if limits.name_most < end - off {
-        return 0;
+        return None;
     }
     if contains(b'/', &segment[from..end]) {
-        return 0;
+        return None;
     }
     size_unless_dot(segment, off, end - off)
 }
@@ -94,8 +94,7 @@ fn string_size(segment: &[u8], off: usize) -> usize
     ensures { result ≡ before_nul (drop off segment.now) }
 {
     let left = segment.len() - off;
-    let passed = eight_passed(segment, off);
-    for k in passed..left {
+    for k in eight_passed(segment, off)..left {
         if segment[off + k] == 0 {
             return k;
         }
@@ -116,8 +115,8 @@ fn has_slash(segment: &[u8], off: usize, n: usize) -> bool
     contains(b'/', &segment[off..end])
 }
 
-// How many bytes the name at `off` has; 0 if the string there is no name: 1 to 255 bytes, no '/', and not ".". Most names end within 16 bytes.
-fn name_size(segment: &[u8], off: usize) -> usize
+// How many bytes the name at `off` has; none if the string there is no name: 1 to 255 bytes, no '/', and not ".". Most names end within 16 bytes.
+fn name_size(segment: &[u8], off: usize) -> Option<usize>
     requires { off + before_nul (drop off segment.now) < length segment.now }
     ensures { result ≡ name_size segment.now off }
 {
@@ -126,13 +125,13 @@ fn name_size(segment: &[u8], off: usize) -> usize
     }
     if !contains_at::<16>(0, segment, off) {
         if contains_at::<16>(b'/', segment, off) {
-            return 0;
+            return None;
         }
         return size_behind(segment, off, 16);
     }
     let n = string_size(segment, off);
     if has_slash(segment, off, n) {
-        return 0;
+        return None;
     }
     size_unless_dot(segment, off, n)
 }
@@ -152,10 +151,7 @@ pub fn name(
 {
     key(segment, ended, off)?;
     let start = off as usize;
-    let size = name_size(segment, start);
-    if size == 0 {
-        return Err(NameFault::BadForm);
-    }
+    let size = name_size(segment, start).ok_or(NameFault::BadForm)?;
     if free != 0 && meets_free(segment, map, head, free, start, size + 1) {
         return Err(NameFault::InFreeBlock);
     }

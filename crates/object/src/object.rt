@@ -42,12 +42,13 @@ fn read_group(
         count objects 0 → FoundWalked image.now list.old addresses.old counts.old marks superblock room
         (content_walk (superblock_of superblock) (group_object tree heap)) count objects list.new addresses.new counts.new marks result }
 {
+    let auditing = true;
     let reading = group::contents::Reading {
         end_of_file: superblock.end_of_file,
         room,
         leaf_k: superblock.leaf_k,
         internal_k: superblock.internal_k,
-        auditing: true,
+        auditing,
     };
     let state = group::group::read(
         image, image, list, addresses, counts, reading, tree, heap, count, objects,
@@ -81,8 +82,9 @@ fn read_dataset(
         list.new addresses.new counts.new marks.new result }
 {
     let parts = read_parts(image, space, datatype)?;
-    let shared = sharing::share_type(addresses, counts, marks, objects, parts.datatype)
-        .map_err(|answer| Refusal::Fault(answer, head_of(datatype)))?;
+    let shared = sharing::share_type(addresses, counts, marks, objects, parts.datatype).map_err(
+        |answer| Refusal::Fault(answer, head_of(datatype)),
+    )?;
     let stored = read_storage(
         image,
         superblock.end_of_file,

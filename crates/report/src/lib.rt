@@ -107,9 +107,7 @@ pub fn report_into(
 {
     match superblock::open(image) {
         Err(answer) => unopened(answer),
-        Ok(superblock) => {
-            report_opened(image, list, addresses, stored, true_counts, superblock)
-        }
+        Ok(superblock) => { report_opened(image, list, addresses, stored, true_counts, superblock) }
     }
 }
 

@@ -5,6 +5,7 @@ use lib.ListN.{length}
 use Prim.Native.Nat.{ℕ, ◌*◌}
 use Rattle.front.proofs.Call.{of-slices}
 use Rattle.front_describe.proofs.Described.{few-reply}
+use Rattle.format.specs.Limits.{blocks_most}
 use native.Mathlib.Omega.{arith}
 use Rattle.front_describe.proofs.+describe_in.Goals as goal
 
@@ -15,8 +16,12 @@ returns-then-number-ne-NO_ROOM t c =
     c.describe_in-number.ensures (omega (arith, c.few_room.ensures, c.if-room-le-FEW_BLOCKS.false)) c.requires.room_in_bounds
     c.if-number-ne-NO_ROOM.true
 
+pub describe_sized-requires-2-clause-words : goal.describe_sized-requires-2-clause-words
+unfolding blocks_most
+describe_sized-requires-2-clause-words t c = omega (arith, c.requires.room_le_blocks_most)
+
 pub returns : goal.returns
 returns t c =
     let a = c.args in
     let k = c.if-image-le-SMALL_IMAGE.auto in
-    of-slices (λ (l r : ℕ). c_describe_end l r (describe a.image.now a.path.now (4 * a.room))) _ _ _ _ _ k.blocks k.reply c.describe_all.ensures
+    of-slices (λ (l r : ℕ). c_describe_end l r (describe a.image.now a.path.now (4 * a.room))) _ _ _ _ _ k.blocks k.reply c.describe_sized-2.ensures

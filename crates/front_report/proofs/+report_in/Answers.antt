@@ -5,6 +5,7 @@ use lib.ListN.{length}
 use Prim.Native.Nat.{ℕ, ◌*◌}
 use Rattle.front.proofs.Call.{of-slices}
 use Rattle.front_report.proofs.Reported.{few-reply}
+use Rattle.format.specs.Limits.{blocks_most, objects_most}
 use native.Mathlib.Omega.{arith}
 use Rattle.front_report.proofs.+report_in.Goals as goal
 
@@ -15,8 +16,20 @@ returns-then-answer-ne-NO_ROOM t c =
     c.report_in-answer.ensures (omega (arith, c.few_room.ensures, c.if-room-le-FEW_BLOCKS.false)) c.requires.room_in_bounds
     c.if-answer-ne-NO_ROOM.true
 
+pub report_sized-requires-clause-table : goal.report_sized-requires-clause-table
+unfolding objects_most
+report_sized-requires-clause-table t c = omega arith
+
+pub report_sized-requires-2-clause-table : goal.report_sized-requires-2-clause-table
+unfolding objects_most
+report_sized-requires-2-clause-table t c = omega arith
+
+pub report_sized-requires-2-clause-words : goal.report_sized-requires-2-clause-words
+unfolding blocks_most
+report_sized-requires-2-clause-words t c = omega (arith, c.requires.room_le_blocks_most)
+
 pub returns : goal.returns
 returns t c =
     let a = c.args in
     let k = c.if-image-le-SMALL_IMAGE.auto in
-    of-slices (λ (l r : ℕ). written l r (report a.image.now (4 * a.room))) _ _ _ _ _ k.blocks k.reply c.report_all.ensures
+    of-slices (λ (l r : ℕ). written l r (report a.image.now (4 * a.room))) _ _ _ _ _ k.blocks k.reply c.report_sized-2.ensures

@@ -5,21 +5,11 @@ use Rattle.nul.proofs.NulLaws.{nul-here, nul-later}
 use native.Mathlib.Omega.{arith}
 use Rattle.names.proofs.string_size.Goals as goal
 
-pub loop-k-init : goal.loop-k-init
-loop-k-init c = c.eight_passed-passed.ensures
-
 pub returns-then-segment-off-eq0 : goal.returns-then-segment-off-eq0
 returns-then-segment-off-eq0 c =
-    let l = c in
-    let a = l.args in
-    omega (arith, l.loop-k.invariant, nul-here a.segment.now (a.off + l.loop-k.k) (omega arith) c.if-segment-off-eq0.true)
+    omega (arith, c.loop-k.invariant, nul-here c.args.segment.now (c.args.off + c.loop-k.k) (omega arith) c.if-segment-off-eq0.true)
 
 pub loop-k-preserved : goal.loop-k-preserved
 loop-k-preserved c =
-    let l = c in
-    let a = l.args in
-    let e : a.off + (l.loop-k.k + 1) ≡ a.off + l.loop-k.k + 1 = omega arith in
-    rw e (omega (arith, l.loop-k.invariant, nul-later a.segment.now (a.off + l.loop-k.k) (omega arith) c.if-segment-off-eq0.false))
-
-pub returns : goal.returns
-returns c = absurd (omega (arith, c.loop-k.invariant))
+    let e : c.args.off + (c.loop-k.k + 1) ≡ c.args.off + c.loop-k.k + 1 = omega arith in
+    rw e (omega (arith, c.loop-k.invariant, nul-later c.args.segment.now (c.args.off + c.loop-k.k) (omega arith) c.if-segment-off-eq0.false))

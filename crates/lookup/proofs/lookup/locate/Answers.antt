@@ -12,20 +12,20 @@ kind_at-requires c =
       lent = room-lent _ _ c.places-room.ensures;
     }
 
-pub returns-in-Stopped : goal.returns-in-Stopped
-returns-in-Stopped c =
-    rw c.refused.ensures (stopped-is c.args.image.now c.args.path.now _ c.args.superblock _ c.in-Stopped.ensures)
+pub returns-in-Err : goal.returns-in-Err
+returns-in-Err c = rw c.refused.ensures (stopped-is c.args.image.now c.args.path.now _ c.args.superblock _ c.in-Err.ensures)
 
-pub returns-in-Symbolic : goal.returns-in-Symbolic
-returns-in-Symbolic c = symbolic-is c.args.image.now c.args.path.now _ c.args.superblock c.in-Symbolic.ensures
+pub returns-in-Ok-Symbolic : goal.returns-in-Ok-Symbolic
+returns-in-Ok-Symbolic c =
+    symbolic-is c.args.image.now c.args.path.now _ c.args.superblock (rw c.in-Ok-Symbolic.field-0-is at c.in-Ok-Symbolic.ensures)
 
-pub returns-in-Stopped-kind_at : goal.returns-in-Stopped-kind_at
-returns-in-Stopped-kind_at c =
-    rw c.refused-in-Stopped-kind_at.ensures
-    (last-stopped c.args.image.now c.args.path.now _ c.args.superblock c.in-Object.a c.in-Object.ensures _
-    (rw (c.places-room.ensures ∙ ap places_of c.find_object.auto.list) at c.in-Stopped-kind_at.ensures))
+pub returns-in-Err-kind_at : goal.returns-in-Err-kind_at
+returns-in-Err-kind_at c =
+    rw c.refused-in-Err-kind_at.ensures
+    (last-stopped c.args.image.now c.args.path.now _ c.args.superblock _ (rw c.in-Ok-Object.field-0-is at c.in-Ok-Object.ensures) _
+    (rw (c.places-room.ensures ∙ ap places_of c.find_object.auto.list) at c.in-Err-kind_at.ensures))
 
-pub returns-in-Known : goal.returns-in-Known
-returns-in-Known c =
-    last-known c.args.image.now c.args.path.now _ c.args.superblock c.in-Object.a c.in-Object.ensures _
-    (rw (c.places-room.ensures ∙ ap places_of c.find_object.auto.list) at c.in-Known.ensures)
+pub returns-in-Ok : goal.returns-in-Ok
+returns-in-Ok c =
+    last-known c.args.image.now c.args.path.now _ c.args.superblock _ (rw c.in-Ok-Object.field-0-is at c.in-Ok-Object.ensures) _
+    (rw (c.places-room.ensures ∙ ap places_of c.find_object.auto.list) at c.in-Ok.ensures)
