@@ -1,4 +1,6 @@
-// The answers of document 01, "Replies", with its words. The contract of each function that gives one shows it to be the definition's.
+// The answers of document 01, "Replies", with its words. The contract of each function that gives one shows it to be the definition's. They stay numbers:
+// `Refusal`, which the definitions speak of, and every reply have them as numbers.
+
 // "done"
 pub const DONE: u8 = 0;
 

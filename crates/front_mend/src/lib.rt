@@ -18,11 +18,7 @@ const REPLY_WORDS: usize = 3;
 fn log_room(words: usize) -> usize
     ensures { result ≡ min words (2 * objects_most) }
 {
-    let most = 2 * OBJECTS_MOST;
-    if words < most {
-        return words;
-    }
-    most
+    words.min(2 * OBJECTS_MOST)
 }
 
 // Zeros for the three slices.

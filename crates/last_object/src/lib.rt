@@ -10,7 +10,7 @@ use image::header;
 use kind::HeaderRead;
 use superblock::Superblock;
 
-// The numbers of document 01 for the kinds of objects.
+// The numbers of document 01 for the kinds of objects. They stay numbers, as the reply has them in C too.
 const GROUP: u8 = 1;
 
 const DATASET: u8 = 2;

@@ -48,7 +48,8 @@ pub struct Place {
     pub tests: usize,
 }
 
-// Finds the place by halving, in the order that begins at the word `from`.
+// Finds the place by halving, in the order that begins at the word `from`. `partition_point` finds it too, but doesn't say how many objects are
+// compared.
 fn halve(addresses: &[u64], from: usize, objects: usize, address: u64) -> Place
     requires { Sorted addresses.now from objects }
     ensures { Halving addresses.now from objects address result }

@@ -38,10 +38,7 @@ fn refused(log: &mut [u64], number: u8, met: u64) -> Mended
 fn least(limit: u64, entries: usize) -> usize
     ensures { result ≡ min limit entries }
 {
-    if limit < entries as u64 {
-        return limit as usize;
-    }
-    entries
+    limit.min(entries as u64) as usize
 }
 
 // Mends an image, with the audit in a working list, which has its blocks at its head. The log is lent for the entries, two words each.

@@ -10,7 +10,8 @@ use format::Refusal;
 use object::object::ObjectRead;
 use superblock::Superblock;
 
-// Walks each object of the table once, and those that are found on the way, from the first one on.
+// Walks each object of the table once, and those that are found on the way, from the first one on. The table grows while it is walked, so that no
+// range has its places.
 pub fn read(
     image: &[u8],
     list: &mut [u64],

@@ -1,4 +1,4 @@
-// The kinds of blocks, by their numbers.
+// The kinds of blocks, by their numbers. They stay numbers: `blocks::enter` takes any, and so does a refusal, and an enum would ask more of callers.
 pub const SUPERBLOCK: u8 = 1;
 
 pub const HEADER: u8 = 2;
