@@ -12,7 +12,6 @@ use Rattle.ordering.specs.Order.{words_from}
 use Rattle.ordering.proofs.OrderLaws.{below_or_not}
 use Rattle.ledger.specs.Index.{index_words, table_words, guess_at, address_in, Sorted, Indexed, Placed, Halving, Found, Guessed, Sought}
 use Rattle.ledger.specs.declared.search.Place.{Place}
-use Rattle.ledger.specs.declared.search.Search.{Search}
 
 -- a guess stands behind the order, and in a list that has guesses
 pub guess-from : (a : ℕ) → index_words ≤ guess_at a

@@ -8,7 +8,7 @@ use Rattle.format.specs.Limits.{objects_most}
 use Rattle.format.specs.Bytes.{undefined_address, padded}
 use Rattle.format.specs.Blocks.{Block, no_object, block_words, block_list, room_of}
 use Rattle.format.specs.declared.Refusal.{Refusal}
-use Rattle.format.specs.Walk.{Outcome, done, refused, run}
+use Rattle.format.specs.Walk.{Outcome, refused, run}
 use Rattle.format.specs.Superblock.{opened, not_opened, open_image}
 use Rattle.format.specs.Ledger.{Linked}
 use Rattle.format.specs.Audit.{audit_walk}

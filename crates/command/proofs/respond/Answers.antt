@@ -1,7 +1,6 @@
 -- What was read is what is printed for.
 use mathlib.Core.Path.{sym}
 use lib.Seq.{length-take-le}
-use Rattle.std.proofs.lemmas.Result.{err_from_is_err_and}
 use Rattle.input.proofs.ReadingLaws.{reads-within}
 use Rattle.command.proofs.respond.Goals as goal
 

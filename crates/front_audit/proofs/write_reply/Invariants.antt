@@ -1,5 +1,5 @@
 -- The reply begins with the counts and the first i objects; each turn writes one more.
-use Prim.Native.Nat.{◌≤◌, ◌-◌}
+use Prim.Native.Nat.{◌-◌}
 use mathlib.Core.Path.{◌≡◌}
 use lib.ListN.{length}
 use Rattle.words.proofs.Words.{Begins}

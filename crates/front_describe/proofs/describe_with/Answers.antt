@@ -1,6 +1,6 @@
 -- The laws of Described.antt, at the two ends of the code.
 use Prim.Native.Nat.{◌*◌}
-use mathlib.Core.Path.{refl, ap, ◌∙◌}
+use mathlib.Core.Path.{ap, ◌∙◌}
 use lib.ListN.{length}
 use Rattle.format.specs.Limits.{rank_most}
 use Rattle.format.specs.Front.{padded_bytes}

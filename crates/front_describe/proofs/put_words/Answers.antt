@@ -3,7 +3,6 @@ use mathlib.Core.Path.{refl, ◌∙◌}
 use Rattle.format.specs.Bytes.{overwrite}
 use Rattle.format.specs.Front.{word_bytes}
 use Rattle.front.proofs.Reply.{put-more, put_all}
-use native.Mathlib.Omega.{arith}
 use Rattle.front_describe.proofs.put_words.Goals as goal
 
 pub loop-i-init : goal.loop-i-init

@@ -1,5 +1,4 @@
 -- The words spilled are those of the reply.
-use borrow.Author.Rules.{rules}
 use Rattle.front_report.proofs.write_reply.Goals as goal
 
 pub returns : goal.returns

@@ -1,7 +1,6 @@
 -- All words of the log are cleared.
 use mathlib.Core.Path.{refl}
 use Rattle.walk.proofs.BlockList.{all-cleared}
-use borrow.Author.Rules.{rules}
 use Rattle.mend.proofs.refused.Goals as goal
 
 pub returns : goal.returns

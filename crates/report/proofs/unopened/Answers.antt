@@ -1,6 +1,5 @@
 -- The block is the superblock's.
 use mathlib.Core.Path.{refl}
-use borrow.Author.Rules.{rules}
 use Rattle.report.proofs.unopened.Goals as goal
 
 pub returns : goal.returns

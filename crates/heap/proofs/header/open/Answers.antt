@@ -1,7 +1,7 @@
 -- Each step of the code is a step of the walk: the header's block, its tests, the segment's block.
 use Prim.Native.Nat.{ℕ, ◌+◌, ◌-◌, ◌≤◌}
 use mathlib.Core.List.{List}
-use mathlib.Core.Path.{◌≡◌, refl, sym, ◌∙◌}
+use mathlib.Core.Path.{◌≡◌, refl}
 use Rattle.format.specs.Bytes.{part}
 use Rattle.format.specs.Blocks.{entry_answer}
 use Rattle.format.specs.declared.Refusal.{Refusal}
