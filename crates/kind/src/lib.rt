@@ -1,33 +1,14 @@
 // The kind of an object, by the messages of its header.
 #![tactic(auto)]
 
-ghost use Rattle.std.specs.Prelude.{List, ◌≡◌, ℕ, ◌+◌, ◌<◌};
-ghost use Rattle.format.specs.Message.{Message};
-ghost use Rattle.format.specs.Header.{has_counts};
-ghost use Rattle.tally.specs.Tally.{Tallied, HasTally};
+ghost use Rattle.tally.specs.Tally.{HasTally};
 ghost use Rattle.kind.specs.Kind.{Located, BodyAt, KindIs};
 
 use format::{Refusal, answers};
 use message::Body;
+use tally::Occurrence::{Absent, Once};
 use tally::Tally;
 use walk::numbers::{u16_at, u64_at};
-
-// Whether there are so many messages of the types that decide the kind, each number 0 or 1.
-fn counts_are(tally: Tally, spaces: usize, datatypes: usize, layouts: usize, tables: usize) -> bool
-    requires { (spaces < 2) × (datatypes < 2) × (layouts < 2) × (tables < 2) }
-    ensures { (im : List ℕ) (ms : List Message) → Tallied im ms tally → result ≡ has_counts ms spaces datatypes layouts tables }
-{
-    if tally.space.count != spaces {
-        return false;
-    }
-    if tally.datatype.count != datatypes {
-        return false;
-    }
-    if tally.layout.count != layouts {
-        return false;
-    }
-    tally.table.count == tables
-}
 
 // The body at a place, with its length and its flags from the message's head.
 fn body_at(image: &[u8], place: usize) -> Body
@@ -63,28 +44,25 @@ pub fn kind_of(image: &[u8], at: usize, tally: Tally, count: usize) -> Result<He
     requires { HasTally image.now tally }
     ensures { KindIs image.now at tally count result }
 {
-    if counts_are(tally, 0, 0, 0, 1) {
-        let place = tally.table.place;
-        return Ok(HeaderRead::Group {
+    match (tally.space, tally.datatype, tally.layout, tally.table) {
+        (Absent, Absent, Absent, Once(place)) => Ok(HeaderRead::Group {
             tree: u64_at(image, place),
             heap: u64_at(image, place + 8),
             count,
-        });
-    }
-    if counts_are(tally, 1, 1, 1, 0) {
-        return Ok(HeaderRead::Dataset {
-            space: body_at(image, tally.space.place),
-            datatype: body_at(image, tally.datatype.place),
-            layout: body_at(image, tally.layout.place),
+        }),
+        (Once(space), Once(datatype), Once(layout), Absent) => Ok(HeaderRead::Dataset {
+            space: body_at(image, space),
+            datatype: body_at(image, datatype),
+            layout: body_at(image, layout),
             count,
-        });
-    }
-    if counts_are(tally, 0, 1, 0, 0) {
-        let body = body_at(image, tally.datatype.place);
-        if body.flags / 2 % 2 == 1 {
-            return Err(Refusal::Fault(answers::HEADER_UNSOUND, at));
+        }),
+        (Absent, Once(datatype), Absent, Absent) => {
+            let body = body_at(image, datatype);
+            if body.flags / 2 % 2 == 1 {
+                return Err(Refusal::Fault(answers::HEADER_UNSOUND, at));
+            }
+            Ok(HeaderRead::Committed(count))
         }
-        return Ok(HeaderRead::Committed(count));
+        _ => Err(Refusal::Fault(answers::HEADER_UNSOUND, at)),
     }
-    Err(Refusal::Fault(answers::HEADER_UNSOUND, at))
 }

@@ -1,16 +1,16 @@
 -- Laws of the first message of a type, as messages are added at the end.
-use Prim.Native.Nat.{ℕ, ◌+◌, ◌<◌, min}
+use Prim.Native.Nat.{ℕ, ◌+◌, ◌≤◌, min}
 use mathlib.Core.Bool.{Bool, true, false}
 use mathlib.Core.List.{List, [], ◌∷◌, ◌++◌, append-nil}
-use mathlib.Core.Path.{◌≡◌, refl, ap, sym, ◌∙◌}
+use mathlib.Core.Path.{◌≡◌, refl, ap, ◌∙◌}
 use native.Mathlib.Omega.{arith}
 use borrow.Author.Tests.{eq-eqb, ne_eqb}
 use lib.Dec.{eqb}
 use lib.ListN.{length, length-append}
 use Rattle.std.specs.Prelude.{if◌then◌else◌}
-use Rattle.format.specs.Bytes.{with_first}
 use Rattle.format.specs.Message.{Message, of_type, the_message}
-use Rattle.tally.specs.declared.First.{First}
+use Rattle.tally.specs.declared.Occurrence.{Occurrence}
+use Rattle.tally.specs.declared.Occurrence.TheVariants.{Absent, Once, Repeated}
 use Rattle.tally.specs.Tally.{message_at, Placed, IsFirst}
 
 pub of_type-append : (t : ℕ) (ms ns : List Message) → of_type t (ms ++ ns) ≡ of_type t ms ++ of_type t ns
@@ -35,45 +35,36 @@ of_type-other t m e = rw (ne_eqb m.type t e)
 of_type-kept : (t : ℕ) (ms : List Message) (m : Message) → (m.type ≡ t → ⊥) → of_type t (ms ++ (m ∷ [])) ≡ of_type t ms
 of_type-kept t ms m e = of_type-append t ms (m ∷ []) ∙ rw (of_type-other t m e) (append-nil (of_type t ms))
 
-pub first-kept : (im : List ℕ) (ms : List Message) (m : Message) (t : ℕ) (f : First) → (m.type ≡ t → ⊥) → IsFirst im ms t f → IsFirst im (ms ++ (m ∷ [])) t f
+pub first-kept : (im : List ℕ) (ms : List Message) (m : Message) (t : ℕ) (o : Occurrence) → (m.type ≡ t → ⊥) → IsFirst im ms t o →
+    IsFirst im (ms ++ (m ∷ [])) t o
 unfolding the_message
-first-kept im ms m t f e i = record {
-  counted = rw (of_type-kept t ms m e) i.counted;
-  first = λ h. rw (of_type-kept t ms m e) (i.first h);
-  placed = i.placed;
-}
+first-kept im ms m t Absent e i = rw (of_type-kept t ms m e) i
+first-kept im ms m t (Once place) e i = rw (of_type-kept t ms m e) i
+first-kept im ms m t Repeated e i = rw (of_type-kept t ms m e) i
 
 -- a message of the type is the first, or comes behind it
-module _ (im : List ℕ) (ms : List Message) (t place : ℕ) (p : Placed im t place) (f : First) (i : IsFirst im ms t f) where
+module _ (im : List ℕ) (ms : List Message) (t place : ℕ) where
   abbrev m : Message
   m = message_at im t place
 
   more : of_type t (ms ++ (m ∷ [])) ≡ of_type t ms ++ (m ∷ [])
   more = of_type-append t ms (m ∷ []) ∙ rw (of_type-same t m refl)
 
-  pub first-new : f.count ≡ 0 → IsFirst im (ms ++ (m ∷ [])) t (record { count = 1; place = place })
+  pub first-new : Placed im t place → IsFirst im ms t Absent → IsFirst im (ms ++ (m ∷ [])) t (Once place)
   unfolding the_message
-  first-new z = go (of_type t ms) refl
+  first-new p i = go (of_type t ms) refl
     where
-      go : (l : List Message) → of_type t ms ≡ l → IsFirst im (ms ++ (m ∷ [])) t (record { count = 1; place = place })
-      go [] e = record { counted = rw (more, e); first = λ _. rw (more, e); placed = λ _. p }
-      go (x ∷ xs) e = absurd (omega (arith, i.counted, ap length e))
+      go : (l : List Message) → of_type t ms ≡ l → IsFirst im (ms ++ (m ∷ [])) t (Once place)
+      go [] e = (rw (more, e), rw (more, e), p)
+      go (x ∷ xs) e = absurd (omega (arith, i, ap length e))
 
-  pub first-again : (f.count ≡ 0 → ⊥) → IsFirst im (ms ++ (m ∷ [])) t (record { count = 2; place = f.place })
-  unfolding the_message
-  first-again z = go (of_type t ms) refl
-    where
-      pos : 0 < f.count
-      pos = omega (arith, z)
+  behind : 1 ≤ length (of_type t ms) → IsFirst im (ms ++ (m ∷ [])) t Repeated
+  behind i = rw more (simp length-append (omega arith))
 
-      go : (l : List Message) → of_type t ms ≡ l → IsFirst im (ms ++ (m ∷ [])) t (record { count = 2; place = f.place })
-      go [] e = absurd (z (i.counted ∙ rw e))
-      go (x ∷ xs) e = record {
-        counted = rw (more, e) (simp length-append (omega arith));
-        first = λ _. rw (more, e) (sym (ap (λ (l : List Message). with_first l (record { type = t; flags = 0; body = []; place = 0 }) (λ y. y)) e) ∙ i.first
-            pos);
-        placed = λ _. i.placed pos;
-      }
+  pub first-again : (o : Occurrence) → (o ≡ Absent → ⊥) → IsFirst im ms t o → IsFirst im (ms ++ (m ∷ [])) t Repeated
+  first-again Absent n i = absurd (n refl)
+  first-again (Once _) n i = behind (omega (arith, i.0))
+  first-again Repeated n i = behind (omega (arith, i))
 
 pub total-more : (ms : List Message) (m : Message) (total next : ℕ) → total ≡ min (length ms) 65536 → next ≡ min (total + 1) 65536 →
     next ≡ min (length (ms ++ (m ∷ []))) 65536

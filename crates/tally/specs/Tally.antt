@@ -1,8 +1,9 @@
 -- What a tally says of a list of messages.
-use Rattle.std.specs.Prelude.{ℕ, ◌+◌, ◌-◌, ◌≤◌, ◌<◌, min, List, ◌≡◌, length}
+use Rattle.std.specs.Prelude.{ℕ, ◌+◌, ◌-◌, ◌≤◌, min, List, ◌≡◌, length}
 use Rattle.format.specs.Bytes.{part, u8, u16}
 use Rattle.format.specs.Message.{Message, of_type, the_message}
-use Rattle.tally.specs.declared.First.{First}
+use Rattle.tally.specs.declared.Occurrence.{Occurrence}
+use Rattle.tally.specs.declared.Occurrence.TheVariants.{Absent, Once, Repeated}
 use Rattle.tally.specs.declared.Tally.{Tally}
 
 -- the message of a type whose body begins at a place: its size and its flags stand 6 and 4 bytes before
@@ -15,11 +16,12 @@ pub record Placed (im : List ℕ) (type place : ℕ) : Type 0 where
   pub body : place + u16 im (place - 6) ≤ length im
   pub long : type ≡ 0x0011 → 16 ≤ u16 im (place - 6)
 
--- the first of the messages of a type
-pub record IsFirst (im : List ℕ) (ms : List Message) (type : ℕ) (f : First) : Type 0 where
-  pub counted : f.count ≡ min (length (of_type type ms)) 2
-  pub first : 0 < f.count → the_message type ms ≡ message_at im type f.place
-  pub placed : 0 < f.count → Placed im type f.place
+-- what there is of the messages of a type
+abbrev pub IsFirst : List ℕ → List Message → ℕ → Occurrence → Type 0
+IsFirst im ms type Absent = length (of_type type ms) ≡ 0
+IsFirst im ms type (Once place) =
+    (length (of_type type ms) ≡ 1) × (the_message type ms ≡ message_at im type place) × Placed im type place
+IsFirst im ms type Repeated = 2 ≤ length (of_type type ms)
 
 pub record Tallied (im : List ℕ) (ms : List Message) (t : Tally) : Type 0 where
   pub total : t.total ≡ min (length ms) 65536

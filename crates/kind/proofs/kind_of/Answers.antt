@@ -1,89 +1,67 @@
--- Each answer by the counts that hold.
-use mathlib.Core.Path.{refl, sym, ◌∙◌}
-use Rattle.kind.proofs.KindLaws.{located, object-committed, object-shared, object-none}
-use Rattle.kind.proofs.KindLaws.{table-room, known-group, space-placed, datatype-placed, layout-placed, known-dataset, committed-placed}
-use Rattle.kind.proofs.KindLaws.{committed-flags}
-use native.Mathlib.Omega.{arith}
-use borrow.Author.Tests.{eq-eqb, ne_eqb}
+-- Each arm by what the tally has of each type.
+use Rattle.kind.proofs.KindLaws.{is-group, is-dataset, is-committed, is-shared, is-none, not-absent, not-once}
 use Rattle.kind.proofs.kind_of.Goals as goal
 
-pub u64_at-requires : goal.u64_at-requires
-u64_at-requires c = omega (arith, table-room _ 0 _ _ c.requires.1 (sym (c.counts_are.ensures _ _ c.requires.1) ∙ c.if-counts_are.true))
+pub returns-in-Once-Once-Once-Absent : goal.returns-in-Once-Once-Once-Absent
+returns-in-Once-Once-Once-Absent c =
+    let m = c.in-Once-Once-Once-Absent in
+    is-dataset _ _ _ _ _ _ _ _ _ _ m.is-0 m.is-1 m.is-2 m.is-3 c.body_at.ensures c.body_at-in-Once-Once-Once-Absent.ensures
+    c.body_at-in-Once-Once-Once-Absent-2.ensures
 
-pub overflow_add-place : goal.overflow_add-place
-overflow_add-place c = omega (arith, table-room _ 0 _ _ c.requires.1 (sym (c.counts_are.ensures _ _ c.requires.1) ∙ c.if-counts_are.true))
-
-pub u64_at-requires-then-counts_are : goal.u64_at-requires-then-counts_are
-u64_at-requires-then-counts_are c = omega (arith, table-room _ 0 _ _ c.requires.1 (sym (c.counts_are.ensures _ _ c.requires.1) ∙ c.if-counts_are.true))
-
-pub returns-then-counts_are : goal.returns-then-counts_are
-returns-then-counts_are c = record {
-  known = λ ms t. (
-    known-group _ _ ms _ t _ _ (sym (c.counts_are.ensures _ ms t) ∙ c.if-counts_are.true) c.u64_at.ensures
-        c.u64_at-then-counts_are.ensures,
-    refl,
-  );
-  bodies = tt;
-}
-
-pub body_at-requires : goal.body_at-requires
-body_at-requires c =
-    located _ 0x0001 _ (space-placed _ 0 _ _ c.requires.1
-    (sym (c.counts_are-2.ensures _ _ c.requires.1) ∙ c.if-counts_are-2.true))
-
-pub body_at-requires-then-counts_are-2 : goal.body_at-requires-then-counts_are-2
-body_at-requires-then-counts_are-2 c =
-    located _ 0x0003 _ (datatype-placed _ 0 _ _ c.requires.1
-    (sym (c.counts_are-2.ensures _ _ c.requires.1) ∙ c.if-counts_are-2.true))
-
-pub body_at-requires-then-counts_are-2-2 : goal.body_at-requires-then-counts_are-2-2
-body_at-requires-then-counts_are-2-2 c =
-    located _ 0x0008 _ (layout-placed _ 0 _ _ c.requires.1 (sym (c.counts_are-2.ensures _ _ c.requires.1) ∙ c.if-counts_are-2.true))
-
-pub returns-then-counts_are-2 : goal.returns-then-counts_are-2
-returns-then-counts_are-2 c =
-    record {
-      known = λ ms t. (
-        known-dataset _ _ ms _ t (sym (c.counts_are-2.ensures _ ms t) ∙ c.if-counts_are-2.true)
-            (sym (c.counts_are.ensures _ ms t) ∙ c.if-counts_are.false) _ _ _ c.body_at.ensures
-            c.body_at-then-counts_are-2.ensures c.body_at-then-counts_are-2-2.ensures,
-        refl,
-      );
-      bodies = (c.body_at.ensures.inside, c.body_at-then-counts_are-2.ensures.inside, c.body_at-then-counts_are-2-2.ensures.inside);
-    }
-
-pub body_at-body-requires : goal.body_at-body-requires
-body_at-body-requires c =
-    let t = c.requires.1 in
-    located _ 0x0003 _ (committed-placed _ 0 _ _ t (sym (c.counts_are-3.ensures _ _ t) ∙ c.if-counts_are-3.true))
+pub returns-in-Absent-Absent-Absent-Once : goal.returns-in-Absent-Absent-Absent-Once
+returns-in-Absent-Absent-Absent-Once c =
+    let m = c.in-Absent-Absent-Absent-Once in
+    is-group _ _ _ _ _ _ _ m.is-0 m.is-1 m.is-2 m.is-3 c.u64_at.ensures c.u64_at-in-Absent-Absent-Absent-Once.ensures
 
 pub returns-then-body-eq1 : goal.returns-then-body-eq1
-returns-then-body-eq1 c = record {
-  known = λ ms t.
-      let group = sym (c.counts_are.ensures _ ms t) ∙ c.if-counts_are.false in
-      let dataset = sym (c.counts_are-2.ensures _ ms t) ∙ c.if-counts_are-2.false in
-      let committed = sym (c.counts_are-3.ensures _ ms t) ∙ c.if-counts_are-3.true in
-      object-shared _ ms group dataset committed (rw (committed-flags _ 0 _ _ t committed _ c.body_at-body.ensures) (eq-eqb _ 1 c.if-body-eq1.true));
-  bodies = tt;
-}
+returns-then-body-eq1 c =
+    let m = c.in-Absent-Once-Absent-Absent in
+    is-shared _ _ _ _ _ _ m.is-0 m.is-1 m.is-2 m.is-3 c.body_at-body.ensures c.if-body-eq1.true
 
-pub returns-then-counts_are-3 : goal.returns-then-counts_are-3
-returns-then-counts_are-3 c = record {
-  known = λ ms t.
-      let group = sym (c.counts_are.ensures _ ms t) ∙ c.if-counts_are.false in
-      let dataset = sym (c.counts_are-2.ensures _ ms t) ∙ c.if-counts_are-2.false in
-      let committed = sym (c.counts_are-3.ensures _ ms t) ∙ c.if-counts_are-3.true in
-      let unshared = ne_eqb _ 1 c.if-body-eq1.false in
-      (object-committed _ ms group dataset committed (rw (committed-flags _ 0 _ _ t committed _ c.body_at-body.ensures) unshared), refl);
-  bodies = tt;
-}
+pub returns-else-body-eq1 : goal.returns-else-body-eq1
+returns-else-body-eq1 c =
+    let m = c.in-Absent-Once-Absent-Absent in
+    is-committed _ _ _ _ _ _ m.is-0 m.is-1 m.is-2 m.is-3 c.body_at-body.ensures c.if-body-eq1.false
 
-pub returns : goal.returns
-returns c = record {
-  known = λ ms t.
-      let group = sym (c.counts_are.ensures _ ms t) ∙ c.if-counts_are.false in
-      let dataset = sym (c.counts_are-2.ensures _ ms t) ∙ c.if-counts_are-2.false in
-      let committed = sym (c.counts_are-3.ensures _ ms t) ∙ c.if-counts_are-3.false in
-      object-none _ ms group dataset committed;
-  bodies = tt;
-}
+pub returns-in_default : goal.returns-in_default
+returns-in_default c =
+    let m = c.in_default in
+    is-none _ _ _ _ (rw (m.is-0, m.is-1, m.is-2, not-once _ m.not-Once-3))
+
+pub returns-in_default-2 : goal.returns-in_default-2
+returns-in_default-2 c =
+    let m = c.in_default in
+    is-none _ _ _ _ (rw (m.is-0, m.is-1, not-absent _ m.not-Absent-2))
+
+pub returns-in_default-3 : goal.returns-in_default-3
+returns-in_default-3 c =
+    let m = c.in_default in
+    is-none _ _ _ _ (rw (m.is-0, m.is-1, m.is-2, not-absent _ m.not-Absent-3))
+
+pub returns-in_default-4 : goal.returns-in_default-4
+returns-in_default-4 c =
+    let m = c.in_default in
+    is-none _ _ _ _ (rw (m.is-0, m.is-1, not-absent _ m.not-Absent-2))
+
+pub returns-in_default-5 : goal.returns-in_default-5
+returns-in_default-5 c =
+    let m = c.in_default in
+    is-none _ _ _ _ (rw (m.is-0, m.is-1))
+
+pub returns-in_default-6 : goal.returns-in_default-6
+returns-in_default-6 c =
+    let m = c.in_default in
+    is-none _ _ _ _ (rw (m.is-0, m.is-1, m.is-2, not-absent _ m.not-Absent-3))
+
+pub returns-in_default-7 : goal.returns-in_default-7
+returns-in_default-7 c =
+    let m = c.in_default in
+    is-none _ _ _ _ (rw (m.is-0, m.is-1, not-once _ m.not-Once-2))
+
+pub returns-in_default-8 : goal.returns-in_default-8
+returns-in_default-8 c =
+    let m = c.in_default in
+    is-none _ _ _ _ (rw (m.is-0, not-once _ m.not-Once-1))
+
+pub returns-in_default-9 : goal.returns-in_default-9
+returns-in_default-9 c = is-none _ _ _ _ (rw c.in_default.is-0)
