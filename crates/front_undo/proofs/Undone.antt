@@ -8,7 +8,7 @@ use lib.ListN.{replicate}
 use Rattle.format.specs.Answers.{UndoReply, undo}
 use Rattle.format.specs.Front.{padded_bytes, CUndo, c_undo_end, c_undo}
 use Rattle.undo.specs.Reply.{reply_of, words_of}
-use Rattle.undo.specs.declared.Undone.{Undone}
+use Rattle.std.specs.Prelude.{Result, Ok, Err}
 use Rattle.words.proofs.Words.{padded-zeros}
 
 -- A reply of r bytes.
@@ -19,20 +19,20 @@ module _ (im log : List ℕ) (r e n : ℕ) where
   short-reply reply h p = rw (p, lt-leb 1 (r / 8) h)
 
   -- What undo returned, and the image that it left.
-  module _ (im' : List ℕ) (a : Undone) (d : reply_of im' a ≡ undo im (words_of log) e n) (h : 1 ≤ r / 8) where
-    undone : c_undo_end r (reply_of im' a) ≡ c_undo im log r e n
+  module _ (im' : List ℕ) (h : 1 ≤ r / 8) where
+    undone : (a : Result ℕ ℕ) → reply_of im' a ≡ undo im (words_of log) e n → c_undo_end r (reply_of im' a) ≡ c_undo im log r e n
     unfolding c_undo
-    undone = ap (λ (u : UndoReply). c_undo_end r u) d ∙ rw (le-leb 1 (r / 8) h)
+    undone a d = ap (λ (u : UndoReply). c_undo_end r u) d ∙ rw (le-leb 1 (r / 8) h)
 
-    pub done-reply : (reply : List ℕ) → a.number ≡ 0 → reply ≡ padded_bytes r (a.writes ∷ []) →
+    pub done-reply : (writes : ℕ) → reply_of im' (Ok writes) ≡ undo im (words_of log) e n → (reply : List ℕ) → reply ≡ padded_bytes r (writes ∷ []) →
         ◌≡◌ {A = CUndo} (record { number = 0; reply = reply; image = im' }) (c_undo im log r e n)
-    done-reply reply z p = rw p (rw z at undone)
+    done-reply writes d reply p = rw p (undone (Ok writes) d)
 
-    pub refused-reply : (reply : List ℕ) → (a.number ≡ 0 → ⊥) → reply ≡ replicate r 0 →
-        ◌≡◌ {A = CUndo} (record { number = a.number; reply = reply; image = im' }) (c_undo im log r e n)
-    refused-reply reply z p = rw p (go a.number z) ∙ undone
+    pub refused-reply : (number : ℕ) → reply_of im' (Err number) ≡ undo im (words_of log) e n → (reply : List ℕ) → (number ≡ 0 → ⊥) →
+        reply ≡ replicate r 0 → ◌≡◌ {A = CUndo} (record { number = number; reply = reply; image = im' }) (c_undo im log r e n)
+    refused-reply number d reply z p = rw p (go number z) ∙ undone (Err number) d
       where
         go : (k : ℕ) → (k ≡ 0 → ⊥) →
-            ◌≡◌ {A = CUndo} (record { number = k; reply = replicate r 0; image = im' }) (c_undo_end r (record { number = k; writes = a.writes; image = im' }))
+            ◌≡◌ {A = CUndo} (record { number = k; reply = replicate r 0; image = im' }) (c_undo_end r (record { number = k; writes = 0; image = im' }))
         go zero y = absurd (y refl)
         go (suc k) y = rw (padded-zeros r 0 (omega arith))

@@ -4,8 +4,6 @@
 ghost use Rattle.std.specs.Prelude.{◌≡◌, length};
 ghost use Rattle.format.specs.Front.{CUndo, c_undo};
 
-use format::answers;
-
 // The words of the reply: the writes.
 const REPLY_WORDS: usize = 1;
 
@@ -18,12 +16,15 @@ pub fn undo_bytes(image: &mut [u8], log: &[u8], reply: &mut [u8], entries: u64, 
         words::clear_from(reply, 0);
         return front::NO_ROOM;
     }
-    let r = undo::undo(image, log, entries, limit);
-    if r.number != answers::DONE {
-        words::clear_from(reply, 0);
-        return r.number as u32;
+    match undo::undo(image, log, entries, limit) {
+        Err(number) => {
+            words::clear_from(reply, 0);
+            number as u32
+        }
+        Ok(writes) => {
+            let words = [writes];
+            words::spill(&words, reply);
+            0
+        }
     }
-    let words = [r.writes];
-    words::spill(&words, reply);
-    0
 }

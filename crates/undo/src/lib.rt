@@ -1,11 +1,11 @@
 // Undo: writes the old counts of a mender's log back into the image. The log is bytes of any length, so that its words are read in place.
 #![tactic(auto)]
 
-ghost use Rattle.std.specs.Prelude.{◌≡◌, true, ◌-◌, ◌*◌, ◌≤◌, min, length, drop};
+ghost use Rattle.std.specs.Prelude.{◌≡◌, ◌≢◌, IfErr, true, ◌-◌, ◌*◌, ◌≤◌, min, length, drop};
 ghost use Rattle.format.specs.Log.{changes, restored};
 ghost use Rattle.format.specs.Undo.{fits as fits_image, all_fit, undo_number};
 ghost use Rattle.format.specs.Answers.{undo as undo_reply};
-ghost use Rattle.undo.specs.Reply.{change_of, reply_of, words_of};
+ghost use Rattle.undo.specs.Reply.{change_of, reply_of, words_of, CheckedAs};
 
 use format::answers;
 use walk::numbers::{put_u32, u32_at, u64_at};
@@ -15,13 +15,6 @@ const OLD_UNIT: u64 = 4294967296;
 
 // The bytes of an entry: its two words.
 const ENTRY_BYTES: usize = 16;
-
-// The answer, and the number of writes done, 0 where the answer isn't.
-#[derive(Clone, Copy)]
-pub struct Undone {
-    pub number: u8,
-    pub writes: u64,
-}
 
 // Whether an entry's field is inside the image and holds the old or the new count.
 fn fits(image: &[u8], field: u64, word: u64) -> bool
@@ -68,43 +61,35 @@ fn restore(image: &mut [u8], log: &[u8], entries: usize, writes: usize)
     }
 }
 
-// The answer to an undo: 1, 18 and 19 in this order, or 0.
-fn answer(image: &[u8], log: &[u8], entries: u64) -> u8
-    ensures { result ≡ undo_number image.now (words_of log.now) entries }
+// Whether a log can be undone: if not, 1, 18 or 19, in this order.
+fn check(image: &[u8], log: &[u8], entries: u64) -> Result<(), u8>
+    ensures { CheckedAs (undo_number image.now (words_of log.now) entries) result }
 {
     let limits = format::the_limits();
     if image.len() < limits.image_least {
-        return answers::LENGTH_OUT_OF_RANGE;
+        return Err(answers::LENGTH_OUT_OF_RANGE);
     }
     if limits.image_most < image.len() {
-        return answers::LENGTH_OUT_OF_RANGE;
+        return Err(answers::LENGTH_OUT_OF_RANGE);
     }
     // The bytes of all entries may not fit a word.
     if ((log.len() / ENTRY_BYTES) as u64) < entries {
-        return answers::LOG_TOO_SHORT;
+        return Err(answers::LOG_TOO_SHORT);
     }
     if !all_fit(image, log, entries as usize) {
-        return answers::LOG_NOT_FITTING;
+        return Err(answers::LOG_NOT_FITTING);
     }
-    answers::DONE
+    Ok(())
 }
 
-// Writes the old counts of the last `limit` of the log's first `entries` entries, or of all. Where the answer isn't 0 it
+// Writes the old counts of the last `limit` of the log's first `entries` entries, or of all, and returns their number. Where it returns an answer it
 // writes nothing. Bytes of the log that are no whole word aren't read.
-pub fn undo(image: &mut [u8], log: &[u8], entries: u64, limit: u64) -> Undone
-    ensures { reply_of image.new result ≡ undo_reply image.old (words_of log.now) entries limit }
+pub fn undo(image: &mut [u8], log: &[u8], entries: u64, limit: u64) -> Result<u64, u8>
+    ensures reply { reply_of image.new result ≡ undo_reply image.old (words_of log.now) entries limit }
+    ensures refused { IfErr result (λ number. number ≢ 0) }
 {
-    let number = answer(image, log, entries);
-    if number != answers::DONE {
-        return Undone {
-            number: number,
-            writes: 0,
-        };
-    }
+    check(image, log, entries)?;
     let writes = limit.min(entries);
     restore(image, log, entries as usize, writes as usize);
-    Undone {
-        number: answers::DONE,
-        writes: writes,
-    }
+    Ok(writes)
 }

@@ -12,20 +12,14 @@ returns-then-reply-lt-REPLY_WORDS c =
     (omega (arith, c.if-reply-lt-REPLY_WORDS.true))
     (all-zero a.reply.now _ c.clear_from.ensures)
 
-pub returns-then-r-ne-DONE : goal.returns-then-r-ne-DONE
-returns-then-r-ne-DONE c =
-    let d = c in
-    let a = d.args in
-    refused-reply a.image.now a.log.now (length a.reply.now) a.entries a.limit _ _ d.undo-r.ensures
-    (omega (arith, d.if-reply-lt-REPLY_WORDS.false)) _
-    c.if-r-ne-DONE.true
-    (all-zero a.reply.now _ c.clear_from-then-r-ne-DONE.ensures)
+pub returns-in-Err : goal.returns-in-Err
+returns-in-Err c =
+    let a = c.args in
+    refused-reply a.image.now a.log.now (length a.reply.now) a.entries a.limit _ (omega (arith, c.if-reply-lt-REPLY_WORDS.false)) _
+    c.in-Err.ensures.reply _ c.in-Err.ensures.refused (all-zero a.reply.now _ c.clear_from-in-Err.ensures)
 
-pub returns : goal.returns
-returns c =
-    let d = c in
-    let a = d.args in
-    done-reply a.image.now a.log.now (length a.reply.now) a.entries a.limit _ _ d.undo-r.ensures
-    (omega (arith, d.if-reply-lt-REPLY_WORDS.false)) _
-    c.if-r-ne-DONE.false
-    c.spill.ensures
+pub returns-in-Ok : goal.returns-in-Ok
+returns-in-Ok c =
+    let a = c.args in
+    done-reply a.image.now a.log.now (length a.reply.now) a.entries a.limit _ (omega (arith, c.if-reply-lt-REPLY_WORDS.false)) _
+    c.in-Ok.ensures.reply _ c.spill.ensures

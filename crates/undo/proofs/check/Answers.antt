@@ -11,7 +11,7 @@ use Rattle.undo.specs.Reply.{words_of}
 use Rattle.undo.proofs.UndoLaws.{field_fits, number-0, number-1, number-18, number-19}
 use Rattle.undo.proofs.ByteLaws.{length-words}
 use native.Mathlib.Omega.{arith}
-use Rattle.undo.proofs.answer.Goals as goal
+use Rattle.undo.proofs.check.Goals as goal
 
 -- the image's length is in range
 in-range : (n l m : ℕ) → l ≡ image_least → m ≡ image_most → l ≤ n → n ≤ m → in_range image_least image_most n ≡ true
@@ -24,22 +24,28 @@ both_words e log h = omega (arith, length-words (length log / 8) log)
 pub returns-then-image-limits : goal.returns-then-image-limits
 returns-then-image-limits c =
     let limits = c.the_limits-limits.ensures in
-    let a = c.args in
-    number-1 a.image.now (words_of a.log.now) a.entries (range-below image_least image_most _
-    (omega (arith, c.if-image-limits.true, limits.image_least_equal)))
+    let a = c.args in (
+      number-1 a.image.now (words_of a.log.now) a.entries (range-below image_least image_most _
+          (omega (arith, c.if-image-limits.true, limits.image_least_equal))),
+      λ e. omega (arith, e),
+    )
 
 pub returns-then-limits-image : goal.returns-then-limits-image
 returns-then-limits-image c =
     let limits = c.the_limits-limits.ensures in
-    let a = c.args in
-    number-1 a.image.now (words_of a.log.now) a.entries (range-above image_least image_most _ (omega (arith, c.if-limits-image.true, limits.image_most_equal)))
+    let a = c.args in (
+      number-1 a.image.now (words_of a.log.now) a.entries (range-above image_least image_most _ (omega (arith, c.if-limits-image.true, limits.image_most_equal))),
+      λ e. omega (arith, e),
+    )
 
 pub returns-then-log-entries : goal.returns-then-log-entries
 returns-then-log-entries c =
     let limits = c.the_limits-limits.ensures in
-    let a = c.args in
-    number-18 a.image.now (words_of a.log.now) a.entries (in-range _ _ _ limits.image_least_equal limits.image_most_equal c.if-image-limits.false c.if-limits-image.false)
-    (omega (arith, c.if-log-entries.true, length-words (length a.log.now / 8) a.log.now))
+    let a = c.args in (
+      number-18 a.image.now (words_of a.log.now) a.entries (in-range _ _ _ limits.image_least_equal limits.image_most_equal c.if-image-limits.false c.if-limits-image.false)
+          (omega (arith, c.if-log-entries.true, length-words (length a.log.now / 8) a.log.now)),
+      λ e. omega (arith, e),
+    )
 
 pub all_fit-requires : goal.all_fit-requires
 all_fit-requires c = record {
@@ -50,10 +56,12 @@ all_fit-requires c = record {
 pub returns-then-not-all_fit : goal.returns-then-not-all_fit
 returns-then-not-all_fit c =
     let limits = c.the_limits-limits.ensures in
-    let a = c.args in
-    number-19 a.image.now (words_of a.log.now) a.entries (in-range _ _ _ limits.image_least_equal limits.image_most_equal c.if-image-limits.false c.if-limits-image.false)
-    (both_words a.entries a.log.now c.if-log-entries.false)
-    (sym c.all_fit.ensures ∙ c.if-not-all_fit.true)
+    let a = c.args in (
+      number-19 a.image.now (words_of a.log.now) a.entries (in-range _ _ _ limits.image_least_equal limits.image_most_equal c.if-image-limits.false c.if-limits-image.false)
+          (both_words a.entries a.log.now c.if-log-entries.false)
+          (sym c.all_fit.ensures ∙ c.if-not-all_fit.true),
+      λ e. omega (arith, e),
+    )
 
 pub returns : goal.returns
 returns c =
