@@ -1,5 +1,5 @@
 // The addresses of as many blocks as a list has words, in one order or another. The blocks touch each other.
-ghost use Rattle.std.specs.Prelude.{◌<◌, length};
+ghost use Rattle.std.specs.Prelude.{◌<◌};
 
 // The bytes of a block.
 pub const SIZE: u64 = 16;

@@ -90,7 +90,8 @@ fn read_block(
     Ok((gathering, count))
 }
 
-// Enters and reads the continuations that the messages from the cursor on name, and those that these name in turn.
+// Enters and reads the continuations that the messages from the cursor on name, and those that these name in turn. The queue grows while it is read, so
+// that no range has its places.
 pub fn follow(
     image: &[u8],
     list: &mut [u64],

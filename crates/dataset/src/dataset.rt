@@ -1,6 +1,5 @@
 // The dataset walk: the three messages, each read whole, and the data's block.
-ghost use Rattle.std.specs.Prelude.{◌≡◌, List, ℕ, ◌-◌, ◌≤◌, length};
-ghost use Rattle.format.specs.Bytes.{part};
+ghost use Rattle.std.specs.Prelude.{◌≡◌, List, ℕ, ◌-◌};
 ghost use Rattle.format.specs.Dataset.{read_type, data_walk, dataset_walk};
 ghost use Rattle.format.specs.Layout.{read_layout};
 ghost use Rattle.format.specs.Walk.{run};
@@ -115,13 +114,13 @@ pub fn read_parts(image: &[u8], space: Body, datatype: Body) -> Result<Parts, Re
         answer,
         head_of(space),
     ))?;
-    let own = read_type(image, datatype).map_err(|answer| Refusal::Fault(
+    let element = read_type(image, datatype).map_err(|answer| Refusal::Fault(
         answer,
         head_of(datatype),
     ))?;
     Ok(Parts {
         dimensions,
-        datatype: own,
+        datatype: element,
     })
 }
 

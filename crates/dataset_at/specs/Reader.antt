@@ -34,8 +34,8 @@ LentIf ws room (Ok d) = Lent ws d.count room
 LentIf ws room (Err r) = Unit {0}
 
 -- a walk w to a dataset, begun with the blocks bs in the list ws, was walked
-pub record ReaderIs (im : List ℕ) (eof room : ℕ) (w : Walk Rattle.format.specs.Dataset.Dataset) (bs : List Block) (ws ws' : List ℕ) (r : Result DatasetAt Refusal) : Type
-    0 where
+pub record ReaderIs (im : List ℕ) (eof room : ℕ) (w : Walk Rattle.format.specs.Dataset.Dataset) (bs : List Block) (ws ws' : List ℕ)
+    (r : Result DatasetAt Refusal) : Type 0 where
   pub walked : Walked ws ws' (reader_end im r) (run im eof room w bs)
   pub lent : LentIf ws' room r
   pub readable : ReadableIf im r

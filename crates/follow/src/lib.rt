@@ -14,7 +14,7 @@ use format::Refusal;
 use superblock::Superblock;
 use walk::blocks;
 
-// Looks up one component after the other.
+// Looks up one component after the other. A component begins where the one before it ends, so that no range has their places.
 fn follow(
     image: &[u8],
     path: &[u8],

@@ -1,5 +1,5 @@
 // Where the free blocks met so far lie. In a list that rises or falls the next block lies outside, and its bytes are not looked for.
-ghost use Rattle.std.specs.Prelude.{List, [], ◌∷◌, ◌++◌, ◌≡◌, ℕ, ◌+◌, ◌≤◌, ◌<◌, ◌^◌, length};
+ghost use Rattle.std.specs.Prelude.{List, [], ◌∷◌, ◌++◌, ◌≡◌, ◌+◌, ◌≤◌, ◌<◌, ◌^◌, length};
 ghost use Rattle.format.specs.Blocks.{Block, block, overlaps_any};
 ghost use Rattle.free_list.specs.FreeBlocks.{chain, Held};
 ghost use Rattle.free_list.specs.Spanned.{Spanned};

@@ -90,7 +90,6 @@ fn audit_with(
     0
 }
 
-// The audit with a list for few blocks and a table without guesses, and with both for all. A small file is audited as quickly without
 // The audit with a list and a table of so many words. A list of another length has a frame of its own. A small file is audited as quickly without
 // guesses, and the shorter table stays in the processor's nearest memory.
 fn audit_sized<const WORDS: usize, const TABLE: usize>(

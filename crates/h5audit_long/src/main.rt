@@ -1,4 +1,4 @@
-// The audit command.
+// The audit command, the same program as h5audit: a program has one stored test.
 #![tactic(auto)]
 
 fn main(rt: HostRuntime) {

@@ -1,4 +1,4 @@
-// The command of the damage report.
+// The command of the damage report, the same program as h5report: a program has one stored test.
 #![tactic(auto)]
 
 fn main(rt: HostRuntime) {

@@ -1,7 +1,7 @@
 // The keys of a tree node: strings of the heap's segment.
 #![tactic(auto)]
 
-ghost use Rattle.std.specs.Prelude.{List, ◌≡◌, ◌+◌, ◌*◌, ◌≤◌, length};
+ghost use Rattle.std.specs.Prelude.{◌≡◌, ◌+◌, ◌*◌, ◌≤◌, length};
 ghost use Rattle.format.specs.Names.{fault_number};
 ghost use Rattle.names.specs.Texts.{fault_of};
 ghost use Rattle.nul.specs.Nul.{LastNul};

@@ -56,33 +56,33 @@ table-field im ms place k r e l n =
 abbrev pub absent : Occurrence → Bool
 absent Absent = true
 absent (Once _) = false
-absent Repeated = false
+absent (Repeated _) = false
 
 abbrev pub once : Occurrence → Bool
 once Absent = false
 once (Once _) = true
-once Repeated = false
+once (Repeated _) = false
 
 module _ (im : List ℕ) (ms : List Message) (type : ℕ) where
   is-absent : (o : Occurrence) → IsFirst im ms type o → eqb (length (of_type type ms)) 0 ≡ absent o
   is-absent Absent i = eq-eqb _ 0 i
   is-absent (Once _) i = ne_eqb _ 0 (λ e. omega (arith, e, i.0))
-  is-absent Repeated i = ne_eqb _ 0 (λ e. omega (arith, e, i))
+  is-absent (Repeated _) i = ne_eqb _ 0 (λ e. omega (arith, e, i.0))
 
   is-once : (o : Occurrence) → IsFirst im ms type o → eqb (length (of_type type ms)) 1 ≡ once o
   is-once Absent i = ne_eqb _ 1 (λ e. omega (arith, e, i))
   is-once (Once _) i = eq-eqb _ 1 i.0
-  is-once Repeated i = ne_eqb _ 1 (λ e. omega (arith, e, i))
+  is-once (Repeated _) i = ne_eqb _ 1 (λ e. omega (arith, e, i.0))
 
 pub not-absent : (o : Occurrence) → (o ≡ Absent → ⊥) → absent o ≡ false
 not-absent Absent n = absurd (n refl)
 not-absent (Once _) n = refl
-not-absent Repeated n = refl
+not-absent (Repeated _) n = refl
 
 pub not-once : (o : Occurrence) → ((p : ℕ) → o ≡ Once p → ⊥) → once o ≡ false
 not-once Absent n = refl
 not-once (Once p) n = absurd (n p refl)
-not-once Repeated n = refl
+not-once (Repeated _) n = refl
 
 -- the header of a group, of a dataset, of a committed datatype
 abbrev of_group : Occurrence → Occurrence → Occurrence → Occurrence → Bool

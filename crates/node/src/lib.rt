@@ -2,7 +2,6 @@
 #![tactic(auto)]
 
 ghost use Rattle.std.specs.Prelude.{◌≤◌, ◌<◌, length};
-ghost use Rattle.format.specs.Limits.{blocks_most};
 ghost use Rattle.walk.specs.Lent.{Lent};
 ghost use Rattle.nul.specs.Nul.{LastNul};
 ghost use Rattle.node.specs.Node.{NodeIs, BranchIs};

@@ -35,7 +35,7 @@ pub fn is_component(part: &[u8]) -> bool
     !contains(0, part)
 }
 
-// Whether each component from `from` on may be one.
+// Whether each component from `from` on may be one. A component begins where the one before it ends, so that no range has their places.
 fn all_components(path: &[u8], from: usize) -> bool
     requires { from ≤ length path.now }
     ensures { result ≡ all_components (path_parts (drop from path.now)) }

@@ -38,7 +38,7 @@ impl fmt::Display for Block {
             let object = self.block.object;
             write!(f, ", object {object}")?;
         }
-        writeln!(f, "")
+        f.write_char('\n')
     }
 }
 
@@ -73,7 +73,7 @@ impl fmt::Display for Refused<'_> {
             block: self.damage.block,
         };
         let place = self.damage.place;
-        write!(f, "{block}place {place:016x}\n")?;
+        writeln!(f, "{block}place {place:016x}")?;
         // The block that is met has a line with the answer 6 alone.
         if self.answer == answers::OVERLAP {
             let met = self.damage.met;

@@ -17,7 +17,7 @@ pub struct Gathering {
 }
 
 // Reads the messages that fill the bytes from `from` to `end`, and counts them. In an audit, what a message shares is
-// discovered before the next message is read.
+// discovered before the next message is read. The step is a message's size, so that no range has the places.
 pub fn scan_block(
     image: &[u8],
     addresses: &mut [u64],
@@ -58,7 +58,7 @@ pub fn scan_block(
 }
 
 // Where the next continuation message from `from` on stands, among messages that have been read already and end at `end`;
-// `end` if there is none.
+// `end` if there is none. Here too the step is a message's size.
 pub fn next_continuation(image: &[u8], from: usize, end: usize) -> usize
     requires { Readable image.now from end }
     ensures { NextIs image.now from end result }

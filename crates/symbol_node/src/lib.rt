@@ -1,7 +1,7 @@
 // A symbol table node.
 #![tactic(auto)]
 
-ghost use Rattle.std.specs.Prelude.{◌*◌, ◌+◌, ◌≤◌, length};
+ghost use Rattle.std.specs.Prelude.{◌*◌, ◌+◌};
 ghost use Rattle.symbol_node.specs.Tree.{Descending, SymbolsAre};
 
 use format::{Refusal, answers};

@@ -40,7 +40,7 @@ pub first-kept : (im : List ℕ) (ms : List Message) (m : Message) (t : ℕ) (o 
 unfolding the_message
 first-kept im ms m t Absent e i = rw (of_type-kept t ms m e) i
 first-kept im ms m t (Once place) e i = rw (of_type-kept t ms m e) i
-first-kept im ms m t Repeated e i = rw (of_type-kept t ms m e) i
+first-kept im ms m t (Repeated place) e i = rw (of_type-kept t ms m e) i
 
 -- a message of the type is the first, or comes behind it
 module _ (im : List ℕ) (ms : List Message) (t place : ℕ) where
@@ -58,13 +58,15 @@ module _ (im : List ℕ) (ms : List Message) (t place : ℕ) where
       go [] e = (rw (more, e), rw (more, e), p)
       go (x ∷ xs) e = absurd (omega (arith, i, ap length e))
 
-  behind : 1 ≤ length (of_type t ms) → IsFirst im (ms ++ (m ∷ [])) t Repeated
-  behind i = rw more (simp length-append (omega arith))
-
-  pub first-again : (o : Occurrence) → (o ≡ Absent → ⊥) → IsFirst im ms t o → IsFirst im (ms ++ (m ∷ [])) t Repeated
-  first-again Absent n i = absurd (n refl)
-  first-again (Once _) n i = behind (omega (arith, i.0))
-  first-again Repeated n i = behind (omega (arith, i))
+  -- it comes behind the first one
+  module _ (first : ℕ) (some : 1 ≤ length (of_type t ms)) (is : the_message t ms ≡ message_at im t first) (p : Placed im t first) where
+    pub first-again : IsFirst im (ms ++ (m ∷ [])) t (Repeated first)
+    unfolding the_message
+    first-again = (rw more (simp length-append (omega (arith, some))), go (of_type t ms) refl, p)
+      where
+        go : (l : List Message) → of_type t ms ≡ l → the_message t (ms ++ (m ∷ [])) ≡ message_at im t first
+        go [] e = absurd (omega (arith, some, ap length e))
+        go (x ∷ xs) e = rw (more, e) ((rw e at is))
 
 pub total-more : (ms : List Message) (m : Message) (total next : ℕ) → total ≡ min (length ms) 65536 → next ≡ min (total + 1) 65536 →
     next ≡ min (length (ms ++ (m ∷ []))) 65536

@@ -16,12 +16,13 @@ pub record Placed (im : List ℕ) (type place : ℕ) : Type 0 where
   pub body : place + u16 im (place - 6) ≤ length im
   pub long : type ≡ 0x0011 → 16 ≤ u16 im (place - 6)
 
--- what there is of the messages of a type
+-- what there is of the messages of a type, and the first of them
 abbrev pub IsFirst : List ℕ → List Message → ℕ → Occurrence → Type 0
 IsFirst im ms type Absent = length (of_type type ms) ≡ 0
 IsFirst im ms type (Once place) =
     (length (of_type type ms) ≡ 1) × (the_message type ms ≡ message_at im type place) × Placed im type place
-IsFirst im ms type Repeated = 2 ≤ length (of_type type ms)
+IsFirst im ms type (Repeated place) =
+    (2 ≤ length (of_type type ms)) × (the_message type ms ≡ message_at im type place) × Placed im type place
 
 pub record Tallied (im : List ℕ) (ms : List Message) (t : Tally) : Type 0 where
   pub total : t.total ≡ min (length ms) 65536

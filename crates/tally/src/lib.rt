@@ -5,12 +5,12 @@ ghost use Rattle.std.specs.Prelude.{◌≡◌, List, [], ◌∷◌, ◌++◌, �
 ghost use Rattle.format.specs.Message.{Message};
 ghost use Rattle.tally.specs.Tally.{Placed, message_at, IsFirst, Tallied};
 
-// What a header has of one type: no message, one whose body is at a place, or more.
+// What a header has of one type: no message, one, or more. The place is that of the first one's body.
 #[derive(Clone, Copy)]
 pub enum Occurrence {
     Absent,
     Once(usize),
-    Repeated,
+    Repeated(usize),
 }
 
 // The total is the number of messages, or 65,536 for as many and more: no message count is as high.
@@ -41,7 +41,8 @@ fn one_more(earlier: Occurrence, place: usize) -> Occurrence
 {
     match earlier {
         Occurrence::Absent => Occurrence::Once(place),
-        _ => Occurrence::Repeated,
+        Occurrence::Once(first) => Occurrence::Repeated(first),
+        Occurrence::Repeated(first) => Occurrence::Repeated(first),
     }
 }
 

@@ -8,7 +8,7 @@ ghost use Rattle.io.specs.Counts.{IsPrefixLen};
 use std::fmt;
 use std::fmt::Write;
 
-// Writes a byte at a place, and returns the place behind it.
+// Writes a byte at a place, and returns the place behind it; without room for it, the place itself.
 pub fn put_byte(out: &mut [u8], at: usize, byte: u8) -> usize {
     if at < out.len() {
         out[at] = byte;
