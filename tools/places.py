@@ -15,7 +15,8 @@ def functions():
         with open(name, encoding="utf-8") as file:
             text = file.read()
         for match in re.finditer(r"\bfn \w+(?:<[^>]*>)?\(([^)]*)\)", text):
-            yield [part.strip() for part in match.group(1).split(",") if part.strip()]
+            plain = re.sub(r"<[^<>]*>", "", match.group(1))
+            yield [part.strip() for part in plain.split(",") if part.strip()]
 
 
 def proof_lines():

@@ -20,16 +20,17 @@ use Rattle.laws.proofs.Simulation.{walked-done, walked-refused}
 use Rattle.ledger.specs.Links.{addresses_of}
 use Rattle.ledger.specs.Index.{index_words}
 use Rattle.ledger.specs.Table.{linked_of, Table}
-use Rattle.ledger.specs.Report.{counted_places, Empty, Copied, Readable, StoredRead}
+use Rattle.ledger.specs.Report.{Copied, Readable, StoredRead}
 use Rattle.ledger.specs.declared.report.Ledger.{Ledger}
 use Rattle.ledger.proofs.TableLaws.{length-linked_of, table_none}
-use Rattle.ledger.proofs.ReportLaws.{counted-law, empty-law, counted-copied, readable-copied}
+use Rattle.ledger.proofs.ReportLaws.{counted-law, counted-copied, readable-copied}
 use Rattle.superblock.specs.Superblock.{superblock_of}
 use Rattle.superblock.specs.declared.Superblock.{Superblock}
 use Rattle.object.specs.Object.{Bounded}
 use Rattle.std.specs.Prelude.{Ok, Err}
 use Rattle.links.proofs.HeadersInside.{headers-inside}
-use Rattle.audit.specs.Audit.{refused_with, EmptyTable, Lists, ImageWalked, AuditedIs, AuditIs}
+use Rattle.links.proofs.AuditAnswers.{audit-refusal}
+use Rattle.audit.specs.Audit.{EmptyTable, Lists, ImageWalked, AuditedIs, AuditIs}
 use Rattle.audit.specs.declared.Audited.{Audited}
 use Rattle.walk.proofs.Handed.{handed-none}
 
@@ -43,31 +44,24 @@ run-opened : (im : List ℕ) (lent room : ℕ) (s : definitions.Superblock) → 
 unfolding audit_run
 run-opened im lent room s fit e = rw (← e, fit)
 
--- of no object there is nothing to read
-none-readable : (im addresses : List ℕ) → Readable im addresses 0
-none-readable im addresses = record { listed = omega arith; inside = λ k h. absurd (omega arith) }
-
 -- A refusal: whatever the working list ws has, none of it is handed over.
 module _ (im : List ℕ) (lent : ℕ) (ws addresses stored counts : List ℕ) where
-  refused-is : (r : Refusal) (bs : List Block) → audit_run im lent ≡ refused r bs →
-      AuditedIs im lent (handed lent 0 ws) addresses stored counts (refused_with r)
-  unfolding audit counted_places
+  refused-is : (r : Refusal) (bs : List Block) → audit_run im lent ≡ refused r bs → AuditedIs im lent (handed lent 0 ws) addresses stored counts (Err r)
+  unfolding audit
   refused-is r bs e = record {
     reply = rw (e, handed-none lent ws);
-    fits = omega arith;
-    readable = none-readable im addresses;
-    stored_rest = λ h. absurd (omega arith);
-    counts_rest = λ h. absurd (omega arith);
+    placed = tt;
+    answered = λ z. absurd (omega (arith, (audit-refusal im lent r bs e).0));
   }
 
   -- the image can't be opened
-  pub not-opened-is : (n : ℕ) → not_opened n ≡ open_image im → AuditedIs im lent (handed lent 0 ws) addresses stored counts (refused_with (fault n 0))
+  pub not-opened-is : (n : ℕ) → not_opened n ≡ open_image im → AuditedIs im lent (handed lent 0 ws) addresses stored counts (Err (fault n 0))
   not-opened-is n e = refused-is (fault n 0) [] (run-not-opened im lent n e)
 
 -- the walk was refused
 pub stopped-is : (im ws : List ℕ) (s : Superblock) (x : Refusal) (ws₁ addresses counts stored : List ℕ) → opened (superblock_of s) ≡ open_image im →
     ImageWalked im ws s ws₁ addresses counts (Err x) → (lent : ℕ) → room_of lent ≡ places_of (length ws) →
-    AuditedIs im lent (handed lent 0 ws₁) addresses stored counts (refused_with x)
+    AuditedIs im lent (handed lent 0 ws₁) addresses stored counts (Err x)
 stopped-is im ws s x ws₁ addresses counts stored e w lent fit =
     let o = walked-refused ws ws₁ x _ w.walked in
     refused-is im lent ws₁ addresses stored counts x o.0 (run-opened im lent _ (superblock_of s) fit e ∙ o.1)
@@ -86,7 +80,7 @@ get_d-zeros (suc n) (suc k) = get_d-zeros n k
 
 -- the walk is done
 module _ (im ws : List ℕ) (s : Superblock) (count objects : ℕ) (ws₁ addresses counts : List ℕ)
-    (w : ImageWalked im ws s ws₁ addresses counts (Ok (record { count = count; objects = objects }))) where
+    (w : ImageWalked im ws s ws₁ addresses counts (Ok (record { block_count = count; objects = objects }))) where
   abbrev os : List Linked
   os = linked_of objects addresses counts
 
@@ -114,16 +108,19 @@ module _ (im ws : List ℕ) (s : Superblock) (count objects : ℕ) (ws₁ addres
 
   pub done-is : opened (superblock_of s) ≡ open_image im → Bounded im s → (stored₀ stored : List ℕ) → stored₀ ≡ replicate objects_most 0 →
       StoredRead im addresses objects stored₀ stored → (lent : ℕ) → room_of lent ≡ places_of (length ws) →
-      AuditedIs im lent (handed lent count ws₁) addresses stored counts (record { number = 0; met = 0; block_count = count; objects = objects })
+      AuditedIs im lent (handed lent count ws₁) addresses stored counts (Ok (record { block_count = count; objects = objects }))
   unfolding audit
   done-is e b stored₀ stored z r lent fit =
       let o = run-opened im lent _ (superblock_of s) fit e ∙ ran in
       record {
         reply = rw (o, length-blocks_of, counted-law im objects addresses stored counts r.read, list-is lent);
-        fits = table.fits;
-        readable = readable b;
-        stored_rest = λ h k m. r.rest k m ∙ rw z (get_d-zeros objects_most k);
-        counts_rest = λ h k m. table.counts_zero k m;
+        placed = record {
+          fits = table.fits;
+          readable = readable b;
+          stored_rest = λ k m. r.rest k m ∙ rw z (get_d-zeros objects_most k);
+          counts_rest = λ k m. table.counts_zero k m;
+        };
+        answered = tt;
       }
 
 -- zeros are an empty table, if there are enough
@@ -137,31 +134,26 @@ lists-table addresses stored counts l = table_none addresses counts l.addresses_
 pub stored-room : (addresses stored counts : List ℕ) (n : ℕ) → Lists addresses stored counts → n ≤ objects_most → n ≤ length stored
 stored-room addresses stored counts n l h = rw (l.stored_empty, length-replicate) h
 
--- the reply with its ledger: an empty one where there are no objects, else the lists
-module _ (im : List ℕ) (lent : ℕ) (ws addresses stored counts : List ℕ) (r : Audited) (h : AuditedIs im lent ws addresses stored counts r) where
-  pub empty-reply : (l : Ledger) → r.objects ≡ 0 → Empty l →
-      AuditIs im lent ws (record { number = r.number; met = r.met; block_count = r.block_count; ledger = l })
-  unfolding counted_places
-  empty-reply l z e =
-      let p = h.reply in
-      record {
-        reply = rw (empty-law l e) (rw z at p);
-        fits = omega (arith, e.none);
-        readable = rw e.none (none-readable im l.addresses);
-        addresses_rest = λ k m. rw e.addresses_zero (get_d-zeros objects_most k);
-        stored_rest = λ k m. rw e.stored_zero (get_d-zeros objects_most k);
-        counts_rest = λ k m. rw e.counts_zero (get_d-zeros objects_most k);
-      }
+-- a refusal has no ledger
+pub refused-reply : (im : List ℕ) (lent : ℕ) (ws addresses stored counts : List ℕ) (x : Refusal) →
+    AuditedIs im lent ws addresses stored counts (Err x) → AuditIs im lent ws (Err x)
+refused-reply im lent ws addresses stored counts x h = record { reply = h.reply; placed = tt; answered = h.answered }
 
-  -- the addresses are copied out of the table
-  pub full-reply : 0 < r.objects → (copy : List ℕ) → Copied addresses (replicate objects_most 0) r.objects copy →
-      let l : Ledger = record { objects = r.objects; addresses = copy; stored = stored; true_counts = counts } in
-      AuditIs im lent ws (record { number = r.number; met = r.met; block_count = r.block_count; ledger = l })
-  full-reply z copy c = record {
-    reply = rw (counted-copied addresses stored counts (replicate objects_most 0) copy r.objects c) h.reply;
-    fits = h.fits;
-    readable = readable-copied im addresses (replicate objects_most 0) copy r.objects c (rw length-replicate h.fits) h.readable;
-    addresses_rest = λ k m. c.rest k m ∙ get_d-zeros objects_most k;
-    stored_rest = h.stored_rest z;
-    counts_rest = h.counts_rest z;
-  }
+-- the reply with its ledger: the addresses are copied out of the table
+pub full-reply : (im : List ℕ) (lent : ℕ) (ws addresses stored counts : List ℕ) (r : Audited) → AuditedIs im lent ws addresses stored counts (Ok r) →
+    (copy : List ℕ) → Copied addresses (replicate objects_most 0) r.objects copy →
+    let l : Ledger = record { objects = r.objects; addresses = copy; stored = stored; true_counts = counts } in
+    AuditIs im lent ws (Ok (record { block_count = r.block_count; ledger = l }))
+full-reply im lent ws addresses stored counts r h copy c =
+    let p = h.placed in
+    record {
+      reply = rw (counted-copied addresses stored counts (replicate objects_most 0) copy r.objects c) h.reply;
+      placed = record {
+        fits = p.fits;
+        readable = readable-copied im addresses (replicate objects_most 0) copy r.objects c (rw length-replicate p.fits) p.readable;
+        addresses_rest = λ k m. c.rest k m ∙ get_d-zeros objects_most k;
+        stored_rest = p.stored_rest;
+        counts_rest = p.counts_rest;
+      };
+      answered = tt;
+    }

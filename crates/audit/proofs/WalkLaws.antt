@@ -21,9 +21,9 @@ use Rattle.sharing.specs.Sharing.{found_of}
 use Rattle.superblock.specs.Superblock.{superblock_of}
 use Rattle.superblock.specs.declared.Superblock.{Superblock}
 use Rattle.object.proofs.ObjectLaws.{room-lent, listed-ready}
-use Rattle.object.specs.Object.{Listed, FoundWalked}
-use Rattle.object.specs.declared.object.ObjectRead.{ObjectRead}
+use Rattle.object.specs.Object.{Listed, ObjectRead, FoundWalked}
 use Rattle.std.specs.Prelude.{Result, Ok, Err}
+use Rattle.audit.specs.declared.Audited.{Audited}
 use Rattle.audit.specs.Audit.{ImageWalked}
 
 -- the superblock, where it was entered, is the only block
@@ -31,6 +31,11 @@ one-entered : (answer : ℕ) (f : ℕ → Refusal) (b : Block) (bs : List Block)
     ◌≡◌ {A = Outcome (Unit {0})} (if_entered answer (done tt (b ∷ [])) (λ m. refused (f m) [])) (done tt bs) → bs ≡ b ∷ []
 one-entered zero f b bs e = cc
 one-entered (suc answer) f b bs e = let z : ◌≡◌ {A = ℕ} 0 1 = cc in absurd (omega arith)
+
+-- the numbers that are returned of a walk
+abbrev pub audited : Result ObjectRead Refusal → Result Audited Refusal
+audited (Ok o) = Ok (record { block_count = o.count; objects = o.objects })
+audited (Err r) = Err r
 
 module _ (im ws : List ℕ) (s : Superblock) (room : ℕ) (is : room ≡ places_of (length ws)) (ws₁ : List ℕ) where
   abbrev eof : ℕ
@@ -92,7 +97,7 @@ module _ (im ws : List ℕ) (s : Superblock) (room : ℕ) (is : room ≡ places_
 
       pub objects-read : (ws₂ addresses₂ counts₂ marks₂ : List ℕ) (r : Result ObjectRead Refusal) → length ws₂ ≡ length ws₁ →
           FoundWalked im ws₁ addresses counts marks s room (objects_walk (superblock_of s) objects_most 0) n 1 ws₂ addresses₂ counts₂ marks₂ r →
-          ImageWalked im ws s ws₂ addresses₂ counts₂ r
+          ImageWalked im ws s ws₂ addresses₂ counts₂ (audited r)
       unfolding blocks_of
       objects-read ws₂ addresses₂ counts₂ marks₂ (Ok o) long l =
           let k = rw root-found at l.walked in
@@ -100,3 +105,8 @@ module _ (im ws : List ℕ) (s : Superblock) (room : ℕ) (is : room ≡ places_
       objects-read ws₂ addresses₂ counts₂ marks₂ (Err x) long l =
           let k = rw root-found at l.walked in
           record { walked = rw (← is) (callee-stopped ws₂ _ _ at-objects k); ready = tt }
+
+-- the lists end as the values that were lent over them
+pub ends-so : {im ws : List ℕ} {s : Superblock} {ws₁ ws₂ addresses₁ addresses₂ counts₁ counts₂ : List ℕ} {r₁ r₂ : Result Audited Refusal} → ws₂ ≡ ws₁ →
+    addresses₂ ≡ addresses₁ → counts₂ ≡ counts₁ → r₂ ≡ r₁ → ImageWalked im ws s ws₁ addresses₁ counts₁ r₁ → ImageWalked im ws s ws₂ addresses₂ counts₂ r₂
+ends-so e f g h w = rw (e, f, g, h) w

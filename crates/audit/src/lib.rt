@@ -1,44 +1,31 @@
 // The link audit: counts the hard links and sharings that reach each object of a file.
 #![tactic(auto)]
 
-ghost use Rattle.std.specs.Prelude.{◌≡◌, ℕ, ◌≤◌, length, replicate};
+ghost use Rattle.std.specs.Prelude.{◌≡◌, ℕ, ◌≤◌, length, replicate, IfOk, OnErr};
 ghost use Rattle.format.specs.Limits.{objects_most};
 ghost use Rattle.format.specs.Blocks.{room_of};
 ghost use Rattle.walk.specs.Lent.{places_of, handed};
 ghost use Rattle.ledger.specs.Report.{Copied};
 ghost use Rattle.ledger.specs.Table.{Table};
 ghost use Rattle.object.specs.Object.{Bounded};
-ghost use Rattle.audit.specs.Audit.{refused_with, ImageWalked, Lists, AuditedIs, AuditIs};
+ghost use Rattle.audit.specs.Audit.{blocks_audited, blocks_replied, replied, ImageWalked, Lists, AuditedIs, AuditIs};
 
-use format::{OBJECTS_MOST, Refusal, answers, met_of, number_of};
+use format::{OBJECTS_MOST, Refusal};
+use ledger::report;
 use ledger::report::Ledger;
 use ledger::search::TABLE_WORDS;
-use ledger::{report, table};
-use object::object::ObjectRead;
+use ledger::table::Objects;
 use objects;
-use superblock::Superblock;
+use sharing::Found;
+use superblock::{File, Superblock};
 use walk::blocks;
-use walk::blocks::WORK_WORDS;
+use walk::blocks::{Blocks, WORK_WORDS};
 
-// The answer, with 6 the first block met, and the numbers of blocks entered and of objects found, 0 where the answer isn't.
+// The numbers of blocks entered and of objects found.
 #[derive(Clone, Copy)]
 pub struct Audited {
-    pub number: u8,
-    pub met: u64,
     pub block_count: usize,
     pub objects: usize,
-}
-
-// A refusal: the numbers are zeros but for the answer and the block met.
-fn refused(refusal: Refusal) -> Audited
-    ensures { result ≡ refused_with refusal }
-{
-    Audited {
-        number: number_of(refusal),
-        met: met_of(refusal),
-        block_count: 0,
-        objects: 0,
-    }
 }
 
 // The audit's walk, with the table of objects lent: the superblock, then all objects from the root on. The superblock's root entry is
@@ -49,26 +36,37 @@ pub fn walk_image(
     addresses: &mut [u64],
     true_counts: &mut [u32],
     superblock: Superblock,
-) -> Result<ObjectRead, Refusal>
+) -> Result<Audited, Refusal>
     requires bounded { Bounded image.now superblock }
     requires table { Table addresses.old true_counts.old 0 }
     ensures { ImageWalked image.now list.old superblock list.new addresses.new true_counts.new result }
 {
-    let room = blocks::places(list.len());
-    let entered = superblock::enter_superblock(superblock, list, room)?;
-    table::start(addresses, true_counts, superblock.root);
-    let mut marks = [0u8; OBJECTS_MOST];
-    objects::read(
+    let file = File {
         image,
-        list,
-        addresses,
-        true_counts,
-        &mut marks,
         superblock,
-        room,
-        entered,
-        1,
-    )
+        room: blocks::places(list.len()),
+    };
+    let mut blocks = Blocks {
+        words: list,
+        count: 0,
+    };
+    superblock::enter_superblock(superblock, &mut blocks, file.room)?;
+    let mut table = Objects {
+        addresses,
+        counts: true_counts,
+        count: 0,
+    };
+    table.start(superblock.root);
+    let mut marks = [0u8; OBJECTS_MOST];
+    let mut found = Found {
+        objects: &mut table,
+        marks: &mut marks,
+    };
+    objects::read(file, &mut blocks, &mut found)?;
+    Ok(Audited {
+        block_count: blocks.count,
+        objects: table.count,
+    })
 }
 
 // The audit in a working list, with the table of objects and the stored counts lent: its objects stand at their heads, and its blocks at
@@ -79,106 +77,90 @@ pub fn audit_into(
     addresses: &mut [u64],
     stored: &mut [u32],
     true_counts: &mut [u32],
-) -> Audited
+) -> Result<Audited, Refusal>
     requires { Lists addresses.old stored.old true_counts.old }
-    ensures block_count_bound { result.block_count ≤ places_of (length list.old) }
+    ensures block_count_bound { IfOk result (λ a. a.block_count ≤ places_of (length list.old)) }
     ensures by_index { (lent : ℕ) → room_of lent ≡ places_of (length list.old) → AuditedIs image.now lent
-        (handed lent result.block_count list.new) addresses.new stored.new true_counts.new result }
+        (handed lent (blocks_audited result) list.new) addresses.new stored.new true_counts.new result }
 {
-    match superblock::open(image) {
-        Err(answer) => refused(Refusal::Fault(answer, 0)),
-        Ok(superblock) => match walk_image(image, list, addresses, true_counts, superblock) {
-            Err(refusal) => refused(refusal),
-            Ok(read) => {
-                report::read_stored(image, addresses, stored, read.objects);
-                Audited {
-                    number: answers::DONE,
-                    met: 0,
-                    block_count: read.count,
-                    objects: read.objects,
-                }
-            }
-        },
-    }
+    let superblock = superblock::open(image).map_err(|answer| Refusal::Fault(answer, 0))?;
+    let audited = walk_image(image, list, addresses, true_counts, superblock)?;
+    report::read_stored(image, addresses, stored, audited.objects);
+    Ok(audited)
 }
 
-// The answer, with 6 the first block met, the number of blocks entered, and the ledger; zeros and an empty ledger where the
-// answer isn't 0.
+// The number of blocks entered, and the ledger.
 #[derive(Drop)]
 pub struct Reply {
-    pub number: u8,
-    pub met: u64,
     pub block_count: usize,
     pub ledger: Ledger,
 }
 
-// The ledger of the objects at the head of a table. Kept out of line, so that its list of addresses isn't on the stack while an audit walks.
+// Fills a ledger with the objects at the head of a table. Kept out of line, so that its list of addresses isn't on the stack while an audit walks.
 #[inline(never)]
-fn ledger_of(
+fn fill(
+    ledger: &mut Ledger,
     table: &[u64],
     stored: &[u32; OBJECTS_MOST],
     true_counts: &[u32; OBJECTS_MOST],
     objects: usize,
-) -> Ledger
+)
     requires objects_in_bounds { objects ≤ length table.now }
     requires objects_le_objects_most { objects ≤ objects_most }
-    ensures copied { Copied table.now (replicate objects_most 0) objects result.addresses }
-    ensures whole { result ≡ record { objects = objects; addresses = result.addresses; stored = stored.now; true_counts = true_counts.now } }
+    ensures copied { Copied table.now (replicate objects_most 0) objects ledger.new.addresses }
+    ensures whole { ledger.new ≡ record { objects = objects; addresses = ledger.new.addresses; stored = stored.now; true_counts = true_counts.now } }
 {
     let mut addresses = [0u64; OBJECTS_MOST];
     report::copy_addresses(table, &mut addresses, objects);
-    Ledger {
+    *ledger = Ledger {
         objects,
         addresses,
         stored: *stored,
         true_counts: *true_counts,
-    }
+    };
 }
 
-// The audit of an image in a working list, which has its blocks at its head. The ledger has the addresses alone, without what stands
-// behind them in the table.
-pub fn audit_in(image: &[u8], list: &mut [u64]) -> Reply
-    ensures block_count_bound { result.block_count ≤ places_of (length list.old) }
+// The audit of an image in a working list, which has its blocks at its head: their number. The ledger is lent, since a Result that holds it is
+// copied, and a mending has no stack for two; a refusal leaves it as it was. It has the addresses alone, without what stands behind them in the table.
+pub fn audit_in(image: &[u8], list: &mut [u64], ledger: &mut Ledger) -> Result<usize, Refusal>
+    ensures block_count_bound { IfOk result (λ n. n ≤ places_of (length list.old)) }
     ensures by_index { (lent : ℕ) → room_of lent ≡ places_of (length list.old) → AuditIs image.now lent
-        (handed lent result.block_count list.new) result }
+        (handed lent (blocks_replied (replied ledger.new result)) list.new) (replied ledger.new result) }
+    ensures refused { OnErr result (ledger.new ≡ ledger.old) }
 {
     let mut objects_table = [0u64; TABLE_WORDS];
     let mut stored = [0u32; OBJECTS_MOST];
     let mut true_counts = [0u32; OBJECTS_MOST];
-    let r = audit_into(
+    let audited = audit_into(
         image,
         list,
         &mut objects_table,
         &mut stored,
         &mut true_counts,
+    )?;
+    fill(
+        ledger,
+        &objects_table,
+        &stored,
+        &true_counts,
+        audited.objects,
     );
-    let number = r.number;
-    let met = r.met;
-    let block_count = r.block_count;
-    let objects = r.objects;
-    if objects == 0 {
-        return Reply {
-            number,
-            met,
-            block_count,
-            ledger: report::empty(),
-        };
-    }
-    Reply {
-        number,
-        met,
-        block_count,
-        ledger: ledger_of(&objects_table, &stored, &true_counts, objects),
-    }
+    Ok(audited.block_count)
 }
 
-// The audit of an image. The list is lent for the blocks, four words a block.
-pub fn audit(image: &[u8], list: &mut [u64]) -> Reply
+// The audit of an image. The list is lent for the blocks, four words a block, and is all zeros with a refusal.
+// One function for such calls would take this one as a closure, and a trait for the count of its blocks: no plainer than these lines.
+pub fn audit(image: &[u8], list: &mut [u64]) -> Result<Reply, Refusal>
     ensures { AuditIs image.now (length list.old) list.new result }
 {
     let mut work = [0u64; WORK_WORDS];
     let n = blocks::work_words(blocks::room(list.len()));
-    let r = audit_in(image, &mut work[..n]);
-    blocks::hand_over(list, &work, r.block_count);
-    r
+    blocks::clear_from(list, 0);
+    let mut ledger = report::empty();
+    let block_count = audit_in(image, &mut work[..n], &mut ledger)?;
+    blocks::hand_over(list, &work, block_count);
+    Ok(Reply {
+        block_count,
+        ledger,
+    })
 }

@@ -104,7 +104,8 @@ module _ (ws : List ℕ) (count first second : ℕ) (d : Addable ws count first 
     place : (k : ℕ) → words_from ws₁ (places_from (length ws)) k ≡ places k
     place k = i.rest (places_from (length ws) + k) (omega arith)
 
-    more : TwoRuns (Before ws) firsts (words_from ws₂ (second_from (length ws))) (words_from ws₂ (places_from (length ws))) (merged_of count) (recent_of count + 1)
+    more : TwoRuns (Before ws) firsts (words_from ws₂ (second_from (length ws))) (words_from ws₂ (places_from (length ws)))
+        (merged_of count) (recent_of count + 1)
     more =
         runs-more _ _ _ _ _ _ _ _ second first d.indexed.runs d.second_place.most d.first_place.most
         (λ k h. number k (omega (arith, d.second_place.most)) ∙ i.below (second_from (length ws) + k) (omega arith))

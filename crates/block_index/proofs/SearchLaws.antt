@@ -1,11 +1,11 @@
 -- Laws of the search in one run: the halving, how many tests it takes, and what the place found decides.
-use Prim.Native.Nat.{ℕ, zero, suc, ◌+◌, ◌-◌, ◌*◌, ◌/◌, ◌^◌, ◌≤◌, ◌<◌}
+use Prim.Native.Nat.{ℕ, ◌+◌, ◌-◌, ◌*◌, ◌^◌, ◌≤◌, ◌<◌}
 use mathlib.Core.Bool.{true, false}
 use mathlib.Core.List.{List}
 use mathlib.Core.Logic.{⊎_elim}
-use mathlib.Core.Path.{◌≡◌, refl}
+use mathlib.Core.Path.{◌≡◌}
 use native.Mathlib.Omega.{arith}
-use native.Mathlib.Nat.{pow-zero, two-pow-succ, eq-or-lt_of_le}
+use native.Mathlib.Nat.{eq-or-lt_of_le}
 use borrow.Author.Tests.{ltb-true, ltb-false}
 use lib.Dec.{ltb}
 use lib.ListN.{length}
@@ -15,21 +15,6 @@ use Rattle.block_index.specs.Index.{start_of, behind_of, Meets, Apart}
 use Rattle.block_index.specs.Search.{number_at, Sorted, Placed}
 use Rattle.block_index.specs.declared.search.Run.{Run}
 use Rattle.block_index.proofs.Overlaps.{overlaps-hit, overlaps-not-below, overlaps-not-above}
-
--- The blocks before `low` end at the byte a or before it, those from `high` on end behind it.
-pub record Between (ws : List ℕ) (r : Run) (a low high : ℕ) : Type 0 where
-  pub ordered : low ≤ high
-  pub most : high ≤ r.count
-  pub before : (k : ℕ) → k < low → behind_of ws (number_at ws r k) ≤ a
-  pub after : (k : ℕ) → high ≤ k → k < r.count → a < behind_of ws (number_at ws r k)
-
-pub between-all : (ws : List ℕ) (r : Run) (a : ℕ) → Between ws r a 0 r.count
-between-all ws r a = record {
-  ordered = omega arith;
-  most = omega arith;
-  before = λ k h. absurd (omega arith);
-  after = λ k h l. absurd (omega arith);
-}
 
 -- a block of the run: its number in the run, the place of its words, and the byte behind it
 module _ (ws : List ℕ) (r : Run) (x : Sorted ws r) (k : ℕ) (h : k < r.count) where
@@ -42,59 +27,21 @@ module _ (ws : List ℕ) (r : Run) (x : Sorted ws r) (k : ℕ) (h : k < r.count)
   pub behind-small : behind_of ws (number_at ws r k) < 2 ^ 64
   behind-small = x.small (words_from ws r.base k) number-below
 
-module _ (ws : List ℕ) (r : Run) (a low high : ℕ) (x : Sorted ws r) (s : Between ws r a low high) where
-  abbrev middle : ℕ
-  middle = low + (high - low) / 2
-
-  pub middle-in : low < high → middle < r.count
-  middle-in h = omega (arith, s.most)
-
-  pub middle-low : low < high → behind_of ws (number_at ws r middle) ≤ a → Between ws r a (middle + 1) high
-  middle-low h e = record {
-    ordered = omega arith;
-    most = s.most;
-    before = λ k l. ⊎_elim (λ (q : k ≡ middle). rw q e) (λ (q : k < middle). earlier k q) (eq-or-lt_of_le (omega arith));
-    after = s.after;
+-- The blocks before a place end at the byte a or before it, if the last of them does; those from there on don't, if the first of them doesn't.
+module _ (ws : List ℕ) (r : Run) (a : ℕ) (x : Sorted ws r) where
+  pub placed_by : (p : ℕ) → p ≤ r.count → ((k : ℕ) → k + 1 ≡ p → behind_of ws (number_at ws r k) ≤ a) →
+      (p < r.count → a < behind_of ws (number_at ws r p)) → Placed ws r a p
+  placed_by p m b u = record {
+    most = m;
+    before = λ k h. ⊎_elim (λ (q : k + 1 ≡ p). b k q) (λ (q : k + 1 < p). earlier k q) (eq-or-lt_of_le (omega arith));
+    after = λ k h l. ⊎_elim (λ (q : p ≡ k). rw (← q) (u (omega arith))) (λ (q : p < k). later k q l) (eq-or-lt_of_le h);
   }
     where
-      earlier : (k : ℕ) → k < middle → behind_of ws (number_at ws r k) ≤ a
-      earlier k q = omega (arith, x.ordering.rising k middle q (omega (arith, s.most)))
+      earlier : (k : ℕ) → k + 1 < p → behind_of ws (number_at ws r k) ≤ a
+      earlier k q = omega (arith, x.ordering.rising k (p - 1) (omega arith) (omega arith), b (p - 1) (omega arith))
 
-  pub middle-high : low < high → a < behind_of ws (number_at ws r middle) → Between ws r a low middle
-  middle-high h e = record {
-    ordered = omega arith;
-    most = omega (arith, s.most);
-    before = s.before;
-    after = λ k l u. ⊎_elim (λ (q : middle ≡ k). rw (← q) e) (λ (q : middle < k). later k q u) (eq-or-lt_of_le l);
-  }
-    where
-      later : (k : ℕ) → middle < k → k < r.count → a < behind_of ws (number_at ws r k)
-      later k q u = omega (arith, x.ordering.rising middle k q u)
-
-  pub between_none : high ≤ low → Placed ws r a low
-  between_none h = record { most = omega (arith, s.most, s.ordered); before = s.before; after = λ k l u. s.after k (omega arith) u }
-
--- The number of tests: what is left to search halves with each.
-abbrev pub Halved : ℕ → ℕ → ℕ → Type 0
-Halved n tests width = (m : ℕ) → n < 2 ^ m → (tests ≤ m) × (width < 2 ^ (m - tests))
-
-pub halved_none : (n : ℕ) → Halved n 0 (n - 0)
-halved_none n m h =
-    let e : m - 0 ≡ m = omega arith in
-    let f : n - 0 ≡ n = omega arith in
-    (omega arith, rw (e, f) h)
-
-pub halved-more : (n tests width width' : ℕ) → 0 < width → width' ≤ width / 2 → Halved n tests width → Halved n (tests + 1) width'
-halved-more n tests width width' p l d m h = go (m - tests) refl
-  where
-    go : (j : ℕ) → m - tests ≡ j → (tests + 1 ≤ m) × (width' < 2 ^ (m - (tests + 1)))
-    go zero e = absurd (omega (arith, pow-zero 2, rw e at (d m h).1))
-    go (suc j) e =
-        let f : m - (tests + 1) ≡ j = omega arith in
-        (omega arith, rw f (omega (arith, two-pow-succ j, rw e at (d m h).1)))
-
-pub tests-few : (n tests width : ℕ) → Halved n tests width → (m : ℕ) → n < 2 ^ m → tests ≤ m
-tests-few n tests width d m h = (d m h).0
+      later : (k : ℕ) → p < k → k < r.count → a < behind_of ws (number_at ws r k)
+      later k q l = omega (arith, x.ordering.rising p k q l, u (omega arith))
 
 -- the place in a run of no blocks, and the one behind a last block that ends at the byte or before it
 pub placed-none : (ws : List ℕ) (r : Run) (a : ℕ) → r.count ≡ 0 → Placed ws r a 0

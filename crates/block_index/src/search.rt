@@ -3,6 +3,9 @@ ghost use Rattle.std.specs.Prelude.{true, false, ◌≡◌, ℕ, ◌+◌, ◌^�
 ghost use Rattle.block_index.specs.Index.{Meets, Apart};
 ghost use Rattle.block_index.specs.Search.{Sorted, Placed};
 
+use ordering::halving;
+use ordering::halving::Place;
+
 // The numbers of `count` blocks in the order of their addresses, from the word `base` on, counted from the block `first`.
 #[derive(Clone, Copy)]
 pub struct Run {
@@ -11,33 +14,16 @@ pub struct Run {
     pub count: usize,
 }
 
-// How many blocks of a run end at an address or before it, and how many are compared for that.
-#[derive(Clone, Copy)]
-pub struct Place {
-    pub place: usize,
-    pub tests: usize,
-}
-
-// Finds the place by halving. `partition_point` finds it too, but doesn't say how many blocks are compared.
+// How many blocks of a run end at an address or before it.
 fn halve(blocks: &[u64], run: Run, at: u64) -> Place
     requires { Sorted blocks.now run }
     ensures placed { Placed blocks.now run at result.place }
     ensures by_index { (m : ℕ) → run.count < 2 ^ m → result.tests ≤ m }
 {
-    let mut low = 0;
-    let mut high = run.count;
-    let mut tests = 0;
-    while low < high {
-        let middle = low + (high - low) / 2;
-        let b = run.first + blocks[run.base + middle] as usize;
-        tests += 1;
-        if blocks[4 * b] + blocks[4 * b + 1] <= at {
-            low = middle + 1;
-        } else {
-            high = middle;
-        }
-    }
-    Place { place: low, tests }
+    halving::halve(run.count, |k| {
+        let block = run.first + blocks[run.base + k] as usize;
+        blocks[4 * block] + blocks[4 * block + 1] <= at
+    })
 }
 
 // Finds the place. Most blocks lie behind those entered before: so the last one is compared first. Where it doesn't end before, one in

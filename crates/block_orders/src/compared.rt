@@ -3,7 +3,7 @@ ghost use Rattle.std.specs.Prelude.{ℕ, ◌+◌, ◌^◌, ◌<◌, ◌≤◌, l
 ghost use Rattle.walk.specs.Lent.{places_of};
 
 use block_index::index::find;
-use walk::blocks::{enter, places};
+use walk::blocks::{Blocks, Bounds, places};
 use walk::kinds;
 
 // How many blocks were entered, and with how many others one of them was compared at most.
@@ -24,22 +24,30 @@ fn larger(a: usize, b: usize) -> usize
 pub fn compare(work: &mut [u64], addresses: &[u64], size: u64, end_of_file: u64) -> Compared
     ensures { (m : ℕ) → places_of (length work.old) < 2 ^ m → result.most ≤ m + 10 }
 {
-    let room = places(work.len());
-    let mut entered: usize = 0;
+    let bounds = Bounds {
+        end_of_file,
+        room: places(work.len()),
+    };
+    let mut blocks = Blocks {
+        words: work,
+        count: 0,
+    };
     let mut most: usize = 0;
     for at in addresses {
         let at = *at;
         if end_of_file < at || end_of_file - at < size {
             break;
         }
-        let found = find(work, entered, at, size);
-        match enter(end_of_file, work, entered, room, kinds::DATA, at, size) {
-            Err(_) => break,
-            Ok(count) => {
-                most = larger(most, found.tests);
-                entered = count;
-            }
+        let entered = blocks.count;
+        let words = &mut *blocks.words;
+        let found = find(words, entered, at, size);
+        if blocks.enter(bounds, kinds::DATA, at, size).is_err() {
+            break;
         }
+        most = larger(most, found.tests);
     }
-    Compared { entered, most }
+    Compared {
+        entered: blocks.count,
+        most,
+    }
 }

@@ -16,7 +16,8 @@ use Rattle.format.specs.Mend.{corrections}
 use Rattle.format.specs.Log.{changes}
 use Rattle.format.specs.Undo.{all_fit, undo_number}
 use Rattle.format.specs.Answers.{audit, lookup, describe, mended_by, not_mended, mend_after, mend, undo_end, undo}
-use Rattle.format.specs.Front.{CReply, short_reply, c_audit_end, c_lookup_end, c_describe_end, c_mend_end, c_undo_end, c_audit, c_lookup, c_describe, c_mend, c_undo}
+use Rattle.format.specs.Front.{CReply, short_reply, c_audit_end, c_lookup_end, c_describe_end, c_mend_end, c_undo_end}
+use Rattle.format.specs.Front.{c_audit, c_lookup, c_describe, c_mend, c_undo}
 use Rattle.found.specs.Accepted.{OneOf}
 use Rattle.links.proofs.Includes.{includes-in}
 use Rattle.links.proofs.ReplyNumbers.{audit-reply-number, lookup-reply-number, describe-reply-number, only-number}
@@ -48,7 +49,8 @@ unfolding contains
 descriptions im path lent =
     rw (describe-reply-number im path lent)
     (only-number (OneOf describe_numbers) (search members) (describe_run im path lent)
-    (describe-only (OneOf describe_numbers) (includes-in lookup_refusals describe_numbers refl) (search members depth 20) (search members depth 20) im path lent))
+    (describe-only (OneOf describe_numbers) (includes-in lookup_refusals describe_numbers refl)
+    (search members depth 20) (search members depth 20) im path lent))
 
 mends : (im : List ℕ) (lent log_lent n : ℕ) → OneOf mend_numbers (mend im lent log_lent n).number
 unfolding mend

@@ -19,7 +19,8 @@ use Rattle.format.specs.Describe.{describe_run}
 use Rattle.format.specs.Undo.{undo_number}
 use Rattle.format.specs.Answers.{AuditReply, LookupReply, DescribeReply, MendReply, UndoReply, audit_end, audit, lookup_end, lookup, describe_end}
 use Rattle.format.specs.Answers.{describe, mend, undo_end, undo}
-use Rattle.format.specs.Front.{CReply, word_bytes, padded_bytes, if_done, reply_words, c_audit_end, c_lookup_end, c_describe_end, c_mend_end, c_undo_end, c_audit, c_lookup}
+use Rattle.format.specs.Front.{CReply, word_bytes, padded_bytes, if_done, reply_words}
+use Rattle.format.specs.Front.{c_audit_end, c_lookup_end, c_describe_end, c_mend_end, c_undo_end, c_audit, c_lookup}
 use Rattle.format.specs.Front.{c_describe, c_mend, c_undo}
 use Rattle.words.proofs.Words.{padded-zeros}
 use Rattle.demand.proofs.MendDone.{mend-refused}
@@ -126,7 +127,8 @@ module _ (im path : List ℕ) (l r : ℕ) where
   lookup-list : ((lookup im path (l / 8)).number ≡ 0 → ⊥) → (lookup im path (l / 8)).list ≡ replicate (l / 8) 0
   lookup-list z = ap (λ (a : LookupReply). a.list) (lookups im path (l / 8) z)
 
-  c_lookups : ((c_lookup im path l r).number ≡ 0 → ⊥) → ((c_lookup im path l r).number ≡ 6 → ⊥) → c_lookup im path l r ≡ c_zeros l r (c_lookup im path l r).number
+  c_lookups : ((c_lookup im path l r).number ≡ 0 → ⊥) → ((c_lookup im path l r).number ≡ 6 → ⊥) →
+      c_lookup im path l r ≡ c_zeros l r (c_lookup im path l r).number
   unfolding c_lookup
   c_lookups =
       let a = lookup im path (l / 8) in

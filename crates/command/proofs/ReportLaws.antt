@@ -9,9 +9,12 @@ use Rattle.format.specs.Limits.{input_most, command_blocks}
 use Rattle.format.specs.Bytes.{overwrite}
 use Rattle.format.specs.Audit.{Counted}
 use Rattle.format.specs.Command.{object_lines, lines, command}
+use Rattle.std.specs.Prelude.{Ok, Err}
+use Rattle.format.specs.declared.Refusal.{Refusal}
+use Rattle.format.specs.Walk.{answer_of}
 use Rattle.format.specs.Answers.{AuditReply, audit}
 use Rattle.ledger.specs.Report.{counted_of}
-use Rattle.audit.specs.Audit.{AuditIs}
+use Rattle.audit.specs.Audit.{with_ledger, AuditIs}
 use Rattle.audit.specs.declared.Reply.{Reply}
 use Rattle.walk.proofs.Overwrite.{length-overwrite, part-overwrite}
 use Rattle.output.specs.Text.{first_line, output_most, Printed}
@@ -44,17 +47,22 @@ pub printed-long : (input b : List ℕ) → input_most < length input → output
 unfolding output_most object_lines overwrite
 printed-long input b h l = printed input b 1 [] (command-long input h) (omega arith)
 
-module _ (input ws : List ℕ) (lent : ℕ) (r : Reply) (a : AuditIs input lent ws r) where
-  places : length (counted_of r.ledger) ≡ r.ledger.objects
-  places = let l = r.ledger in length-places l.objects l.addresses l.stored l.true_counts
+-- what the command prints of an audit's answer and objects
+audited : (input : List ℕ) (lent : ℕ) (a : AuditReply) → a ≡ audit input lent → lent ≡ 4 * command_blocks → length input ≤ input_most →
+    command input ≡ lines a.number a.objects
+audited input lent a is e h =
+    command-short input h ∙ ap (λ (k : ℕ). lines (audit input k).number (audit input k).objects) (sym e)
+    ∙ ap (λ (x : AuditReply). lines x.number x.objects) (sym is)
 
-  pub printed-audit : (b : List ℕ) → lent ≡ 4 * command_blocks → length input ≤ input_most → output_most ≤ length b →
-      Printed input b (overwrite (overwrite b 0 (first_line r.number r.ledger.objects)) 17 (object_lines (counted_of r.ledger)))
-      (17 + 33 * r.ledger.objects)
+module _ (input b ws : List ℕ) (lent : ℕ) (e : lent ≡ 4 * command_blocks) (h : length input ≤ input_most) (m : output_most ≤ length b) where
+  pub printed-refused : (x : Refusal) (n : ℕ) → n ≡ answer_of x → AuditIs input lent ws (Err x) → Printed input b (overwrite b 0 (first_line n 0)) 17
+  unfolding output_most object_lines overwrite
+  printed-refused x n is a = rw is (printed input b (answer_of x) [] (audited input lent (with_ledger ws (Err x)) a.reply e h) (omega arith))
+
+  pub printed-audit : (r : Reply) → AuditIs input lent ws (Ok r) →
+      Printed input b (overwrite (overwrite b 0 (first_line 0 r.ledger.objects)) 17 (object_lines (counted_of r.ledger))) (17 + 33 * r.ledger.objects)
   unfolding output_most
-  printed-audit b e h m =
-      let is : lines r.number (counted_of r.ledger) ≡ lines (audit input lent).number (audit input lent).objects =
-      ap (λ (x : AuditReply). lines x.number x.objects) a.reply in
-      let c : command input ≡ lines r.number (counted_of r.ledger) =
-      command-short input h ∙ ap (λ (k : ℕ). lines (audit input k).number (audit input k).objects) (sym e) ∙ sym is in
-      rw places at (printed input b r.number (counted_of r.ledger) c (omega (arith, places, a.fits)))
+  printed-audit r a =
+      let l = r.ledger in
+      let places = length-places l.objects l.addresses l.stored l.true_counts in
+      rw places at (printed input b 0 (counted_of l) (audited input lent (with_ledger ws (Ok r)) a.reply e h) (omega (arith, places, a.placed.fits)))

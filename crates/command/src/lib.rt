@@ -6,7 +6,7 @@ ghost use Rattle.format.specs.Limits.{input_most};
 ghost use Rattle.output.specs.Text.{output_most, Printed};
 ghost use Rattle.command.specs.Response.{Responds, TextWithin};
 
-use format::{COMMAND_BLOCKS, INPUT_MOST, OBJECTS_MOST, answers};
+use format::{COMMAND_BLOCKS, INPUT_MOST, OBJECTS_MOST, answers, number_of};
 use output::{FIRST_LINE, OBJECT_LINE};
 use source::Opened;
 use std::io;
@@ -31,10 +31,17 @@ pub fn report(input: &[u8], out: &mut [u8]) -> usize
         return FIRST_LINE;
     }
     let mut list = [0u64; LIST_WORDS];
-    let reply = audit::audit(input, &mut list);
-    let ledger = reply.ledger;
-    output::put_first(out, reply.number, ledger.objects);
-    output::put_objects(out, FIRST_LINE, ledger)
+    match audit::audit(input, &mut list) {
+        Ok(reply) => {
+            let ledger = reply.ledger;
+            output::put_first(out, answers::DONE, ledger.objects);
+            output::put_objects(out, FIRST_LINE, ledger)
+        }
+        Err(refusal) => {
+            output::put_first(out, number_of(refusal), 0);
+            FIRST_LINE
+        }
+    }
 }
 
 // Reads the input to its end, and writes what is printed for it: so many bytes.

@@ -24,7 +24,7 @@ use Rattle.laws.proofs.Simulation.{Simulation, start, callee-done, callee-stoppe
 use Rattle.ledger.specs.Links.{link_sum}
 use Rattle.ledger.specs.Table.{linked_of}
 use Rattle.visit.specs.Visit.{Both, visit_both, both_of, link_of, no_link}
-use Rattle.symbol.specs.declared.entry.State.{State}
+use Rattle.symbol.specs.State.{State}
 use Rattle.std.specs.Prelude.{Result, Ok, Err}
 use Rattle.group.specs.Group.{Ready, group_end, GroupIs}
 use Rattle.group.proofs.Entries.{lookup-part}

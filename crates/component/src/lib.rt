@@ -5,6 +5,7 @@ ghost use Rattle.std.specs.Prelude.{false, List, ◌≡◌, ℕ};
 ghost use Rattle.format.specs.Lookup.{target_walk};
 ghost use Rattle.visit.specs.Visit.{link_of};
 ghost use Rattle.walk.specs.Lent.{Lent};
+ghost use Rattle.walk.specs.Entered.{SameWords};
 ghost use Rattle.group.specs.Group.{Ready};
 ghost use Rattle.object.specs.Object.{Opened};
 ghost use Rattle.component.specs.Component.{target_of, FoundIs, ComponentIs};
@@ -12,9 +13,10 @@ ghost use Rattle.component.specs.Component.{target_of, FoundIs, ComponentIs};
 use format::{NO_PLACE, Refusal, answers};
 use image::header;
 use kind::HeaderRead;
-use superblock::Superblock;
-use symbol::entry::State;
-use visit::{ABSENT, HARD};
+use ledger::table::Objects;
+use superblock::File;
+use visit::Link;
+use walk::blocks::Blocks;
 
 // Where a component leads.
 #[derive(Clone, Copy)]
@@ -24,83 +26,72 @@ pub enum Target {
 }
 
 // Where the entries of a sound group lead.
-fn target_of(state: State, last: bool) -> Result<Target, Refusal>
-    ensures { target_of result ≡ target_walk last (link_of state.link) }
+fn target_of(link: Link, last: bool) -> Result<Target, Refusal>
+    ensures { target_of result ≡ target_walk last (link_of link) }
 {
-    let found = state.link.found;
-    if found == ABSENT {
-        return Err(Refusal::Fault(answers::NAME_ABSENT, NO_PLACE));
+    match link {
+        Link::Absent => Err(Refusal::Fault(answers::NAME_ABSENT, NO_PLACE)),
+        Link::Hard(header) => Ok(Target::Object(header)),
+        Link::Symbolic if last => Ok(Target::Symbolic),
+        Link::Symbolic => Err(Refusal::Fault(answers::SYMBOLIC_BEFORE_LAST, NO_PLACE)),
     }
-    if found == HARD {
-        return Ok(Target::Object(state.link.header));
-    }
-    if last {
-        return Ok(Target::Symbolic);
-    }
-    Err(Refusal::Fault(answers::SYMBOLIC_BEFORE_LAST, NO_PLACE))
 }
 
 // The name in the group with the tree and the heap at these addresses. Nothing is counted, so that any lists do as tables.
 fn find(
-    image: &[u8],
+    file: File<'_>,
     name: &[u8],
-    list: &mut [u64],
-    superblock: Superblock,
-    room: usize,
+    blocks: &mut Blocks<'_>,
     tree: u64,
     heap: u64,
-    count: usize,
     last: bool,
 ) -> Result<Target, Refusal>
-    requires opened { Opened image.now superblock room }
-    requires by_index { (addresses counts : List ℕ) → Ready false list.old addresses counts superblock.end_of_file room count 0 }
-    ensures { FoundIs image.now name.now list.old superblock room tree heap count last result }
+    requires opened { Opened file.image.now file.superblock file.room }
+    requires by_index { (addresses counts : List ℕ) → Ready false blocks.old.words.now addresses counts file.superblock.end_of_file file.room
+        blocks.old.count 0 }
+    ensures found { FoundIs file.entry.image.now name.now blocks.old.words.now file.entry.superblock file.entry.room tree heap blocks.old.count last result }
+    ensures kept { SameWords blocks.old blocks.new }
 {
     let mut addresses = [0u64; 1];
     let mut counts = [0u32; 1];
+    let mut objects = Objects {
+        addresses: &mut addresses,
+        counts: &mut counts,
+        count: 0,
+    };
     let reading = group::contents::Reading {
-        end_of_file: superblock.end_of_file,
-        room,
-        leaf_k: superblock.leaf_k,
-        internal_k: superblock.internal_k,
+        image: file.image,
+        wanted: name,
+        bounds: file.bounds(),
+        leaf_k: file.superblock.leaf_k,
+        internal_k: file.superblock.internal_k,
         auditing: false,
     };
-    let state = group::group::read(
-        image,
-        name,
-        list,
-        &mut addresses,
-        &mut counts,
-        reading,
-        tree,
-        heap,
-        count,
-        0,
-    )?;
-    target_of(state, last)
+    let state = group::group::read(&reading, blocks, &mut objects, tree, heap)?;
+    target_of(state.link, last)
 }
 
 // The component, the last one or not, in the object at `at`.
 pub fn component(
-    image: &[u8],
+    file: File<'_>,
     name: &[u8],
     list: &mut [u64],
-    superblock: Superblock,
-    room: usize,
     at: u64,
     last: bool,
 ) -> Result<Target, Refusal>
-    requires opened { Opened image.now superblock room }
-    requires lent { Lent list.old 0 room }
-    ensures { ComponentIs image.now name.now superblock room at last result }
+    requires opened { Opened file.image.now file.superblock file.room }
+    requires lent { Lent list.old 0 file.room }
+    ensures { ComponentIs file.entry.image.now name.now file.entry.superblock file.entry.room at last result }
 {
-    let entered = superblock::enter_superblock(superblock, list, room)?;
-    let header = header::read(image, superblock.end_of_file, list, entered, room, at)?;
+    let mut blocks = Blocks {
+        words: list,
+        count: 0,
+    };
+    superblock::enter_superblock(file.superblock, &mut blocks, file.room)?;
+    let header = header::read(file.image, &mut blocks, file.bounds(), at)?;
     match header {
-        HeaderRead::Group { tree, heap, count } => find(
-            image, name, list, superblock, room, tree, heap, count, last,
-        ),
-        HeaderRead::Dataset { .. } => Err(Refusal::Fault(answers::NOT_A_GROUP, NO_PLACE)),
-        HeaderRead::Committed(_) => Err(Refusal::Fault(answers::NOT_A_GROUP, NO_PLACE)),
+        HeaderRead::Group { tree, heap } => find(file, name, &mut blocks, tree, heap, last),
+        HeaderRead::Dataset(_) => Err(Refusal::Fault(answers::NOT_A_GROUP, NO_PLACE)),
+        HeaderRead::Committed => Err(Refusal::Fault(answers::NOT_A_GROUP, NO_PLACE)),
     }
 }

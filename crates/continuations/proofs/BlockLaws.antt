@@ -8,27 +8,30 @@ use lib.ListN.{length}
 use Rattle.format.specs.Bytes.{part}
 use Rattle.format.specs.Blocks.{block_of, entry_answer}
 use Rattle.format.specs.declared.Refusal.{Refusal}
-use Rattle.format.specs.Result.{Result}
+use Rattle.format.specs.Result as reader
 use Rattle.format.specs.Walk.{Walk, ret, refuse, Kind, kind_number, shown, continuation_block, ◌>>=◌, run}
 use Rattle.format.specs.Header.{Gathered, messages}
 use Rattle.format.specs.Message.{Message}
 use Rattle.walk.specs.Lent.{blocks_of, length_sum, Lent, Walked, ended, stopped, entering, IsEntered}
-use Rattle.std.specs.Prelude.{Ok, Err}
+use Rattle.std.specs.Prelude.{Result, Ok, Err}
 use Rattle.walk.proofs.BlockList.{entered-zero, entry_answer-zero}
 use Rattle.walk.proofs.Parts.{part_length}
 use Rattle.laws.proofs.SumOfLengths.{lengths-append, lengths-inside, grown-apart, grown-inside}
 use Rattle.laws.proofs.Simulation.{Simulation, start, same-walk, returned, refusal, entered-blocks, entered-grown, block-entered, block_refused}
 use Rattle.sharing.specs.Sharing.{TablesIf, KeptIf}
-use Rattle.scan.specs.Scan.{MessagesAre}
+use Rattle.scan.specs.Scan.{Gathering, with_objects, MessagesAre, Scanned}
 use Rattle.continuations.specs.Counting.{CountingIf}
-use Rattle.continuations.specs.Continuations.{block_walk, NewBlock}
+use Rattle.continuations.specs.Continuations.{with_counts, block_walk, NewBlock, BlockRead}
+use Rattle.continuations.specs.declared.Reading.{Reading}
+use Rattle.tally.specs.declared.Tally.{Tally}
 use Rattle.scan.proofs.ScanLaws.{messages-held}
 
 -- a block that was entered lies inside the end of file
 pub block_inside : (eof room : ℕ) (v : Kind) (a m n : ℕ) (ws : List ℕ) (c : ℕ) →
     Ok c ≡ entering (entry_answer eof room (blocks_of n ws) a m) (kind_number v) a m (blocks_of n ws) n → a + m ≤ eof
 block_inside eof room v a m n ws c p =
-    (entry_answer-zero eof room (blocks_of n ws) a m (entered-zero (kind_number v) a m (blocks_of n ws) (entry_answer eof room (blocks_of n ws) a m) n c p).0).0
+    let answer = entry_answer eof room (blocks_of n ws) a m in
+    (entry_answer-zero eof room (blocks_of n ws) a m (entered-zero (kind_number v) a m (blocks_of n ws) answer n c p).0).0
 
 -- A block of so many bytes that was entered: what is found in it can be counted.
 module _ (eof room : ℕ) (v : Kind) (a m n : ℕ) (ws ws₁ : List ℕ) (l : Lent ws n room)
@@ -89,7 +92,7 @@ module _ (auditing : Bool) (eof : ℕ) (ws : List ℕ) (n : ℕ) (addresses coun
     links = omega (arith, (h e).links);
   }
 
-module _ {S : Type 0} (visit : Message → S → Result S) (im : List ℕ) (eof room : ℕ) (ws : List ℕ) (n address size : ℕ) (found : S) (l : Lent ws n room)
+module _ {S : Type 0} (visit : Message → S → reader.Result S) (im : List ℕ) (eof room : ℕ) (ws : List ℕ) (n address size : ℕ) (found : S) (l : Lent ws n room)
     (ws₁ : List ℕ)
     (q : IsEntered (entry_answer eof room (blocks_of n ws) address size) ws n 3 address size ws₁) where
   at_entry : Simulation im eof room (block_walk visit address size found) n ws (block_walk visit address size found) n ws
@@ -132,3 +135,25 @@ module _ {S : Type 0} (visit : Message → S → Result S) (im : List ℕ) (eof 
             blocks = entered-blocks eof room continuation_block address size n ws ws₁ l q m e;
             counted = z.1;
           }
+
+-- The block's messages were read, or refused: so was the continuation.
+module _ (im ws a c m : List ℕ) (q : Reading) (n address size : ℕ) (g : Gathering) (l : Lent ws n q.bounds.room) (i : q.bounds.end_of_file ≤ length im)
+    (ws₁ : List ℕ)
+    (e : IsEntered (entry_answer q.bounds.end_of_file q.bounds.room (blocks_of n ws) address size) ws n 3 address size ws₁) (n' : ℕ)
+    (v : Ok n' ≡ entering (entry_answer q.bounds.end_of_file q.bounds.room (blocks_of n ws) address size) 3 address size (blocks_of n ws) n)
+    (k : CountingIf q.auditing ws a c m q.bounds.end_of_file n g.objects 16) (a' c' m' : List ℕ) where
+  pub block-scanned : (r : Result Tally Refusal) (o : ℕ) →
+      Scanned im address (address + size) q.auditing a c m g a' c' m' (with_objects r o) →
+      BlockRead im ws a c m q n address size g ws₁ a' c' m' (with_counts r o n')
+  block-scanned (Ok t) o h =
+      let d : address + size - address ≡ size = omega arith in
+      record {
+        new = h.0;
+        walked = scanned _ _ _ _ _ _ _ _ _ l _ e _ v i _ h.1;
+        block = new-block _ _ _ _ _ _ _ _ _ l _ e _ v i _ h.1;
+        tally = h.2;
+        counting =
+            counting_kept _ _ _ _ _ _ _ _ 16 _ _ _ _ _
+            (counting-entered _ _ continuation_block _ _ _ _ _ l e _ v _ _ _ _ _ 16 k) (rw d at h.3);
+      }
+  block-scanned (Err x) o h = not-scanned _ _ _ _ _ _ _ _ _ l _ e _ v i x h

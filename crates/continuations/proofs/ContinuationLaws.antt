@@ -1,7 +1,7 @@
 -- Laws of the continuations of a header: the cursor over those that wait, and the walk that enters them.
 use Prim.Native.Nat.{ℕ, zero, suc, ◌+◌, ◌-◌, ◌*◌, ◌≤◌, ◌<◌}
 use mathlib.Core.List.{List, [], ◌∷◌, ◌++◌, append_assoc, append-nil}
-use mathlib.Core.Logic.{◌⊎◌, inl, inr, ⊎_elim}
+use mathlib.Core.Logic.{inr, ⊎_elim}
 use mathlib.Core.Path.{◌≡◌, refl, ap, sym, ◌∙◌, subst}
 use native.Mathlib.Omega.{arith}
 use lib.ListN.{length, get_or, drop_of_length-le}
@@ -15,6 +15,8 @@ use Rattle.format.specs.Walk.{Walk, ret, enter_block, continuation_block, ◌>>=
 use Rattle.format.specs.Header.{Gathered, continuations}
 use Rattle.format.specs.Message.{Message, of_type}
 use Rattle.walk.specs.Numbers.{Number}
+use Rattle.walk.specs.Entered.{SameWords}
+use Rattle.walk.specs.declared.blocks.Blocks.{Blocks}
 use Rattle.walk.specs.Lent.{blocks_of, Lent, Walked, ended, stopped}
 use Rattle.walk.proofs.BlockList.{length-blocks_of, blocks-next}
 use Rattle.walk.proofs.Parts.{part-part}
@@ -22,57 +24,49 @@ use Rattle.laws.proofs.Bind.{bind_assoc}
 use Rattle.laws.proofs.Simulation.{Simulation, same-walk, returned, callee-stopped, callee-done}
 use Rattle.tally.specs.Tally.{message_at, Tallied}
 use Rattle.sharing.specs.Sharing.{found_of, visit_message}
-use Rattle.scan.specs.Scan.{Holds, TalliedWith, NextIs}
+use Rattle.scan.specs.Scan.{Gathering, Holds, TalliedWith, NextIs}
 use Rattle.continuations.specs.Continuations.{Later, blocks_from, block_walk, NewBlock, Waiting, Next, Sought}
 use Rattle.continuations.specs.Counting.{CountingIf, Lending}
 use Rattle.tally.specs.declared.Tally.{Tally}
-use Rattle.scan.specs.declared.Gathering.{Gathering}
 use Rattle.continuations.specs.declared.Reading.{Reading}
 use Rattle.continuations.specs.declared.Cursor.{Cursor}
 
 abbrev pub cursor : ℕ → ℕ → ℕ → Cursor
 cursor block at end = record { block = block; at = at; end = end }
 
--- The cursor after a search in one block: at its end, with all that waits in later blocks, or at the first.
-abbrev pub Searched : List ℕ → List ℕ → ℕ → Cursor → List Message → Type 0
-Searched im ws count c waiting =
-    ((c.at ≡ c.end) × Later im (blocks_from count (c.block + 1) ws) waiting × (c.block < count)) ⊎ ((c.at < c.end) × Next im ws count c waiting)
+-- A search in the cursor's own block: it finds the first continuation that waits, or all that wait stand in later blocks.
+module _ (im ws : List ℕ) (count : ℕ) (c : Cursor) (waiting : List Message) (at : ℕ) (w : Waiting im ws count c waiting) (n : NextIs im c.at c.end at) where
+  pub found-here : at < c.end → Sought im ws count (cursor c.block at c.end) waiting
+  found-here l =
+      ⊎_elim (λ e. absurd (omega (arith, e.0)))
+      (λ k.
+      inr (
+        k.0,
+        record {
+          rest = of_type 0x0010 k.1.rest ++ w.later;
+          first = w.is ∙ rw k.1.first;
+          next = record { here = k.1.rest; later = w.later; block = w.block; holds = k.1.holds; behind = w.behind; is = refl };
+          long = k.1.long;
+        },
+      ))
+      (n w.here w.holds)
 
-pub searched : (im ws : List ℕ) (count : ℕ) (c : Cursor) (waiting : List Message) (at : ℕ) → Waiting im ws count c waiting → NextIs im c.at c.end at →
-    Searched im ws count (cursor c.block at c.end) waiting
-searched im ws count c waiting at w n =
-    ⊎_elim (λ e. inl (e.0, subst (λ (l : List Message). Later im (blocks_from count (c.block + 1) ws) l) (sym (w.is ∙ rw e.1)) w.behind, w.block))
-    (λ k.
-    inr (
-      k.0,
-      record {
-        rest = of_type 0x0010 k.1.rest ++ w.later;
-        first = w.is ∙ rw k.1.first;
-        next = record { here = k.1.rest; later = w.later; block = w.block; holds = k.1.holds; behind = w.behind; is = refl };
-        long = k.1.long;
-      },
-    ))
-    (n w.here w.holds)
+  pub none-here : c.end ≤ at → Later im (blocks_from count (c.block + 1) ws) waiting
+  none-here l =
+      ⊎_elim (λ e. subst (λ (ms : List Message). Later im (blocks_from count (c.block + 1) ws) ms) (sym (w.is ∙ rw e.1)) w.behind)
+      (λ k. absurd (omega (arith, k.0)))
+      (n w.here w.holds)
 
--- the next block of the list, where the last search ended at its block's end
-pub next-block : (im ws : List ℕ) (count b at end : ℕ) (waiting : List Message) → b + 1 < count → end ≤ at → Searched im ws count (cursor b at end) waiting →
-    Waiting im ws count (cursor (b + 1) (get_or ws (4 * (b + 1)) 0) (get_or ws (4 * (b + 1)) 0 + get_or ws (4 * (b + 1) + 1) 0)) waiting
-next-block im ws count b at end waiting l h =
-    ⊎_elim
-    (λ e.
-    let n = subst (λ (bs : List Block). Later im bs waiting) (blocks-next count (b + 1) ws l) e.1 in
-    record { here = n.0; later = n.1; block = l; holds = n.2; behind = n.4; is = n.3 })
-    (λ e. absurd (omega (arith, e.0)))
+module _ (im ws : List ℕ) (count b : ℕ) (waiting : List Message) (h : Later im (blocks_from count b ws) waiting) where
+  -- the next block of the list
+  pub next-block : b < count → Waiting im ws count (cursor b (get_or ws (4 * b) 0) (get_or ws (4 * b) 0 + get_or ws (4 * b + 1) 0)) waiting
+  next-block l =
+      let n = subst (λ (bs : List Block). Later im bs waiting) (blocks-next count b ws l) h in
+      record { here = n.0; later = n.1; block = l; holds = n.2; behind = n.4; is = n.3 }
 
--- the last block
-pub last_block : (im ws : List ℕ) (count b at end : ℕ) (waiting : List Message) → count ≤ b + 1 → Searched im ws count (cursor b at end) waiting →
-    Sought im ws count (cursor b at end) waiting
-last_block im ws count b at end waiting l =
-    ⊎_elim
-    (λ e.
-    let none = drop_of_length-le (blocks_of count ws) {i = b + 1} (rw length-blocks_of l) in
-    inl (e.0, subst (λ (bs : List Block). Later im bs waiting) none e.1))
-    (λ e. inr e)
+  -- there is no block more
+  pub none-later : count ≤ b → waiting ≡ []
+  none-later l = subst (λ (bs : List Block). Later im bs waiting) (drop_of_length-le (blocks_of count ws) {i = b} (rw length-blocks_of l)) h
 
 -- A block more at the end of the list.
 later_more : (im : List ℕ) (bs : List Block) (later new : List Message) (b : Block) → Later im bs later → Holds im b.at (b.at + b.size) new →
@@ -222,24 +216,25 @@ module _ {S : Type 0} (visit : Message → S → Result S) (im : List ℕ) (eof 
         lasts = omega (arith, f.lasts, fuel-left.1, b.counted);
       }
 
+-- the list lent stays the same from one function to the next
+pub same_words-then : (b c d : Blocks) → SameWords b c → SameWords c d → SameWords b d
+same_words-then b c d s t = record { same = t.same ∙ s.same; long = t.long ∙ s.long }
+
 -- The loop in the lists that were lent and are now ws, a, c, m: what it has come to, for all that it may have been begun with.
 pub record Loop (im ws₀ a₀ c₀ m₀ : List ℕ) (q : Reading) (count : ℕ) (g₀ : Gathering) (k₀ : Cursor) (ws a c m : List ℕ) (n : ℕ) (g : Gathering) (k : Cursor) :
     Type 0 where
-  pub going : (fuel : ℕ) (waiting sofar : List Message) → blocks_most < count + fuel → Lent ws₀ count q.room → Sought im ws₀ count k₀ waiting →
+  pub going : (fuel : ℕ) (waiting sofar : List Message) → blocks_most < count + fuel → Lent ws₀ count q.bounds.room → Sought im ws₀ count k₀ waiting →
       Tallied im sofar g₀.tally →
-      Following (visit_message q.auditing) im q.end_of_file q.room
+      Following (visit_message q.auditing) im q.bounds.end_of_file q.bounds.room
       (continuations (visit_message q.auditing) fuel waiting (gathered sofar (found_of a₀ c₀ m₀ g₀.objects))) count ws₀ k g.tally
       (found_of a c m g.objects) n ws
-  pub counting : CountingIf q.auditing ws a c m q.end_of_file n g.objects 16
-  pub addresses_same : length a ≡ length a₀
-  pub counts_same : length c ≡ length c₀
-  pub marks_same : length m ≡ length m₀
+  pub counting : CountingIf q.auditing ws a c m q.bounds.end_of_file n g.objects 16
 
 -- what is known in the loop, by what it was begun with
 module _ {im ws₀ a₀ c₀ m₀ : List ℕ} {q : Reading} {count : ℕ} {g₀ : Gathering} {k₀ : Cursor} {ws a c m : List ℕ} {n : ℕ} {g : Gathering} {k : Cursor}
     (r : Loop im ws₀ a₀ c₀ m₀ q count g₀ k₀ ws a c m n g k) (p : Lending im ws₀ a₀ c₀ m₀ q count g₀.objects 16) {waiting sofar : List Message}
     (o : Sought im ws₀ count k₀ waiting) (t : Tallied im sofar g₀.tally) where
-  pub loop-now : Following (visit_message q.auditing) im q.end_of_file q.room
+  pub loop-now : Following (visit_message q.auditing) im q.bounds.end_of_file q.bounds.room
       (continuations (visit_message q.auditing) (blocks_most + 1) waiting (gathered sofar (found_of a₀ c₀ m₀ g₀.objects))) count ws₀ k g.tally
       (found_of a c m g.objects) n ws
   loop-now = r.going (blocks_most + 1) waiting sofar (omega arith) p.lent o t

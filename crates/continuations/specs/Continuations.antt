@@ -11,11 +11,16 @@ use Rattle.format.specs.Sharing.{Found}
 use Rattle.walk.specs.Lent.{blocks_of, ended, stopped, Walked}
 use Rattle.tally.specs.Tally.{message_at, Tallied}
 use Rattle.sharing.specs.Sharing.{found_of, visit_message}
-use Rattle.scan.specs.Scan.{Holds, TalliedWith}
+use Rattle.scan.specs.Scan.{Gathering, gathering, Holds, TalliedWith}
 use Rattle.continuations.specs.Counting.{CountingIf}
-use Rattle.scan.specs.declared.Gathering.{Gathering}
+use Rattle.tally.specs.declared.Tally.{Tally}
 use Rattle.continuations.specs.declared.Reading.{Reading}
 use Rattle.continuations.specs.declared.Cursor.{Cursor}
+
+-- a tally, with the numbers of objects then found and of blocks then entered
+abbrev pub with_counts : Result Tally Refusal → (objects count : ℕ) → Result (Gathering × ℕ) Refusal
+with_counts (Ok t) objects count = Ok (gathering t objects, count)
+with_counts (Err r) objects count = Err r
 
 -- the continuation messages that continuation blocks hold, one block after the other
 abbrev pub Later : List ℕ → List Block → List Message → Type 0
@@ -66,14 +71,14 @@ abbrev pub GatheredIs : List ℕ → Reading → List ℕ → ℕ → Walk (Gath
 GatheredIs im q ws count w ws' addresses' counts' marks' (Ok g) =
     (all : List Message)
     × Walked ws ws' (ended (record { all = all; found = found_of addresses' counts' marks' g.0.objects }) g.1)
-    (run im q.end_of_file q.room w (blocks_of count ws))
+    (run im q.bounds.end_of_file q.bounds.room w (blocks_of count ws))
     × Tallied im all g.0.tally
-GatheredIs im q ws count w ws' addresses' counts' marks' (Err r) = Walked ws ws' (stopped r) (run im q.end_of_file q.room w (blocks_of count ws))
+GatheredIs im q ws count w ws' addresses' counts' marks' (Err r) = Walked ws ws' (stopped r) (run im q.bounds.end_of_file q.bounds.room w (blocks_of count ws))
 
 -- what is counted is still bounded
 abbrev pub CountingOn : Reading → List ℕ → List ℕ → List ℕ → List ℕ →
     Result (Gathering × ℕ) Refusal → Type 0
-CountingOn q ws addresses counts marks (Ok g) = CountingIf q.auditing ws addresses counts marks q.end_of_file g.1 g.0.objects 16
+CountingOn q ws addresses counts marks (Ok g) = CountingIf q.auditing ws addresses counts marks q.bounds.end_of_file g.1 g.0.objects 16
 CountingOn q ws addresses counts marks (Err r) = Unit {0}
 
 -- a continuation was read
@@ -81,11 +86,11 @@ pub record BlockDone (im ws addresses counts marks : List ℕ) (q : Reading) (co
     (g' : Gathering) (n : ℕ) : Type 0 where
   pub new : List Message
   pub walked : Walked ws ws' (ended (record { all = new; found = found_of addresses' counts' marks' g'.objects }) n)
-      (run im q.end_of_file q.room (block_walk (visit_message q.auditing) address size (found_of addresses counts marks g.objects))
+      (run im q.bounds.end_of_file q.bounds.room (block_walk (visit_message q.auditing) address size (found_of addresses counts marks g.objects))
       (blocks_of count ws))
   pub block : NewBlock im ws count address size ws' n new
   pub tally : TalliedWith im new g.tally g'.tally
-  pub counting : CountingIf q.auditing ws' addresses' counts' marks' q.end_of_file n g'.objects 16
+  pub counting : CountingIf q.auditing ws' addresses' counts' marks' q.bounds.end_of_file n g'.objects 16
 
 -- a continuation was read, or refused
 abbrev pub BlockRead : List ℕ → List ℕ → List ℕ → List ℕ → List ℕ → Reading → ℕ → ℕ → ℕ → Gathering → List ℕ → List ℕ → List ℕ → List ℕ →
@@ -93,5 +98,5 @@ abbrev pub BlockRead : List ℕ → List ℕ → List ℕ → List ℕ → List 
 BlockRead im ws addresses counts marks q count address size g ws' addresses' counts' marks' (Ok g') =
     BlockDone im ws addresses counts marks q count address size g ws' addresses' counts' marks' g'.0 g'.1
 BlockRead im ws addresses counts marks q count address size g ws' addresses' counts' marks' (Err r) =
-    Walked ws ws' (stopped r) (run im q.end_of_file q.room (block_walk (visit_message q.auditing) address size
+    Walked ws ws' (stopped r) (run im q.bounds.end_of_file q.bounds.room (block_walk (visit_message q.auditing) address size
     (found_of addresses counts marks g.objects)) (blocks_of count ws))

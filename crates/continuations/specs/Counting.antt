@@ -22,7 +22,7 @@ abbrev pub CountingIf : Bool → List ℕ → List ℕ → List ℕ → List ℕ
 CountingIf auditing ws addresses counts marks eof count objects spare = auditing ≡ true → Counting ws addresses counts marks eof count objects spare
 
 pub record Lending (im ws addresses counts marks : List ℕ) (r : Reading) (count objects spare : ℕ) : Type 0 where
-  pub lent : Lent ws count r.room
-  pub most : r.room ≤ blocks_most
-  pub file : r.end_of_file ≤ length im
-  pub counting : CountingIf r.auditing ws addresses counts marks r.end_of_file count objects spare
+  pub lent : Lent ws count r.bounds.room
+  pub most : r.bounds.room ≤ blocks_most
+  pub file : r.bounds.end_of_file ≤ length im
+  pub counting : CountingIf r.auditing ws addresses counts marks r.bounds.end_of_file count objects spare

@@ -77,7 +77,8 @@ module _ (im : List ℕ) (eof room n : ℕ) (ws : List ℕ) (lent : Lent ws n ro
         pub empty-data : s < 1 → Walked ws ws (ended tt n) (run im eof room (data_walk (layout_of l)) (blocks_of n ws))
         empty-data k = nothing-entered (rw e (empty-none a s h k))
 
-        pub contiguous-data : 1 ≤ s → (ws₁ : List ℕ) (r : Result ℕ Refusal) → r ≡ entering (entry_answer eof room (blocks_of n ws) a s) 8 a s (blocks_of n ws) n →
+        pub contiguous-data : 1 ≤ s → (ws₁ : List ℕ) (r : Result ℕ Refusal) →
+            r ≡ entering (entry_answer eof room (blocks_of n ws) a s) 8 a s (blocks_of n ws) n →
             IsEntered (entry_answer eof room (blocks_of n ws) a s) ws n 8 a s ws₁ →
             Walked ws ws₁ (entry_end r) (run im eof room (data_walk (layout_of l)) (blocks_of n ws))
         unfolding data_walk
@@ -123,7 +124,8 @@ module _ (im : List ℕ) (eof room n : ℕ) (ws : List ℕ) (lent : Lent ws n ro
       messages-read : Simulation im eof room storage n ws (data_walk (layout_of d.layout) >> ret value) n ws
       messages-read = callee-value layouts (λ d. data_walk d.layout >> ret d) value (rw f at (sym e)) begun
 
-      module _ (ws₁ : List ℕ) {r : Result ℕ Refusal} (h : Walked ws ws₁ (entry_end r) (run im eof room (data_walk (layout_of d.layout)) (blocks_of n ws))) where
+      module _ (ws₁ : List ℕ) {r : Result ℕ Refusal}
+          (h : Walked ws ws₁ (entry_end r) (run im eof room (data_walk (layout_of d.layout)) (blocks_of n ws))) where
         pub data-refused : {x : Refusal} → r ≡ Err x → Walked ws ws₁ (stopped x) (run im eof room storage (blocks_of n ws))
         data-refused g = callee-stopped ws₁ (data_walk (layout_of d.layout)) (λ _. ret value) messages-read (rw g at h)
 
@@ -142,7 +144,9 @@ module _ (im : List ℕ) (eof room n : ℕ) (ws : List ℕ) (lent : Lent ws n ro
   behind v = storage_walk v.space v.type (message_of im 0x0008 layout)
 
   opened : Simulation im eof room whole n ws (both >>= behind) n ws
-  opened = same-walk _ (dataset-split (message_of im 0x0001 space) (message_of im 0x0003 type) (message_of im 0x0008 layout)) (start im eof room whole n ws lent)
+  opened =
+      same-walk _ (dataset-split (message_of im 0x0001 space) (message_of im 0x0003 type) (message_of im 0x0008 layout))
+      (start im eof room whole n ws lent)
 
   module _ {m : Result Parts Refusal} (e : parts_result (body_of im space) m ≡ both) where
     pub parts-refused : {x : Refusal} → m ≡ Err x → Walked ws ws (stopped x) (run im eof room whole (blocks_of n ws))

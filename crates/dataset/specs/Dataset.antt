@@ -92,12 +92,8 @@ storage_of im space p layout =
 abbrev pub Shaped : List ℕ → Dataset → Type 0
 Shaped b d = SpaceInside b (Ok d.dimensions)
 
-abbrev pub MessagesShaped : List ℕ → Result Dataset Refusal → Type 0
-MessagesShaped b (Ok d) = Shaped b d
-MessagesShaped b (Err r) = Unit {0}
-
-abbrev pub DatasetShaped : List ℕ → Result (Dataset × ℕ) Refusal → Type 0
-DatasetShaped b (Ok d) = Shaped b d.0
+abbrev pub DatasetShaped : List ℕ → Result Dataset Refusal → Type 0
+DatasetShaped b (Ok d) = Shaped b d
 DatasetShaped b (Err r) = Unit {0}
 
 -- the messages' answer as the end of their walk
@@ -105,7 +101,7 @@ abbrev pub messages_read : List ℕ → Result Dataset Refusal → Walk Rattle.f
 messages_read b (Ok d) = ret (dataset_of b d)
 messages_read b (Err r) = refuse r
 
--- how the dataset walk ended
-abbrev pub dataset_end : List ℕ → Result (Dataset × ℕ) Refusal → Ended Rattle.format.specs.Dataset.Dataset
-dataset_end b (Ok d) = ended (dataset_of b d.0) d.1
-dataset_end b (Err r) = stopped r
+-- how the dataset walk ended, with so many blocks
+abbrev pub dataset_end : List ℕ → ℕ → Result Dataset Refusal → Ended Rattle.format.specs.Dataset.Dataset
+dataset_end b count (Ok d) = ended (dataset_of b d) count
+dataset_end b count (Err r) = stopped r

@@ -4,21 +4,23 @@ ghost use Rattle.format.specs.Dataset.{read_type, data_walk, dataset_walk};
 ghost use Rattle.format.specs.Layout.{read_layout};
 ghost use Rattle.format.specs.Walk.{run};
 ghost use Rattle.walk.specs.Lent.{Lent, Walked, blocks_of, entry_end};
+ghost use Rattle.walk.specs.Entered.{with_count, SameWords};
 ghost use Rattle.message.specs.Message.{message_of};
 ghost use Rattle.dataspace.specs.Dataspace.{SpaceRead};
 ghost use Rattle.datatype.specs.Datatype.{type_of, type_result};
 ghost use Rattle.layout.specs.Layout.{layout_of, layout_result};
 ghost use Rattle.dataset.specs.Dataset.{Inside, BodiesInside, SizesInside, StorageInside, body_of, dataset_of, data_fills};
-ghost use Rattle.dataset.specs.Dataset.{parts_of, parts_walk, parts_result, PartsShaped, layout_walk, messages_read, MessagesShaped};
+ghost use Rattle.dataset.specs.Dataset.{parts_of, parts_walk, parts_result, PartsShaped, layout_walk, messages_read};
 ghost use Rattle.dataset.specs.Dataset.{storage_of, dataset_end, DatasetShaped};
 
 use dataspace::Dimensions;
 use datatype::Datatype;
 use format::{Refusal, answers};
 use layout::Layout;
-use message::Body;
+use message::{Bodies, Body};
+use walk::blocks::{Blocks, Bounds};
+use walk::kinds;
 use walk::numbers::UNDEFINED_ADDRESS;
-use walk::{blocks, kinds};
 
 // What the messages say.
 #[derive(Clone, Copy)]
@@ -103,126 +105,110 @@ fn filled(image: &[u8], space: Body, dataset: Dataset) -> bool
 }
 
 // Reads the dataspace message and then the datatype message, each whole: what they say, or 3 or 11.
-pub fn read_parts(image: &[u8], space: Body, datatype: Body) -> Result<Parts, Refusal>
-    requires inside { Inside image.now space }
-    requires inside_2 { Inside image.now datatype }
-    ensures result_value { parts_result (body_of image.now space) result
-        ≡ parts_walk (message_of image.now 0x0001 space) (message_of image.now 0x0003 datatype) }
-    ensures parts_shaped { PartsShaped (body_of image.now space) result }
+pub fn read_parts(image: &[u8], bodies: Bodies) -> Result<Parts, Refusal>
+    requires inside { Inside image.now bodies.space }
+    requires inside_2 { Inside image.now bodies.datatype }
+    ensures result_value { parts_result (body_of image.now bodies.space) result
+        ≡ parts_walk (message_of image.now 0x0001 bodies.space) (message_of image.now 0x0003 bodies.datatype) }
+    ensures parts_shaped { PartsShaped (body_of image.now bodies.space) result }
 {
-    let dimensions = read_space(image, space).map_err(|answer| Refusal::Fault(
+    let dimensions = read_space(image, bodies.space).map_err(|answer| Refusal::Fault(
         answer,
-        head_of(space),
+        head_of(bodies.space),
     ))?;
-    let element = read_type(image, datatype).map_err(|answer| Refusal::Fault(
+    let datatype = read_type(image, bodies.datatype).map_err(|answer| Refusal::Fault(
         answer,
-        head_of(datatype),
+        head_of(bodies.datatype),
     ))?;
     Ok(Parts {
         dimensions,
-        datatype: element,
+        datatype,
     })
 }
 
 // Reads the layout message behind the other two, and compares the data's size: what all three say, or 3 or 11.
-fn messages(image: &[u8], space: Body, parts: Parts, layout: Body) -> Result<Dataset, Refusal>
-    requires { StorageInside image.now space parts layout }
-    ensures result_value { messages_read (body_of image.now space) result
-        ≡ layout_walk (parts_of (body_of image.now space) parts).space (type_of parts.datatype) (message_of image.now 0x0008 layout) }
-    ensures messages_shaped { MessagesShaped (body_of image.now space) result }
+fn messages(image: &[u8], bodies: Bodies, parts: Parts) -> Result<Dataset, Refusal>
+    requires { StorageInside image.now bodies.space parts bodies.layout }
+    ensures result_value { messages_read (body_of image.now bodies.space) result
+        ≡ layout_walk (parts_of (body_of image.now bodies.space) parts).space (type_of parts.datatype)
+        (message_of image.now 0x0008 bodies.layout) }
+    ensures dataset_shaped { DatasetShaped (body_of image.now bodies.space) result }
 {
-    let stored = read_layout(image, layout).map_err(|answer| Refusal::Fault(
+    let layout = read_layout(image, bodies.layout).map_err(|answer| Refusal::Fault(
         answer,
-        head_of(layout),
+        head_of(bodies.layout),
     ))?;
     let dataset = Dataset {
         dimensions: parts.dimensions,
         datatype: parts.datatype,
-        layout: stored,
+        layout,
     };
-    if !filled(image, space, dataset) {
-        return Err(Refusal::Fault(answers::DATASET_UNSOUND, head_of(layout)));
+    if !filled(image, bodies.space, dataset) {
+        return Err(Refusal::Fault(answers::DATASET_UNSOUND, head_of(bodies.layout)));
     }
     Ok(dataset)
 }
 
 // Enters the data's block: that of contiguous data with a defined address and a length above 0. No byte of the image is
 // read for it, so that the run is the same on every image.
-fn enter_data(
-    end_of_file: u64,
-    blocks: &mut [u64],
-    count: usize,
-    room: usize,
-    layout: Layout,
-) -> Result<usize, Refusal>
-    requires { Lent blocks.old count room }
-    ensures { (im : List ℕ) → Walked blocks.old blocks.new (entry_end result)
-        (run im end_of_file room (data_walk (layout_of layout)) (blocks_of count blocks.old)) }
+fn enter_data(blocks: &mut Blocks<'_>, bounds: Bounds, layout: Layout) -> Result<(), Refusal>
+    requires { Lent blocks.old.words.now blocks.old.count bounds.room }
+    ensures walked { (im : List ℕ) → Walked blocks.old.words.now blocks.new.words.now (entry_end (with_count result blocks.new.count))
+        (run im bounds.end_of_file bounds.room (data_walk (layout_of layout)) (blocks_of blocks.old.count blocks.old.words.now)) }
+    ensures kept { SameWords blocks.old blocks.new }
 {
     match layout {
-        Layout::Compact { .. } => Ok(count),
+        Layout::Compact { .. } => Ok(()),
         Layout::Contiguous { address, size } => {
             let undefined = address == UNDEFINED_ADDRESS;
             if undefined {
-                return Ok(count);
+                return Ok(());
             }
             if size < 1 {
-                return Ok(count);
+                return Ok(());
             }
-            blocks::enter(end_of_file, blocks, count, room, kinds::DATA, address, size)
+            blocks.enter(bounds, kinds::DATA, address, size)
         }
     }
 }
 
-// The dataset walk behind the parts: reads the layout and enters the data's block. The count of blocks is the new one.
+// The dataset walk behind the parts: reads the layout and enters the data's block.
 pub fn read_storage(
     image: &[u8],
-    end_of_file: u64,
-    blocks: &mut [u64],
-    count: usize,
-    room: usize,
-    space: Body,
+    blocks: &mut Blocks<'_>,
+    bounds: Bounds,
+    bodies: Bodies,
     parts: Parts,
-    layout: Body,
-) -> Result<(Dataset, usize), Refusal>
-    requires lent { Lent blocks.old count room }
-    requires storage_inside { StorageInside image.now space parts layout }
-    ensures walked { Walked blocks.old blocks.new (dataset_end (body_of image.now space) result)
-        (run image.now end_of_file room (storage_of image.now space parts layout) (blocks_of count blocks.old)) }
-    ensures dataset_shaped { DatasetShaped (body_of image.now space) result }
+) -> Result<Dataset, Refusal>
+    requires lent { Lent blocks.old.words.now blocks.old.count bounds.room }
+    requires storage_inside { StorageInside image.now bodies.space parts bodies.layout }
+    ensures walked { Walked blocks.old.words.now blocks.new.words.now (dataset_end (body_of image.now bodies.space) blocks.new.count result)
+        (run image.now bounds.end_of_file bounds.room (storage_of image.now bodies.space parts bodies.layout)
+        (blocks_of blocks.old.count blocks.old.words.now)) }
+    ensures dataset_shaped { DatasetShaped (body_of image.now bodies.space) result }
+    ensures kept { SameWords blocks.old blocks.new }
 {
-    let dataset = messages(image, space, parts, layout)?;
-    let entered = enter_data(end_of_file, blocks, count, room, dataset.layout)?;
-    Ok((dataset, entered))
+    let dataset = messages(image, bodies, parts)?;
+    enter_data(blocks, bounds, dataset.layout)?;
+    Ok(dataset)
 }
 
-// The dataset walk: reads the messages and enters the data's block. The count of blocks is the new one.
+// The dataset walk: reads the messages and enters the data's block.
 pub fn read(
     image: &[u8],
-    end_of_file: u64,
-    blocks: &mut [u64],
-    count: usize,
-    room: usize,
-    space: Body,
-    datatype: Body,
-    layout: Body,
-) -> Result<(Dataset, usize), Refusal>
-    requires lent { Lent blocks.old count room }
-    requires bodies_inside { BodiesInside image.now space datatype layout }
-    ensures walked { Walked blocks.old blocks.new (dataset_end (body_of image.now space) result)
-        (run image.now end_of_file room (dataset_walk (message_of image.now 0x0001 space)
-        (message_of image.now 0x0003 datatype) (message_of image.now 0x0008 layout)) (blocks_of count blocks.old)) }
-    ensures dataset_shaped { DatasetShaped (body_of image.now space) result }
+    blocks: &mut Blocks<'_>,
+    bounds: Bounds,
+    bodies: Bodies,
+) -> Result<Dataset, Refusal>
+    requires lent { Lent blocks.old.words.now blocks.old.count bounds.room }
+    requires bodies_inside { BodiesInside image.now bodies.space bodies.datatype bodies.layout }
+    ensures walked { Walked blocks.old.words.now blocks.new.words.now (dataset_end (body_of image.now bodies.space) blocks.new.count result)
+        (run image.now bounds.end_of_file bounds.room (dataset_walk (message_of image.now 0x0001 bodies.space)
+        (message_of image.now 0x0003 bodies.datatype) (message_of image.now 0x0008 bodies.layout))
+        (blocks_of blocks.old.count blocks.old.words.now)) }
+    ensures dataset_shaped { DatasetShaped (body_of image.now bodies.space) result }
+    ensures kept { SameWords blocks.old blocks.new }
 {
-    let parts = read_parts(image, space, datatype)?;
-    read_storage(
-        image,
-        end_of_file,
-        blocks,
-        count,
-        room,
-        space,
-        parts,
-        layout,
-    )
+    let parts = read_parts(image, bodies)?;
+    read_storage(image, blocks, bounds, bodies, parts)
 }

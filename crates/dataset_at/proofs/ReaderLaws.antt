@@ -5,7 +5,7 @@ use mathlib.Core.Path.{◌≡◌, refl}
 use lib.ListN.{length}
 use Rattle.format.specs.Blocks.{Block}
 use Rattle.format.specs.declared.Refusal.{Refusal}
-use Rattle.format.specs.Walk.{Walk, ret, refuse, fault, ◌>>=◌, ◌>>◌, run}
+use Rattle.format.specs.Walk.{Walk, ret, refuse, fault, ◌>>=◌, run}
 use Rattle.format.specs.Superblock as definitions
 use Rattle.format.specs.Superblock.{superblock_walk}
 use Rattle.format.specs.Message.{Message}
@@ -30,9 +30,8 @@ module _ (im : List ℕ) (eof room : ℕ) (ws ws₁ : List ℕ) where
   reader-stopped x h = record { walked = h; lent = tt; readable = tt }
 
   -- what is left of a walk was walked
-  reader-last : {w₀ w : Walk datasets.Dataset} {n₀ n : ℕ} {ws₀ : List ℕ} {r : Result DatasetAt Refusal} → Simulation im eof room w₀ n₀ ws₀ w n ws → ReaderIs im eof room w
-      (blocks_of n ws) ws ws₁ r →
-      ReaderIs im eof room w₀ (blocks_of n₀ ws₀) ws₀ ws₁ r
+  reader-last : {w₀ w : Walk datasets.Dataset} {n₀ n : ℕ} {ws₀ : List ℕ} {r : Result DatasetAt Refusal} → Simulation im eof room w₀ n₀ ws₀ w n ws →
+      ReaderIs im eof room w (blocks_of n ws) ws ws₁ r → ReaderIs im eof room w₀ (blocks_of n₀ ws₀) ws₀ ws₁ r
   reader-last s h = record { walked = callee-last ws₁ s h.walked; lent = h.lent; readable = h.readable }
 
 module _ (im : List ℕ) (eof room : ℕ) (ws : List ℕ) (count : ℕ) (l : Lent ws count room) (ws₁ : List ℕ) where
@@ -72,7 +71,8 @@ module _ (im : List ℕ) (eof room : ℕ) (ws : List ℕ) (count : ℕ) (l : Len
 
       pub dataset-found : (space type layout : Message) (ws₂ : List ℕ) (r : Result DatasetAt Refusal) → Walked ws ws₁ (ended (dataset space type layout) n)
           (run im eof room (header_walk at) (blocks_of count ws)) →
-          ReaderIs im eof room (dataset_walk space type layout) (blocks_of n ws₁) ws₁ ws₂ r → ReaderIs im eof room (describe_walk at) (blocks_of count ws) ws ws₂ r
+          ReaderIs im eof room (dataset_walk space type layout) (blocks_of n ws₁) ws₁ ws₂ r →
+          ReaderIs im eof room (describe_walk at) (blocks_of count ws) ws ws₂ r
       unfolding describes.dataset_of
       dataset-found space type layout ws₂ r h m = reader-last im eof room ws₁ ws₂ (at-kind (dataset space type layout) n same h) m
 
@@ -87,7 +87,7 @@ module _ (im : List ℕ) (eof room : ℕ) (ws : List ℕ) (l : Lent ws 0 room) (
     unfolding blocks_of
     at-header = callee-done ws₁ (superblock_walk s) _ (start im eof room (dataset_at_walk s at) 0 ws l) same h
 
-    pub object-read : (ws₂ : List ℕ) (r : Result DatasetAt Refusal) → ReaderIs im eof room (describe_walk at) (blocks_of n ws₁) ws₁ ws₂ r → ReaderIs im eof room
-        (dataset_at_walk s at) [] ws ws₂ r
+    pub object-read : (ws₂ : List ℕ) (r : Result DatasetAt Refusal) → ReaderIs im eof room (describe_walk at) (blocks_of n ws₁) ws₁ ws₂ r →
+        ReaderIs im eof room (dataset_at_walk s at) [] ws ws₂ r
     unfolding blocks_of
     object-read ws₂ r m = reader-last im eof room ws₁ ws₂ at-header m

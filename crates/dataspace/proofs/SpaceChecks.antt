@@ -69,8 +69,10 @@ module _ (b : List ℕ) {k : ℕ} (e : k ≡ u8 b 1) where
 pub refused-space : {b : List ℕ} {n : ℕ} → answer n ≡ read_dataspace b → SpaceRead b (Err n)
 refused-space e = record { walk = e; ranked = omega arith; sizes = omega arith; maxima = omega arith }
 
-pub plain-space : {b : List ℕ} {k : ℕ} → value (space_of b k false) ≡ read_dataspace b → k ≤ rank_most → 8 + 8 * k ≤ length b → SpaceRead b (Ok (record { rank = k; maxima_stored = false }))
+pub plain-space : {b : List ℕ} {k : ℕ} → value (space_of b k false) ≡ read_dataspace b → k ≤ rank_most → 8 + 8 * k ≤ length b →
+    SpaceRead b (Ok (record { rank = k; maxima_stored = false }))
 plain-space e r h = record { walk = e; ranked = r; sizes = h; maxima = h }
 
-pub stored-space : {b : List ℕ} {k : ℕ} → value (space_of b k true) ≡ read_dataspace b → k ≤ rank_most → 8 + 8 * k + 8 * k ≤ length b → SpaceRead b (Ok (record { rank = k; maxima_stored = true }))
+pub stored-space : {b : List ℕ} {k : ℕ} → value (space_of b k true) ≡ read_dataspace b → k ≤ rank_most → 8 + 8 * k + 8 * k ≤ length b →
+    SpaceRead b (Ok (record { rank = k; maxima_stored = true }))
 stored-space e r h = record { walk = e; ranked = r; sizes = omega arith; maxima = omega arith }

@@ -88,7 +88,8 @@ module _ (im : List ℕ) (eof room : ℕ) where
       (rises-on im eof room total link_sum (objects_walk s objects_most 0 (root_found s)) (λ f. ret f.objects) 1 (objects-rise s objects_most 0 (root_found s))
       λ f. rises-ret im eof room link_sum f.objects _ (omega arith)))
 
-module _ (im : List ℕ) (lent : ℕ) (s : Superblock) (os : List Linked) (bs : List Block) (p : open_image im ≡ opened s) (e : audit_run im lent ≡ done os bs) where
+module _ (im : List ℕ) (lent : ℕ) (s : Superblock) (os : List Linked) (bs : List Block) (p : open_image im ≡ opened s)
+    (e : audit_run im lent ≡ done os bs) where
   -- all links and sharings are at most the lengths of the blocks entered
   pub all-inside : link_sum os ≤ length_sum bs
   unfolding length_sum

@@ -41,7 +41,8 @@ same_object o q a l =
     let e : linked o.address o.links ≡ linked q.address q.links = cc in
     e
 
-module _ (im : List ℕ) (lent : ℕ) (s : Superblock) (os : List Linked) (bs : List Block) (p : open_image im ≡ opened s) (e : audit_run im lent ≡ done os bs) where
+module _ (im : List ℕ) (lent : ℕ) (s : Superblock) (os : List Linked) (bs : List Block) (p : open_image im ≡ opened s)
+    (e : audit_run im lent ≡ done os bs) where
   sound : Sound im s os
   sound = audit-sound im lent s os bs p e
 

@@ -28,7 +28,8 @@ use Rattle.demand.proofs.States.{state-first}
 use Rattle.demand.proofs.NewHeld.{new-held}
 
 -- the reply of an audit that is done
-pub audit-reply : (im : List ℕ) (lent : ℕ) (os : List Linked) (bs : List Block) → audit_run im lent ≡ done os bs → audit im lent ≡ audit_end im lent (done os bs)
+pub audit-reply : (im : List ℕ) (lent : ℕ) (os : List Linked) (bs : List Block) → audit_run im lent ≡ done os bs →
+    audit im lent ≡ audit_end im lent (done os bs)
 unfolding audit
 audit-reply im lent os bs e = ap (audit_end im lent) e
 

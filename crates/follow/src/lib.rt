@@ -11,23 +11,17 @@ ghost use Rattle.follow.specs.Follow.{target_run};
 
 use component::Target;
 use format::Refusal;
-use superblock::Superblock;
+use superblock::{File, Superblock};
 use walk::blocks;
 
 // Looks up one component after the other. A component begins where the one before it ends, so that no range has their places.
-fn follow(
-    image: &[u8],
-    path: &[u8],
-    list: &mut [u64],
-    superblock: Superblock,
-    room: usize,
-) -> Result<Target, Refusal>
-    requires opened { Opened image.now superblock room }
-    requires lent { Lent list.old 0 room }
+fn follow(file: File<'_>, path: &[u8], list: &mut [u64]) -> Result<Target, Refusal>
+    requires opened { Opened file.image.now file.superblock file.room }
+    requires lent { Lent list.old 0 file.room }
     requires in_bounds { 1 ≤ length path.now }
-    ensures { EndsAs result (target_run image.now (superblock_of superblock) room (components_of path.now) superblock.root) }
+    ensures { EndsAs result (target_run file.entry.image.now (superblock_of file.entry.superblock) file.entry.room (components_of path.now) file.entry.superblock.root) }
 {
-    let mut at = superblock.root;
+    let mut at = file.superblock.root;
     if path.len() == 1 {
         return Ok(Target::Object(at));
     }
@@ -35,15 +29,7 @@ fn follow(
     while from <= path.len() {
         let end = path::component_end(path, from);
         let last = end == path.len();
-        let target = component::component(
-            image,
-            &path[from..end],
-            list,
-            superblock,
-            room,
-            at,
-            last,
-        )?;
+        let target = component::component(file, &path[from..end], list, at, last)?;
         match target {
             Target::Symbolic => return Ok(Target::Symbolic),
             Target::Object(address) => {
@@ -67,6 +53,10 @@ pub fn find_object(
     ensures { EndsAs result (target_run image.now (superblock_of superblock) (places_of (length list.old))
         (components_of path.now) superblock.root) }
 {
-    let room = blocks::places(list.len());
-    follow(image, path, list, superblock, room)
+    let file = File {
+        image,
+        superblock,
+        room: blocks::places(list.len()),
+    };
+    follow(file, path, list)
 }

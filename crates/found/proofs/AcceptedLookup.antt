@@ -99,7 +99,8 @@ module _ (im : List ℕ) (s : Superblock) (os : List Linked) (p : open_image im 
 -- a number stands in a list
 ruleset members = (refl, Memᴰ.head, Memᴰ.tail)
 
-module _ (im : List ℕ) (lent : ℕ) (s : Superblock) (os : List Linked) (bs : List Block) (p : open_image im ≡ opened s) (e : audit_run im lent ≡ done os bs) where
+module _ (im : List ℕ) (lent : ℕ) (s : Superblock) (os : List Linked) (bs : List Block) (p : open_image im ≡ opened s)
+    (e : audit_run im lent ≡ done os bs) where
   sound : Sound im s os
   sound = audit-sound im lent s os bs p e
 

@@ -85,7 +85,8 @@ covered_none im ts x m = absurd (Memᴰ.not-nil m)
 covered-append : (im : List ℕ) (ss us ts : List Shown) → AllCovered im ss ts → AllCovered im us ts → AllCovered im (ss ++ us) ts
 covered-append im ss us ts f g x m = ⊎_elim (f x) (g x) (Memᴰ.append_cases ss m)
 
-module _ (im : List ℕ) (lent : ℕ) (s : Superblock) (os : List Linked) (bs : List Block) (p : open_image im ≡ opened s) (e : audit_run im lent ≡ done os bs) where
+module _ (im : List ℕ) (lent : ℕ) (s : Superblock) (os : List Linked) (bs : List Block) (p : open_image im ≡ opened s)
+    (e : audit_run im lent ≡ done os bs) where
   abbrev total : List Shown
   total = whole im s.end_of_file (audit_walk s)
 

@@ -39,7 +39,8 @@ module _ (im : List ℕ) (s : Superblock) (audited : ℕ) (os : List Linked) (bs
       begun-covered im s.end_of_file (audit_walk s) audited [] os bs e x
       (begun_more im (whole im s.end_of_file w) (whole im s.end_of_file (audit_walk s)) h x (shown-begun im s.end_of_file w room cs x m))
 
-module _ (im : List ℕ) (lent : ℕ) (s : Superblock) (os : List Linked) (bs : List Block) (p : open_image im ≡ opened s) (e : audit_run im lent ≡ done os bs) where
+module _ (im : List ℕ) (lent : ℕ) (s : Superblock) (os : List Linked) (bs : List Block) (p : open_image im ≡ opened s)
+    (e : audit_run im lent ≡ done os bs) where
   walked : run im s.end_of_file (room_of lent) (audit_walk s) [] ≡ done os bs
   walked = audit-walked im lent s os bs p e
 

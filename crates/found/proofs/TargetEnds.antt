@@ -10,7 +10,8 @@ use Rattle.format.specs.Walk.{fault, answer_of, done, refused, run}
 use Rattle.format.specs.Lookup.{Link, absent, hard, soft, object, symbolic, target_walk}
 
 module _ (im : List ℕ) (eof room : ℕ) where
-  pub target-object : (is_last : Bool) (l : Link) (cs : List Block) (a : ℕ) (bs : List Block) → run im eof room (target_walk is_last l) cs ≡ done (object a) bs →
+  pub target-object : (is_last : Bool) (l : Link) (cs : List Block) (a : ℕ) (bs : List Block) →
+      run im eof room (target_walk is_last l) cs ≡ done (object a) bs →
       (l ≡ hard a) × (cs ≡ bs)
   unfolding target_walk run
   target-object is_last absent cs a bs e = let z : ◌≡◌ {A = ℕ} 0 1 = cc in absurd (omega arith)

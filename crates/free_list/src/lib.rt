@@ -8,17 +8,19 @@ ghost use Rattle.std.specs.Prelude.{◌*◌, ◌≤◌, ◌<◌, length};
 ghost use Rattle.free_list.specs.FreeBlocks.{chain, Sized, Held, BlockAdded, ListRead};
 ghost use Rattle.free_list.specs.Spanned.{Spanned};
 
+use crate::search::FreeBlocks;
 use crate::span::{Span, meets_block, widened};
 use free_map::adding::add;
 use walk::numbers::{UNDEFINED_ADDRESS, u64_at};
 
-// Whether the free block at `at` lies in the segment and shares no byte with the `met` blocks before it. It is then added to a map that has cells.
-fn add_block(segment: &[u8], map: &mut [u8], span: Span, head: u64, met: usize, at: u64) -> bool
-    requires segment_len_bound { 0 < length map.old → length segment.now ≤ 16 * length map.old }
-    requires held { Held segment.now map.old head met }
-    requires spanned { Spanned span.low span.high (chain met segment.now head) }
-    ensures { BlockAdded segment.now map.old head met at map.new result }
+// Whether the free block at `at` lies in the segment and shares no byte with the blocks met before it. It is then added to a map that has cells.
+fn add_block(met: FreeBlocks<'_>, map: &mut [u8], span: Span, at: u64) -> bool
+    requires segment_len_bound { 0 < length map.old → length met.segment.now ≤ 16 * length map.old }
+    requires held { Held met.segment.now map.old met.head met.count }
+    requires spanned { Spanned span.low span.high (chain met.count met.segment.now met.head) }
+    ensures { BlockAdded met.entry.segment.now map.old met.entry.head met.entry.count at map.new result }
 {
+    let segment = met.segment;
     if segment.len() < 16 {
         return false;
     }
@@ -34,7 +36,7 @@ fn add_block(segment: &[u8], map: &mut [u8], span: Span, head: u64, met: usize, 
     if segment.len() as u64 - at < size {
         return false;
     }
-    if meets_block(segment, map, span, head, met, off, size as usize) {
+    if meets_block(met, map, span, off, size as usize) {
         return false;
     }
     if map.len() == 0 {
@@ -58,15 +60,20 @@ pub fn free_list(segment: &[u8], map: &mut [u8], head: u64) -> Option<usize>
         low: segment.len(),
         high: 0,
     };
-    for met in 0..segment.len() {
-        if !add_block(segment, map, span, head, met, at) {
+    for count in 0..segment.len() {
+        let met = FreeBlocks {
+            segment,
+            head,
+            count,
+        };
+        if !add_block(met, map, span, at) {
             return None;
         }
         let off = at as usize;
         span = widened(span, off, u64_at(segment, off + 8) as usize);
         let next = u64_at(segment, off);
         if next == 1 {
-            return Some(met + 1);
+            return Some(count + 1);
         }
         at = next;
     }

@@ -4,7 +4,7 @@ ghost use Rattle.format.specs.Blocks.{Block, block, overlaps_any};
 ghost use Rattle.free_list.specs.FreeBlocks.{chain, Held};
 ghost use Rattle.free_list.specs.Spanned.{Spanned};
 
-use crate::search::meets_free;
+use crate::search::{FreeBlocks, meets_free};
 
 // No block has a byte before `low`, or one from `high` on.
 #[derive(Clone, Copy)]
@@ -24,21 +24,13 @@ pub fn widened(span: Span, off: usize, size: usize) -> Span
     }
 }
 
-// Whether one of the `size` bytes at `off` lies in one of the first `met` free blocks.
-pub fn meets_block(
-    segment: &[u8],
-    map: &[u8],
-    span: Span,
-    head: u64,
-    met: usize,
-    off: usize,
-    size: usize,
-) -> bool
-    requires held { Held segment.now map.now head met }
-    requires spanned { Spanned span.low span.high (chain met segment.now head) }
+// Whether one of the `size` bytes at `off` lies in one of the free blocks met so far.
+pub fn meets_block(met: FreeBlocks<'_>, map: &[u8], span: Span, off: usize, size: usize) -> bool
+    requires held { Held met.segment.now map.now met.head met.count }
+    requires spanned { Spanned span.low span.high (chain met.count met.segment.now met.head) }
     requires size_nonzero { 0 < size }
-    requires size_in_bounds { off + size ≤ length segment.now }
-    ensures { result ≡ overlaps_any (chain met segment.now head) off size }
+    requires size_in_bounds { off + size ≤ length met.segment.now }
+    ensures { result ≡ overlaps_any (chain met.entry.count met.entry.segment.now met.entry.head) off size }
 {
     if span.high <= off {
         return false;
@@ -46,5 +38,5 @@ pub fn meets_block(
     if off + size <= span.low {
         return false;
     }
-    meets_free(segment, map, head, met, off, size)
+    meets_free(met, map, off, size)
 }

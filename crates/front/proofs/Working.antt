@@ -34,9 +34,10 @@ pub record Worked (room n : ℕ) (zs ys : List ℕ) (count : ℕ) : Type 0 where
   pub words : take (4 * count) (ys ++ drop n zs) ≡ take (4 * count) (handed (4 * room) count ys)
   pub whole : length (ys ++ drop n zs) ≡ length zs
 
-pub worked : (room n : ℕ) (zs ys : List ℕ) (count : ℕ) → Working room n zs → length ys ≡ length (take n zs) → count ≤ places_of (length (take n zs)) →
-    Worked room n zs ys count
-worked room n zs ys count w back h =
+pub worked : (room n : ℕ) (zs ys : List ℕ) (count : ℕ) → n ≡ work_words room → work_words room ≤ length zs → length ys ≡ length (take n zs) →
+    count ≤ places_of (length (take n zs)) → Worked room n zs ys count
+worked room n zs ys count is lent back h =
+    let w = working room n zs is lent in
     let held : 4 * count ≤ length ys = omega (arith, back, h, places_is (length (take n zs))) in
     let b = came-back ys zs n (4 * count) back held in
     let used = length-take-le (4 * count) ys held in

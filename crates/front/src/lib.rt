@@ -2,10 +2,11 @@
 #![tactic(auto)]
 
 ghost use Rattle.std.specs.Prelude.{◌≡◌, ◌≤◌, length, replicate};
+ghost use Rattle.format.specs.Walk.{answer_of, met_of};
 ghost use Rattle.format.specs.Front.{padded_bytes, refusal_words};
 ghost use Rattle.front.specs.Few.{few_blocks};
 
-use format::answers;
+use format::{Refusal, answers, met_of, number_of};
 
 // The answer for want of room: to a reply that is too short it is given before the image is read.
 pub const NO_ROOM: u32 = 13;
@@ -39,18 +40,19 @@ pub fn clear_both(blocks: &mut [u8], reply: &mut [u8])
 }
 
 // The reply to a refusal: zeros, but with 6 the block met in the first word.
-pub fn refuse(blocks: &mut [u8], reply: &mut [u8], number: u8, met: u64) -> u32
+pub fn refuse(blocks: &mut [u8], reply: &mut [u8], refusal: Refusal) -> u32
     requires { 8 ≤ length reply.old }
-    ensures value { result ≡ number }
+    ensures value { result ≡ answer_of refusal }
     ensures blocks_after { blocks.new ≡ replicate (length blocks.old) 0 }
-    ensures reply_after { reply.new ≡ padded_bytes (length reply.old) (refusal_words number met) }
+    ensures reply_after { reply.new ≡ padded_bytes (length reply.old) (refusal_words (answer_of refusal) (met_of refusal)) }
 {
+    let number = number_of(refusal);
     let without_block = number != answers::OVERLAP;
     if without_block {
         clear_both(blocks, reply);
         return number as u32;
     }
-    let words = [met];
+    let words = [met_of(refusal)];
     words::clear_from(blocks, 0);
     words::spill(&words, reply);
     number as u32

@@ -6,13 +6,13 @@ use native.Mathlib.Omega.{arith}
 use lib.ListN.{length, take, replicate}
 use Rattle.format.specs.Limits.{objects_most}
 use Rattle.format.specs.Blocks.{room_of}
-use Rattle.format.specs.Walk.{Outcome, done, refused}
+use Rattle.format.specs.Walk.{answer_of, met_of, Outcome, done, refused}
 use Rattle.format.specs.Ledger.{Linked}
 use Rattle.format.specs.Audit.{audit_run}
 use Rattle.format.specs.Answers.{AuditReply, audit_end, audit}
 use Rattle.format.specs.Front.{padded_bytes, refusal_words, object_words, CReply, c_audit_end, c_audit}
 use Rattle.ledger.specs.Report.{counted_places}
-use Rattle.walk.specs.Lent.{left}
+use Rattle.walk.specs.Lent.{left, handed}
 use Rattle.laws.proofs.MoreRoom.{HadRoom}
 use Rattle.laws.proofs.MoreRuns.{audit-run-more}
 use Rattle.words.proofs.Words.{padded-zeros}
@@ -21,7 +21,9 @@ use Rattle.audit.specs.declared.Audited.{Audited}
 use Rattle.front.proofs.Reply.{length-places}
 use Rattle.front.proofs.Lent.{list-bytes}
 use Rattle.front.proofs.AuditRoom.{run_room, run_fits}
-use Rattle.front.proofs.Ended.{refusal-words, too_short, long-enough, Ends, list-used, list-zero}
+use Rattle.front.proofs.Ended.{too_short, long-enough, refused-end, Ends, list-used}
+use Rattle.std.specs.Prelude.{Ok, Err}
+use Rattle.format.specs.declared.Refusal.{Refusal}
 use Rattle.front.proofs.Call.{Call, as-good, all_room}
 
 -- the number, the block count and the list of a reply
@@ -41,22 +43,20 @@ module _ (im : List ℕ) (l r : ℕ) where
   short-reply list reply = too_short l r (2 + 3 * objects_most) _ list reply
 
   -- What the audit left in a list of so many words and in the arrays of the ledger.
-  module _ (lent : ℕ) (h : lent ≤ l / 8) (ws xs ss ts : List ℕ) (a : Audited) (d : AuditedIs im lent ws xs ss ts a) where
-    at-end : Ends lent (audit_run im lent) a.number a.block_count ws
-    at-end = audit-ends im lent (reply_of ws xs ss ts a) d.reply
-
-    pub done-reply : (list reply : List ℕ) → a.number ≡ 0 → list ≡ padded_bytes l (take (4 * a.block_count) ws) →
+  module _ (lent : ℕ) (h : lent ≤ l / 8) (ws xs ss ts : List ℕ) where
+    pub done-reply : (a : Audited) → AuditedIs im lent ws xs ss ts (Ok a) → (list reply : List ℕ) → list ≡ padded_bytes l (take (4 * a.block_count) ws) →
         reply ≡ padded_bytes r (a.block_count ∷ a.objects ∷ object_words (counted_places a.objects xs ss ts)) →
         ◌≡◌ {A = CReply} (record { number = 0; list = list; reply = reply }) (c_audit_end l r (audit im lent))
-    done-reply list reply z e f =
-        let used = list-used l lent a.number a.block_count ws h (audit_run im lent) (run_fits im lent) at-end in
-        rw (← d.reply, z, e, f, used, length-places a.objects xs ss ts)
+    done-reply a d list reply e f =
+        let at-end = audit-ends im lent (reply_of ws xs ss ts (Ok a)) d.reply in
+        let used = list-used l lent 0 a.block_count ws h (audit_run im lent) (run_fits im lent) at-end in
+        rw (← d.reply, e, f, used, length-places a.objects xs ss ts)
 
-    pub refused-reply : (list reply : List ℕ) → (a.number ≡ 0 → ⊥) → list ≡ replicate l 0 → reply ≡ padded_bytes r (refusal_words a.number a.met) →
-        ◌≡◌ {A = CReply} (record { number = a.number; list = list; reply = reply }) (c_audit_end l r (audit im lent))
-    refused-reply list reply z e f =
-        let zeros = list-zero l lent a.number a.block_count ws h (audit_run im lent) at-end z in
-        rw (← d.reply, e, f, zeros, refusal-words a.number a.met _ z)
+    pub refused-reply : 2 + 3 * objects_most ≤ r / 8 → (x : Refusal) → AuditedIs im lent (handed lent 0 ws) xs ss ts (Err x) → (list reply : List ℕ) →
+        list ≡ replicate l 0 → reply ≡ padded_bytes r (refusal_words (answer_of x) (met_of x)) →
+        ◌≡◌ {A = CReply} (record { number = answer_of x; list = list; reply = reply }) (c_audit_end l r (audit im lent))
+    unfolding object_words
+    refused-reply long x d list reply e f = rw (← d.reply) (refused-end l r lent 2 h (omega arith) ws x list reply e f)
 
   same : (lent more : ℕ) (o : Outcome (List Linked)) → lent ≤ l / 8 → more ≤ l / 8 → 4 * length (left o) ≤ lent → 4 * length (left o) ≤ more →
       c_audit_end l r (audit_end im lent o) ≡ c_audit_end l r (audit_end im more o)

@@ -12,7 +12,7 @@ ghost use Rattle.front_audit.specs.With.{AuditsWith};
 ghost use Rattle.ledger.specs.Index.{index_words};
 ghost use Rattle.walk.specs.Lent.{work_words};
 
-use format::{OBJECTS_MOST, answers};
+use format::OBJECTS_MOST;
 use front::{FEW_BLOCKS, FEW_WORDS, SMALL_IMAGE};
 use ledger::search::{INDEX_WORDS, TABLE_WORDS};
 use walk::blocks::{WORK_WORDS, work_words};
@@ -67,27 +67,28 @@ fn audit_with(
     let mut stored = [0u32; OBJECTS_MOST];
     let mut true_counts = [0u32; OBJECTS_MOST];
     let n = work_words(room);
-    let r = audit::audit_into(
+    match audit::audit_into(
         image,
         &mut list[..n],
         addresses,
         &mut stored,
         &mut true_counts,
-    );
-    if r.number != answers::DONE {
-        return front::refuse(blocks, reply, r.number, r.met);
+    ) {
+        Ok(r) => {
+            let used = 4 * r.block_count;
+            words::spill(&list[..used], blocks);
+            write_reply(
+                reply,
+                r.block_count,
+                r.objects,
+                addresses,
+                &stored,
+                &true_counts,
+            );
+            0
+        }
+        Err(refusal) => front::refuse(blocks, reply, refusal),
     }
-    let used = 4 * r.block_count;
-    words::spill(&list[..used], blocks);
-    write_reply(
-        reply,
-        r.block_count,
-        r.objects,
-        addresses,
-        &stored,
-        &true_counts,
-    );
-    0
 }
 
 // The audit with a list and a table of so many words. A list of another length has a frame of its own. A small file is audited as quickly without
@@ -113,6 +114,7 @@ fn audit_sized<const WORDS: usize, const TABLE: usize>(
 }
 
 // The audit with room for so many blocks, in the smaller list that has it. A small image is first tried with room for few blocks.
+// One function for the five calls would be lent this one as a closure, and would have to say what its first try leaves: no plainer.
 fn audit_in(image: &[u8], blocks: &mut [u8], reply: &mut [u8], room: usize) -> u32
     requires room_le_blocks_most { room ≤ blocks_most }
     requires room_in_bounds { 4 * room ≤ length blocks.old / 8 }

@@ -6,13 +6,13 @@ use native.Mathlib.Omega.{arith}
 use lib.ListN.{length, take, replicate}
 use Rattle.format.specs.Limits.{rank_most}
 use Rattle.format.specs.Blocks.{room_of}
-use Rattle.format.specs.Walk.{Outcome, done, refused}
+use Rattle.format.specs.Walk.{answer_of, met_of, Outcome, done, refused}
 use Rattle.format.specs.Path.{parse_path}
 use Rattle.format.specs.Dataset.{Dataset}
 use Rattle.format.specs.Describe.{describe_walk, describe_run}
 use Rattle.format.specs.Answers.{DescribeReply, describe_end, describe}
 use Rattle.format.specs.Front.{padded_bytes, refusal_words, description_words, CReply, c_describe_end, c_describe}
-use Rattle.walk.specs.Lent.{left}
+use Rattle.walk.specs.Lent.{left, handed}
 use Rattle.laws.proofs.MoreRoom.{HadRoom}
 use Rattle.laws.proofs.MoreRuns.{describe-run-more}
 use Rattle.words.proofs.Words.{padded-zeros}
@@ -20,7 +20,9 @@ use Rattle.describe.specs.Describe.{reply_of}
 use Rattle.describe.specs.declared.Description.{Description}
 use Rattle.front.proofs.Lent.{list-bytes}
 use Rattle.front.proofs.Follow.{path_room, path-fits}
-use Rattle.front.proofs.Ended.{refusal-words, too_short, long-enough, Ends, list-used, list-zero}
+use Rattle.front.proofs.Ended.{too_short, long-enough, refused-end, Ends, list-used}
+use Rattle.std.specs.Prelude.{Ok, Err}
+use Rattle.format.specs.declared.Refusal.{Refusal}
 use Rattle.front.proofs.Call.{Call, as-good, all_room}
 
 run_fits : (im path : List ℕ) (k : ℕ) → length (left (describe_run im path k)) ≤ room_of k
@@ -45,22 +47,20 @@ module _ (im path : List ℕ) (l r : ℕ) where
   short-reply list reply = too_short l r (10 + 2 * rank_most) _ list reply
 
   -- What the description returned and left in a list of so many words.
-  module _ (lent : ℕ) (h : lent ≤ l / 8) (ws : List ℕ) (a : Description) (d : reply_of ws a ≡ describe im path lent) where
-    at-end : Ends lent (describe_run im path lent) a.number a.block_count ws
-    at-end = describe-ends im path lent (reply_of ws a) d
-
-    pub done-reply : (list reply : List ℕ) → a.number ≡ 0 → list ≡ padded_bytes l (take (4 * a.block_count) ws) →
-        reply ≡ padded_bytes r (description_words (reply_of [] a)) →
+  module _ (lent : ℕ) (h : lent ≤ l / 8) (ws : List ℕ) where
+    pub done-reply : (a : Description) → reply_of ws (Ok a) ≡ describe im path lent → (list reply : List ℕ) →
+        list ≡ padded_bytes l (take (4 * a.block_count) ws) → reply ≡ padded_bytes r (description_words (reply_of [] (Ok a))) →
         ◌≡◌ {A = CReply} (record { number = 0; list = list; reply = reply }) (c_describe_end l r (describe im path lent))
-    done-reply list reply z e f =
-        let used = list-used l lent a.number a.block_count ws h (describe_run im path lent) (run_fits im path lent) at-end in
-        rw (← d, z, e, f, used)
+    done-reply a d list reply e f =
+        let at-end = describe-ends im path lent (reply_of ws (Ok a)) d in
+        let used = list-used l lent 0 a.block_count ws h (describe_run im path lent) (run_fits im path lent) at-end in
+        rw (← d, e, f, used)
 
-    pub refused-reply : (list reply : List ℕ) → (a.number ≡ 0 → ⊥) → list ≡ replicate l 0 → reply ≡ padded_bytes r (refusal_words a.number a.met) →
-        ◌≡◌ {A = CReply} (record { number = a.number; list = list; reply = reply }) (c_describe_end l r (describe im path lent))
-    refused-reply list reply z e f =
-        let zeros = list-zero l lent a.number a.block_count ws h (describe_run im path lent) at-end z in
-        rw (← d, e, f, zeros, refusal-words a.number a.met _ z)
+    pub refused-reply : 10 + 2 * rank_most ≤ r / 8 → (x : Refusal) → reply_of (handed lent 0 ws) (Err x) ≡ describe im path lent → (list reply : List ℕ) →
+        list ≡ replicate l 0 → reply ≡ padded_bytes r (refusal_words (answer_of x) (met_of x)) →
+        ◌≡◌ {A = CReply} (record { number = answer_of x; list = list; reply = reply }) (c_describe_end l r (describe im path lent))
+    unfolding rank_most
+    refused-reply long x d list reply e f = rw (← d) (refused-end l r lent 74 h long ws x list reply e f)
 
   same : (lent more : ℕ) (o : Outcome Dataset) → lent ≤ l / 8 → more ≤ l / 8 → 4 * length (left o) ≤ lent → 4 * length (left o) ≤ more →
       c_describe_end l r (describe_end lent o) ≡ c_describe_end l r (describe_end more o)

@@ -1,7 +1,7 @@
 // The description of a dataset on byte slices.
 #![tactic(auto)]
 
-ghost use Rattle.std.specs.Prelude.{◌≡◌, [], ◌+◌, ◌*◌, ◌/◌, ◌≤◌, length, ◌<◌, ◌^◌};
+ghost use Rattle.std.specs.Prelude.{◌≡◌, [], ◌+◌, ◌*◌, ◌/◌, ◌≤◌, length, ◌<◌, ◌^◌, Ok};
 ghost use Rattle.format.specs.Bytes.{overwrite};
 ghost use Rattle.format.specs.Limits.{rank_most, blocks_most};
 ghost use Rattle.format.specs.Front.{word_bytes, padded_bytes, description_words, CReply, c_describe};
@@ -10,7 +10,6 @@ ghost use Rattle.front_describe.specs.With.{DescribesWith};
 ghost use Rattle.walk.specs.Lent.{work_words};
 
 use describe::Description;
-use format::answers;
 use front::{FEW_BLOCKS, FEW_WORDS, SMALL_IMAGE};
 use walk::blocks::{WORK_WORDS, work_words};
 
@@ -27,7 +26,7 @@ fn put_words(reply: &mut [u8], at: usize, words: &[u64])
 // The reply of a description that is done: block count, rank, sizes, maxima, the other fields, and zeros behind them.
 fn write_description(reply: &mut [u8], d: Description)
     requires { 592 ≤ length reply.old }
-    ensures { reply.new ≡ padded_bytes (length reply.old) (description_words (reply_of [] d)) }
+    ensures { reply.new ≡ padded_bytes (length reply.old) (description_words (reply_of [] (Ok d))) }
 {
     let sizes = d.sizes;
     let maxima = d.maxima;
@@ -65,14 +64,15 @@ fn describe_with(
         (record { number = result; list = blocks.new; reply = reply.new }) }
 {
     let n = work_words(room);
-    let r = describe::describe_in(image, path, &mut list[..n]);
-    if r.number != answers::DONE {
-        return front::refuse(blocks, reply, r.number, r.met);
+    match describe::describe_in(image, path, &mut list[..n]) {
+        Ok(r) => {
+            let used = 4 * r.block_count;
+            words::spill(&list[..used], blocks);
+            write_description(reply, r);
+            0
+        }
+        Err(refusal) => front::refuse(blocks, reply, refusal),
     }
-    let used = 4 * r.block_count;
-    words::spill(&list[..used], blocks);
-    write_description(reply, r);
-    0
 }
 
 // The description with a list of so many words. A list of another length has a frame of its own.
@@ -95,6 +95,7 @@ fn describe_sized<const WORDS: usize>(
 }
 
 // The description with room for so many blocks, in the smaller list that has it. A small image is first tried with room for few blocks.
+// One function for the five calls would be lent this one as a closure, and would have to say what its first try leaves: no plainer.
 fn describe_in(image: &[u8], path: &[u8], blocks: &mut [u8], reply: &mut [u8], room: usize) -> u32
     requires room_le_blocks_most { room ≤ blocks_most }
     requires room_in_bounds { 4 * room ≤ length blocks.old / 8 }

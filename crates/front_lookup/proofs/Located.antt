@@ -1,29 +1,27 @@
 -- The reply in C of a lookup: with the words that a list has, and the same with more.
 use Prim.Native.Nat.{ℕ, ◌*◌, ◌/◌, ◌≤◌, ◌<◌}
-use mathlib.Core.Path.{◌≡◌, refl, ap, ◌∙◌}
+use mathlib.Core.Path.{◌≡◌, ap, ◌∙◌}
 use mathlib.Core.List.{List, [], ◌∷◌}
 use native.Mathlib.Omega.{arith}
 use lib.ListN.{replicate}
 use Rattle.format.specs.Blocks.{room_of}
-use Rattle.format.specs.Walk.{Outcome, done, refused}
+use Rattle.format.specs.Walk.{answer_of, met_of, Outcome, done, refused}
 use Rattle.format.specs.Path.{parse_path}
 use Rattle.format.specs.Lookup as lookups
 use Rattle.format.specs.Lookup.{locate_walk, lookup_run}
-use Rattle.format.specs.Answers.{LookupReply, lookup_end, lookup}
+use Rattle.format.specs.Answers.{lookup_end, lookup}
 use Rattle.format.specs.Front.{padded_bytes, refusal_words, CReply, c_lookup_end, c_lookup}
 use Rattle.laws.proofs.MoreRoom.{HadRoom}
 use Rattle.laws.proofs.MoreRuns.{lookup-run-more}
 use Rattle.words.proofs.Words.{padded-zeros}
 use Rattle.lookup.specs.Lookup.{reply_of}
 use Rattle.lookup.specs.declared.lookup.Located.{Located}
-use Rattle.front.proofs.Ended.{refusal-words, too_short, long-enough}
+use Rattle.walk.proofs.Handed.{handed-none}
+use Rattle.front.proofs.Ended.{too_short, long-enough, refused-end}
+use Rattle.std.specs.Prelude.{Ok, Err}
+use Rattle.format.specs.declared.Refusal.{Refusal}
 use Rattle.front.proofs.Follow.{path_room, path-fits}
 use Rattle.front.proofs.Call.{Call, as-good, all_room}
-
--- "At lookup's end the list is all zeros"
-end-zeros : (lent : ℕ) (o : Outcome lookups.Located) → (lookup_end lent o).list ≡ replicate lent 0
-end-zeros lent (done p bs) = refl
-end-zeros lent (refused x bs) = refl
 
 -- Slices of l and r bytes.
 module _ (im path : List ℕ) (l r : ℕ) where
@@ -32,21 +30,17 @@ module _ (im path : List ℕ) (l r : ℕ) where
   unfolding c_lookup
   short-reply list reply = too_short l r 3 _ list reply
 
-  -- What the lookup returned and left in a list of so many words.
-  module _ (lent : ℕ) (h : lent ≤ l / 8) (ws : List ℕ) (a : Located) (d : reply_of ws a ≡ lookup im path lent) where
-    zeros : padded_bytes l ws ≡ replicate l 0
-    unfolding lookup
-    zeros =
-        let all : ws ≡ replicate lent 0 = ap (λ (x : LookupReply). x.list) d ∙ end-zeros lent (lookup_run im path lent) in
-        rw all (padded-zeros l lent (omega arith))
-
-    pub done-reply : (list reply : List ℕ) → a.number ≡ 0 → list ≡ replicate l 0 → reply ≡ padded_bytes r (0 ∷ a.kind ∷ a.address ∷ []) →
+  -- What the lookup returned, with so many words lent.
+  module _ (lent : ℕ) (h : lent ≤ l / 8) where
+    pub done-reply : (a : Located) → reply_of (replicate lent 0) (Ok a) ≡ lookup im path lent → (list reply : List ℕ) → list ≡ replicate l 0 →
+        reply ≡ padded_bytes r (0 ∷ a.kind ∷ a.address ∷ []) →
         ◌≡◌ {A = CReply} (record { number = 0; list = list; reply = reply }) (c_lookup_end l r (lookup im path lent))
-    done-reply list reply z e f = rw (← d, z, e, f, zeros)
+    done-reply a d list reply e f = rw (← d, e, f, padded-zeros l lent (omega arith))
 
-    pub refused-reply : (list reply : List ℕ) → (a.number ≡ 0 → ⊥) → list ≡ replicate l 0 → reply ≡ padded_bytes r (refusal_words a.number a.met) →
-        ◌≡◌ {A = CReply} (record { number = a.number; list = list; reply = reply }) (c_lookup_end l r (lookup im path lent))
-    refused-reply list reply z e f = rw (← d, e, f, zeros, refusal-words a.number a.met _ z)
+    pub refused-reply : 3 ≤ r / 8 → (x : Refusal) → reply_of (replicate lent 0) (Err x) ≡ lookup im path lent → (list reply : List ℕ) → list ≡ replicate l 0 →
+        reply ≡ padded_bytes r (refusal_words (answer_of x) (met_of x)) →
+        ◌≡◌ {A = CReply} (record { number = answer_of x; list = list; reply = reply }) (c_lookup_end l r (lookup im path lent))
+    refused-reply long x d list reply e f = rw (← d, ← handed-none lent []) (refused-end l r lent 3 h long [] x list reply e f)
 
   same : (lent more : ℕ) (o : Outcome lookups.Located) → lent ≤ l / 8 → more ≤ l / 8 → c_lookup_end l r (lookup_end lent o) ≡ c_lookup_end l r (lookup_end more o)
   same lent more (done p bs) h k = rw (padded-zeros l lent (omega arith), padded-zeros l more (omega arith))

@@ -7,7 +7,6 @@ ghost use Rattle.format.specs.Front.{CReply, c_lookup};
 ghost use Rattle.front_lookup.specs.With.{LooksUpWith};
 ghost use Rattle.walk.specs.Lent.{work_words};
 
-use format::answers;
 use front::{FEW_BLOCKS, FEW_WORDS, SMALL_IMAGE};
 use walk::blocks::{WORK_WORDS, work_words};
 
@@ -30,15 +29,16 @@ fn lookup_with(
         (record { number = result; list = blocks.new; reply = reply.new }) }
 {
     let n = work_words(room);
-    let r = lookup::lookup::lookup_in(image, path, &mut list[..n]);
-    if r.number != answers::DONE {
-        return front::refuse(blocks, reply, r.number, r.met);
+    match lookup::lookup::lookup_in(image, path, &mut list[..n]) {
+        Ok(r) => {
+            let kind = r.kind as u64;
+            let words = [0u64, kind, r.address];
+            words::clear_from(blocks, 0);
+            words::spill(&words, reply);
+            0
+        }
+        Err(refusal) => front::refuse(blocks, reply, refusal),
     }
-    let kind = r.kind as u64;
-    let words = [0u64, kind, r.address];
-    words::clear_from(blocks, 0);
-    words::spill(&words, reply);
-    0
 }
 
 // The lookup with a list of so many words. A list of another length has a frame of its own.
@@ -70,6 +70,7 @@ fn few_first(image: usize, path: usize) -> bool {
 }
 
 // The lookup with room for so many blocks, in the smaller list that has it. Some are first tried with room for few blocks.
+// One function for the five calls would be lent this one as a closure, and would have to say what its first try leaves: no plainer.
 fn lookup_in(image: &[u8], path: &[u8], blocks: &mut [u8], reply: &mut [u8], room: usize) -> u32
     requires room_le_blocks_most { room ≤ blocks_most }
     requires room_in_bounds { 4 * room ≤ length blocks.old / 8 }

@@ -26,6 +26,10 @@ use Rattle.words.proofs.Words.{padded-twice, padded-zeros}
 use Rattle.undo_log.proofs.LogLaws.{length-log_words}
 use Rattle.front.proofs.Lent.{room-lent, list-bytes, used-bytes}
 use Rattle.front.proofs.Ended.{refusal-words}
+use Rattle.std.specs.Prelude.{Ok, Err}
+use Rattle.format.specs.declared.Refusal.{Refusal}
+use Rattle.mend.specs.Mended.{reply_of}
+use Rattle.mend.specs.declared.Mended.{Mended}
 use Rattle.front.proofs.AuditRoom.{run_room, run_fits}
 use Rattle.front.proofs.Call.{Call, as-good, all_room}
 
@@ -54,11 +58,9 @@ used l g r x = record {
   image = x.image;
 }
 
--- the entries of a reply x fit, no words are used with a refusal, and those used are the bytes of the reply y
+-- the entries of a reply x fit, and the words used are the bytes of the reply y
 pub record Taken (l g r : ℕ) (x y : MendReply) : Type 0 where
   pub entries_fit : 2 * x.entries ≤ log_room (g / 8)
-  pub no_blocks : (x.number ≡ 0 → ⊥) → x.block_count ≡ 0
-  pub no_entries : (x.number ≡ 0 → ⊥) → x.entries ≡ 0
   pub bytes : used l g r x ≡ c_mend_end l g r y
 
 -- Slices of l, g and r bytes, and a write limit.
@@ -89,8 +91,6 @@ module _ (im : List ℕ) (l g r n : ℕ) where
     not-mended : (number met : ℕ) → Taken l g r (not_mended im lent (log_room (g / 8)) (suc number) met) (not_mended im lent (g / 8) (suc number) met)
     not-mended number met = record {
       entries_fit = omega arith;
-      no_blocks = λ _. refl;
-      no_entries = λ _. refl;
       bytes = rw (no_words l lent h, no_words g (g / 8) (omega arith));
     }
 
@@ -103,8 +103,6 @@ module _ (im : List ℕ) (l g r n : ℕ) where
           Taken l g r (ending lent (log_room (g / 8)) t (audit_with met count os number list)) (ending lent (g / 8) t (audit_with met count os number list))
       ends-alike number true k = record {
         entries_fit = k refl;
-        no_blocks = λ z. absurd (z refl);
-        no_entries = λ z. absurd (z refl);
         bytes = rw (same, log-bytes wrong (k refl));
       }
       ends-alike number false k = not-mended 17 0
@@ -146,27 +144,29 @@ module _ (im : List ℕ) (l g r n : ℕ) where
   unfolding mend audit
   taken lent log_lent x h q e m = rw (e, q) (end-taken lent h (audit_run im lent) m (run_fits im lent))
 
-  module _ (lent : ℕ) (x : MendReply) (t : Taken l g r x (mend im lent (g / 8) n)) where
-    pub done-reply : (list log reply : List ℕ) → x.number ≡ 0 → list ≡ padded_bytes l (take (4 * x.block_count) x.list) →
-        log ≡ padded_bytes g (take (2 * x.entries) x.log) →
-        reply ≡ padded_bytes r (x.block_count ∷ x.entries ∷ x.writes ∷ []) →
-        ◌≡◌ {A = CMend} (record { number = 0; list = list; log = log; reply = reply; image = x.image }) (c_mend_end l g r (mend im lent (g / 8) n))
-    done-reply list log reply z e f k = first ∙ t.bytes
+  -- What the mending returned and left in its list, its log and the image.
+  module _ (lent : ℕ) (list' log' im' : List ℕ) where
+    pub done-reply : (a : Mended) → Taken l g r (reply_of list' log' im' (Ok a)) (mend im lent (g / 8) n) → (list log reply : List ℕ) →
+        list ≡ padded_bytes l (take (4 * a.block_count) list') → log ≡ padded_bytes g (take (2 * a.entries) log') →
+        reply ≡ padded_bytes r (a.block_count ∷ a.entries ∷ a.writes ∷ []) →
+        ◌≡◌ {A = CMend} (record { number = 0; list = list; log = log; reply = reply; image = im' }) (c_mend_end l g r (mend im lent (g / 8) n))
+    done-reply a t list log reply e f k = first ∙ t.bytes
       where
-        first : ◌≡◌ {A = CMend} (record { number = 0; list = list; log = log; reply = reply; image = x.image }) (used l g r x)
-        first = rw (e, f, k, z)
+        first : ◌≡◌ {A = CMend} (record { number = 0; list = list; log = log; reply = reply; image = im' }) (used l g r (reply_of list' log' im' (Ok a)))
+        first = rw (e, f, k) refl
 
-    pub refused-reply : (list log reply : List ℕ) → (x.number ≡ 0 → ⊥) → list ≡ replicate l 0 → log ≡ replicate g 0 →
-        reply ≡ padded_bytes r (refusal_words x.number x.met) →
-        ◌≡◌ {A = CMend} (record { number = x.number; list = list; log = log; reply = reply; image = x.image })
+    pub refused-reply : 3 ≤ r / 8 → (x : Refusal) → Taken l g r (reply_of list' log' im' (Err x)) (mend im lent (g / 8) n) → (list log reply : List ℕ) →
+        list ≡ replicate l 0 → log ≡ replicate g 0 → reply ≡ padded_bytes r (refusal_words (answer_of x) (met_of x)) →
+        ◌≡◌ {A = CMend} (record { number = answer_of x; list = list; log = log; reply = reply; image = im' })
         (c_mend_end l g r (mend im lent (g / 8) n))
-    refused-reply list log reply z e f k = first ∙ t.bytes
+    refused-reply long x t list log reply e f k = first ∙ t.bytes
       where
-        first : ◌≡◌ {A = CMend} (record { number = x.number; list = list; log = log; reply = reply; image = x.image }) (used l g r x)
+        first : ◌≡◌ {A = CMend} (record { number = answer_of x; list = list; log = log; reply = reply; image = im' })
+            (used l g r (reply_of list' log' im' (Err x)))
         first =
             let no-list = padded-zeros l 0 (omega arith) in
             let no-log = padded-zeros g 0 (omega arith) in
-            rw (e, f, k, t.no_blocks z, t.no_entries z, refusal-words x.number x.met _ z, no-list, no-log)
+            rw (e, f, k, no-list, no-log, refusal-words r (answer_of x) (met_of x) 3 (omega arith)) refl
 
   pub short-reply : (list log reply : List ℕ) → r / 8 < 3 → list ≡ replicate l 0 → log ≡ replicate g 0 → reply ≡ replicate r 0 →
       ◌≡◌ {A = CMend} (record { number = 13; list = list; log = log; reply = reply; image = im }) (c_mend im l g r n)

@@ -3,11 +3,12 @@
 
 ghost use Rattle.std.specs.Prelude.{◌≡◌, ◌*◌, ◌/◌, ◌≤◌, min, length, replicate, ◌<◌, ◌^◌};
 ghost use Rattle.format.specs.Limits.{objects_most, blocks_most};
+ghost use Rattle.format.specs.Walk.{answer_of, met_of};
 ghost use Rattle.format.specs.Front.{padded_bytes, refusal_words, CMend, c_mend};
 ghost use Rattle.front_mend.specs.With.{MendsWith};
 ghost use Rattle.walk.specs.Lent.{work_words};
 
-use format::{OBJECTS_MOST, answers};
+use format::{OBJECTS_MOST, Refusal};
 use front::{FEW_BLOCKS, FEW_WORDS, SMALL_IMAGE};
 use walk::blocks::{WORK_WORDS, work_words};
 
@@ -32,15 +33,15 @@ fn clear_all(blocks: &mut [u8], log: &mut [u8], reply: &mut [u8])
 }
 
 // The reply to a refusal, with zeros for the log.
-fn refuse(blocks: &mut [u8], log: &mut [u8], reply: &mut [u8], number: u8, met: u64) -> u32
+fn refuse(blocks: &mut [u8], log: &mut [u8], reply: &mut [u8], refusal: Refusal) -> u32
     requires { 8 ≤ length reply.old }
-    ensures value { result ≡ number }
+    ensures value { result ≡ answer_of refusal }
     ensures blocks_after { blocks.new ≡ replicate (length blocks.old) 0 }
     ensures log_after { log.new ≡ replicate (length log.old) 0 }
-    ensures reply_after { reply.new ≡ padded_bytes (length reply.old) (refusal_words number met) }
+    ensures reply_after { reply.new ≡ padded_bytes (length reply.old) (refusal_words (answer_of refusal) (met_of refusal)) }
 {
     words::clear_from(log, 0);
-    front::refuse(blocks, reply, number, met)
+    front::refuse(blocks, reply, refusal)
 }
 
 // The mending with room for so many blocks in a list.
@@ -62,17 +63,18 @@ fn mend_with(
     let mut entries = [0u64; 2 * OBJECTS_MOST];
     let m = log_room(log.len() / 8);
     let n = work_words(room);
-    let r = mend::mend_in(image, &mut list[..n], &mut entries[..m], limit);
-    if r.number != answers::DONE {
-        return refuse(blocks, log, reply, r.number, r.met);
+    match mend::mend_in(image, &mut list[..n], &mut entries[..m], limit) {
+        Ok(r) => {
+            let used = 4 * r.block_count;
+            let logged = 2 * r.entries;
+            let words = [r.block_count as u64, r.entries as u64, r.writes as u64];
+            words::spill(&list[..used], blocks);
+            words::spill(&entries[..logged], log);
+            words::spill(&words, reply);
+            0
+        }
+        Err(refusal) => refuse(blocks, log, reply, refusal),
     }
-    let used = 4 * r.block_count;
-    let logged = 2 * r.entries;
-    let words = [r.block_count as u64, r.entries as u64, r.writes as u64];
-    words::spill(&list[..used], blocks);
-    words::spill(&entries[..logged], log);
-    words::spill(&words, reply);
-    0
 }
 
 // The mending with a list of so many words. A list of another length has a frame of its own.
@@ -97,6 +99,7 @@ fn mend_sized<const WORDS: usize>(
 
 // The mending with room for so many blocks, in the smaller list that has it. A small image is first tried with room for few blocks;
 // a mending for which they aren't room leaves the image as it was.
+// One function for the five calls would be lent this one as a closure, and would have to say what its first try leaves: no plainer.
 fn mend_in(
     image: &mut [u8],
     blocks: &mut [u8],

@@ -95,6 +95,7 @@ fn report_sized<const WORDS: usize, const TABLE: usize>(
 }
 
 // The report with room for so many blocks, in the smaller list that has it. A small image is first tried with room for few blocks.
+// One function for the five calls would be lent this one as a closure, and would have to say what its first try leaves: no plainer.
 fn report_in(image: &[u8], blocks: &mut [u8], reply: &mut [u8], room: usize) -> u32
     requires room_le_blocks_most { room ≤ blocks_most }
     requires room_in_bounds { 4 * room ≤ length blocks.old / 8 }

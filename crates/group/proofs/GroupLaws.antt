@@ -3,7 +3,6 @@ use Prim.Native.Nat.{ℕ}
 use mathlib.Core.List.{List, []}
 use mathlib.Core.Path.{◌≡◌, ap, sym}
 use lib.ListN.{length}
-use mathlib.Core.Bool.{Bool}
 use Rattle.std.specs.Prelude.{Option, Result, Ok, Err}
 use Rattle.format.specs.Blocks.{Block}
 use Rattle.format.specs.declared.Refusal.{Refusal}
@@ -15,17 +14,17 @@ use Rattle.format.specs.Entry.{Entry, Group, GroupState}
 use Rattle.format.specs.Tree.{tree_walk, group_walk}
 use Rattle.walk.specs.Lent.{blocks_of, Lent, Walked, Ended, ended, stopped}
 use Rattle.heap.specs.Segment.{heap_with}
-use Rattle.heap.specs.Header.{OpenHeap, open_walk, open_heap, segment_of}
-use Rattle.heap.specs.declared.header.Heap as heaps
+use Rattle.heap.specs.Header.{OpenHeap, open_walk}
 use Rattle.heap.proofs.HeaderLaws.{heap-opened}
 use Rattle.free_list.specs.FreeBlocks.{chain}
 use Rattle.segment.specs.Segment.{SegmentIs}
 use Rattle.segment.specs.declared.Segment.{Segment}
 use Rattle.visit.specs.Visit.{Both, visit_both, both_of, no_link}
-use Rattle.symbol.specs.Entry.{group_of, state_of}
+use Rattle.symbol.specs.Entry.{state_of}
 use Rattle.symbol.specs.declared.entry.Group as entries
-use Rattle.symbol.specs.declared.entry.State.{State}
-use Rattle.symbol_node.specs.Tree.{step_end, SoundIf}
+use Rattle.symbol.specs.State.{State}
+use Rattle.symbol_node.specs.Tree.{SoundIf}
+use Rattle.tree.specs.Tree.{TreeIs}
 use Rattle.group.specs.Group.{group_end, ReadyIf, contents_walk}
 use Rattle.laws.proofs.Bind.{bind_assoc, ret-bind, bind-ret}
 use Rattle.laws.proofs.Simulation.{Simulation, start, same-walk, returned, callee-done, callee-stopped, callee-value, callee-refusal}
@@ -71,39 +70,24 @@ module _ {S : Type 0} (im : List ℕ) (eof room : ℕ) (ws : List ℕ) (count : 
           returned (callee-done ws₂ (tree_walk (group_with (heap_with o.segment free)) tree first) (λ (x : GroupState S). ret x.found) at-tree same t)
 
 -- The code's tree, read behind the free list: what it returned, and what holds after it.
-module _ (im : List ℕ) (eof room : ℕ) (ws : List ℕ) (count : ℕ) (l : Lent ws count room) (leaf_k internal_k tree : ℕ) (auditing : Bool)
-    (wanted addresses counts : List ℕ) (objects : ℕ) (h : heaps.Heap) (free ended : ℕ) where
-  abbrev in_group : entries.Group
-  in_group = record {
-    end_of_file = eof;
-    room = room;
-    leaf_k = leaf_k;
-    internal_k = internal_k;
-    head = h.head;
-    free = free;
-    ended = ended;
-    auditing = auditing;
-  }
-
+module _ (im : List ℕ) (g : entries.Group) (ws : List ℕ) (count : ℕ) (l : Lent ws count g.bounds.room) (tree : ℕ) (wanted addresses counts : List ℕ)
+    (objects place : ℕ) (seg : List ℕ) where
   abbrev begun : State
   begun = record { count = count; objects = objects; last = record { at = 0; size = 0; first = 0; second = 0 }; link = no_link }
 
-  abbrev bytes : List ℕ
-  bytes = segment_of im h
+  abbrev opened : OpenHeap
+  opened = record { segment = seg; head = g.strings.head; place = place }
 
   abbrev contents : Walk Both
-  contents = contents_walk leaf_k internal_k tree (open_heap im h) (visit_both auditing wanted) (both_of addresses counts objects no_link)
+  contents = contents_walk g.leaf_k g.internal_k tree opened (visit_both g.auditing wanted) (both_of addresses counts objects no_link)
 
-  pub tree-ended : free_list bytes h.head ≡ value (chain free bytes h.head) → (ws₂ addresses₂ counts₂ : List ℕ) (r : Result State Refusal) →
-      length ws₂ ≡ length ws →
-      Walked ws ws₂ (step_end bytes addresses₂ counts₂ r)
-      (run im eof room (tree_walk (group_of bytes wanted in_group) tree (state_of bytes addresses counts begun)) (blocks_of count ws)) →
-      Walked ws ws₂ (group_end addresses₂ counts₂ r) (run im eof room contents (blocks_of count ws))
+  pub tree-ended : free_list seg g.strings.head ≡ value (chain g.strings.free seg g.strings.head) → (ws₂ addresses₂ counts₂ : List ℕ)
+      (r : Result State Refusal) → length ws₂ ≡ length ws → TreeIs im seg wanted ws addresses counts g tree begun ws₂ addresses₂ counts₂ r →
+      Walked ws ws₂ (group_end addresses₂ counts₂ r) (run im g.bounds.end_of_file g.bounds.room contents (blocks_of count ws))
   tree-ended e ws₂ addresses₂ counts₂ (Ok s) same t =
-      tree-done im eof room ws count l leaf_k internal_k tree (open_heap im h) (visit_both auditing wanted) _ _ e ws₂
-      (state_of bytes addresses₂ counts₂ s) s.count same t
+      tree-done im _ _ ws count l _ _ tree opened (visit_both g.auditing wanted) _ _ e ws₂ (state_of seg addresses₂ counts₂ s) s.count same t.walked
   tree-ended e ws₂ addresses₂ counts₂ (Err n) same t =
-      tree-stopped im eof room ws count l leaf_k internal_k tree (open_heap im h) (visit_both auditing wanted) _ _ e ws₂ n t
+      tree-stopped im _ _ ws count l _ _ tree opened (visit_both g.auditing wanted) _ _ e ws₂ n t.walked
 
 -- what was read of a segment, by the case that it is
 pub same-segment : {seg seg' map : List ℕ} {head : ℕ} {r r' : Option Segment} → seg ≡ seg' → r ≡ r' → SegmentIs seg map head r → SegmentIs seg' map head r'
@@ -147,6 +131,6 @@ module _ {S : Type 0} (im : List ℕ) (eof room : ℕ) (ws : List ℕ) (count : 
 
 -- a sound state has what the next group is read with
 pub sound-ready : (seg ws addresses counts : List ℕ) (g : entries.Group) (r : Result State Refusal) → SoundIf seg ws addresses counts g r →
-    ReadyIf g.auditing ws addresses counts g.end_of_file g.room r
+    ReadyIf g.auditing ws addresses counts g.bounds.end_of_file g.bounds.room r
 sound-ready seg ws addresses counts g (Ok s) h = record { lent = h.lent; table = h.table; apart = h.apart; inside = h.inside; links = h.links }
 sound-ready seg ws addresses counts g (Err n) h = tt

@@ -15,7 +15,7 @@ use Rattle.heap.specs.Segment.{heap_with}
 use Rattle.heap.specs.Header.{OpenHeap, open_heap}
 use Rattle.heap.specs.declared.header.Heap.{Heap}
 use Rattle.format.specs.declared.Refusal.{Refusal}
-use Rattle.symbol.specs.declared.entry.State.{State}
+use Rattle.symbol.specs.State.{State}
 
 -- what is known of the image and its superblock
 pub record Settings (im : List ℕ) (eof room leaf_k internal_k : ℕ) : Type 0 where

@@ -1,21 +1,28 @@
 // What stands behind a group's heap header: the segment with its free list, then the tree.
 ghost use Rattle.heap.specs.Header.{SegmentInside, segment_of};
 ghost use Rattle.free_list.specs.FreeBlocks.{Sized};
+ghost use Rattle.walk.specs.Entered.{SameWords};
+ghost use Rattle.ledger.specs.Objects.{SameTable};
+ghost use Rattle.symbol.specs.State.{reached};
 ghost use Rattle.group.specs.Group.{Settings, Ready, ContentsAre};
 
 use format::{Refusal, answers};
 use heap::header::Heap;
+use ledger::table::Objects;
+use names::Strings;
 use range::Name;
 use symbol::entry::{Group, State};
 use tree;
-use visit::{ABSENT, Link};
+use visit::Link;
+use walk::blocks::{Blocks, Bounds};
 
-// What every group of an image is read with: the end of file, the room for blocks and the superblock's two K. `auditing` is true for the
-// audit and false for a lookup.
+// What every group of an image is read with: the image, the name that a lookup looks for, what blocks keep to, and the superblock's two K. `auditing`
+// is true for the audit and false for a lookup.
 #[derive(Clone, Copy)]
-pub struct Reading {
-    pub end_of_file: u64,
-    pub room: usize,
+pub struct Reading<'a> {
+    pub image: &'a [u8],
+    pub wanted: &'a [u8],
+    pub bounds: Bounds,
     pub leaf_k: u64,
     pub internal_k: u64,
     pub auditing: bool,
@@ -23,56 +30,55 @@ pub struct Reading {
 
 // The tree at this address with an entered heap. The map is lent for the heap's free bytes.
 pub fn read_with(
-    image: &[u8],
-    wanted: &[u8],
-    list: &mut [u64],
-    addresses: &mut [u64],
-    counts: &mut [u32],
+    reading: &Reading<'_>,
+    blocks: &mut Blocks<'_>,
+    objects: &mut Objects<'_>,
     map: &mut [u8],
-    reading: Reading,
     tree: u64,
     heap: Heap,
-    count: usize,
-    objects: usize,
 ) -> Result<State, Refusal>
-    requires settings { Settings image.now reading.end_of_file reading.room reading.leaf_k reading.internal_k }
-    requires ready { Ready reading.auditing list.old addresses.old counts.old reading.end_of_file reading.room count objects }
-    requires segment_inside { SegmentInside image.now reading.end_of_file heap }
-    requires sized { Sized map.old (segment_of image.now heap) }
-    ensures { ContentsAre image.now wanted.now list.old addresses.old counts.old
-        reading.end_of_file reading.room reading.leaf_k reading.internal_k reading.auditing tree heap count objects
-        list.new addresses.new counts.new result }
+    requires settings { Settings reading.now.image.now reading.now.bounds.end_of_file reading.now.bounds.room reading.now.leaf_k
+        reading.now.internal_k }
+    requires ready { Ready reading.now.auditing blocks.old.words.now objects.old.addresses.now objects.old.counts.now
+        reading.now.bounds.end_of_file reading.now.bounds.room blocks.old.count objects.old.count }
+    requires segment_inside { SegmentInside reading.now.image.now reading.now.bounds.end_of_file heap }
+    requires sized { Sized map.old (segment_of reading.now.image.now heap) }
+    ensures read { ContentsAre reading.now.image.now reading.now.wanted.now blocks.old.words.now objects.old.addresses.now objects.old.counts.now
+        reading.now.bounds.end_of_file reading.now.bounds.room reading.now.leaf_k reading.now.internal_k reading.now.auditing tree heap
+        blocks.old.count objects.old.count blocks.new.words.now objects.new.addresses.now objects.new.counts.now
+        (reached blocks.new.count objects.new.count result) }
+    ensures kept { SameWords blocks.old blocks.new }
+    ensures kept_objects { SameTable objects.old objects.new }
 {
     let start = heap.segment;
     let end = start + heap.size;
-    let bytes = &image[start..end];
+    let image = reading.image;
+    let segment = &image[start..end];
     let unsound = Refusal::Fault(answers::HEAP_UNSOUND, start);
-    let known = segment::read(bytes, map, heap.head).ok_or(unsound)?;
+    let known = segment::read(segment, map, heap.head).ok_or(unsound)?;
     let group = Group {
-        end_of_file: reading.end_of_file,
-        room: reading.room,
+        image,
+        strings: Strings {
+            segment,
+            map,
+            head: heap.head,
+            free: known.free,
+            ended: known.ended,
+        },
+        wanted: reading.wanted,
+        bounds: reading.bounds,
         leaf_k: reading.leaf_k,
         internal_k: reading.internal_k,
-        head: heap.head,
-        free: known.free,
-        ended: known.ended,
         auditing: reading.auditing,
     };
     let state = State {
-        count,
-        objects,
         last: Name {
             at: 0,
             size: 0,
             first: 0,
             second: 0,
         },
-        link: Link {
-            found: ABSENT,
-            header: 0,
-        },
+        link: Link::Absent,
     };
-    tree::tree(
-        image, bytes, map, wanted, list, addresses, counts, group, tree, state,
-    )
+    tree::tree(&group, blocks, objects, tree, state)
 }

@@ -3,12 +3,17 @@
 ghost use Rattle.std.specs.Prelude.{◌||◌, ◌≡◌, ◌+◌, ◌/◌, ◌^◌, ◌≤◌, ◌<◌, eqb};
 ghost use Rattle.format.specs.Bytes.{undefined_address};
 ghost use Rattle.heap.specs.Header.{SegmentInside};
+ghost use Rattle.walk.specs.Entered.{SameWords};
+ghost use Rattle.ledger.specs.Objects.{SameTable};
+ghost use Rattle.symbol.specs.State.{reached};
 ghost use Rattle.group.specs.Group.{Settings, Ready, ContentsAre};
 
 use crate::contents::{Reading, read_with};
 use format::Refusal;
 use heap::header::Heap;
+use ledger::table::Objects;
 use symbol::entry::State;
+use walk::blocks::Blocks;
 use walk::numbers::UNDEFINED_ADDRESS;
 
 // So many cells of 16 bytes: for segments below 2 KiB, for those below 128 KiB, and for those below 1 MiB.
@@ -27,120 +32,86 @@ fn no_list(head: u64) -> bool
 
 // A map of no cells.
 fn read_plain(
-    image: &[u8],
-    wanted: &[u8],
-    list: &mut [u64],
-    addresses: &mut [u64],
-    counts: &mut [u32],
-    reading: Reading,
+    reading: &Reading<'_>,
+    blocks: &mut Blocks<'_>,
+    objects: &mut Objects<'_>,
     tree: u64,
     heap: Heap,
-    count: usize,
-    objects: usize,
 ) -> Result<State, Refusal>
-    requires settings { Settings image.now reading.end_of_file reading.room reading.leaf_k reading.internal_k }
-    requires ready { Ready reading.auditing list.old addresses.old counts.old reading.end_of_file reading.room count objects }
-    requires segment_inside { SegmentInside image.now reading.end_of_file heap }
-    ensures { ContentsAre image.now wanted.now list.old addresses.old counts.old
-        reading.end_of_file reading.room reading.leaf_k reading.internal_k reading.auditing tree heap count objects
-        list.new addresses.new counts.new result }
+    requires settings { Settings reading.now.image.now reading.now.bounds.end_of_file reading.now.bounds.room reading.now.leaf_k
+        reading.now.internal_k }
+    requires ready { Ready reading.now.auditing blocks.old.words.now objects.old.addresses.now objects.old.counts.now
+        reading.now.bounds.end_of_file reading.now.bounds.room blocks.old.count objects.old.count }
+    requires segment_inside { SegmentInside reading.now.image.now reading.now.bounds.end_of_file heap }
+    ensures read { ContentsAre reading.now.image.now reading.now.wanted.now blocks.old.words.now objects.old.addresses.now objects.old.counts.now
+        reading.now.bounds.end_of_file reading.now.bounds.room reading.now.leaf_k reading.now.internal_k reading.now.auditing tree heap
+        blocks.old.count objects.old.count blocks.new.words.now objects.new.addresses.now objects.new.counts.now
+        (reached blocks.new.count objects.new.count result) }
+    ensures kept { SameWords blocks.old blocks.new }
+    ensures kept_objects { SameTable objects.old objects.new }
 {
-    read_with(
-        image,
-        wanted,
-        list,
-        addresses,
-        counts,
-        &mut [],
-        reading,
-        tree,
-        heap,
-        count,
-        objects,
-    )
+    read_with(reading, blocks, objects, &mut [], tree, heap)
 }
 
 // A map of so many cells, as many of them as the segment has.
 fn read_mapped<const CELLS: usize>(
-    image: &[u8],
-    wanted: &[u8],
-    list: &mut [u64],
-    addresses: &mut [u64],
-    counts: &mut [u32],
-    reading: Reading,
+    reading: &Reading<'_>,
+    blocks: &mut Blocks<'_>,
+    objects: &mut Objects<'_>,
     tree: u64,
     heap: Heap,
-    count: usize,
-    objects: usize,
 ) -> Result<State, Refusal>
-    requires settings { Settings image.now reading.end_of_file reading.room reading.leaf_k reading.internal_k }
-    requires ready { Ready reading.auditing list.old addresses.old counts.old reading.end_of_file reading.room count objects }
-    requires segment_inside { SegmentInside image.now reading.end_of_file heap }
+    requires settings { Settings reading.now.image.now reading.now.bounds.end_of_file reading.now.bounds.room reading.now.leaf_k
+        reading.now.internal_k }
+    requires ready { Ready reading.now.auditing blocks.old.words.now objects.old.addresses.now objects.old.counts.now
+        reading.now.bounds.end_of_file reading.now.bounds.room blocks.old.count objects.old.count }
+    requires segment_inside { SegmentInside reading.now.image.now reading.now.bounds.end_of_file heap }
     requires size_bound { heap.size / 16 + 1 ≤ CELLS }
     requires cells_bound { CELLS < 2 ^ 63 }
-    ensures { ContentsAre image.now wanted.now list.old addresses.old counts.old
-        reading.end_of_file reading.room reading.leaf_k reading.internal_k reading.auditing tree heap count objects
-        list.new addresses.new counts.new result }
+    ensures read { ContentsAre reading.now.image.now reading.now.wanted.now blocks.old.words.now objects.old.addresses.now objects.old.counts.now
+        reading.now.bounds.end_of_file reading.now.bounds.room reading.now.leaf_k reading.now.internal_k reading.now.auditing tree heap
+        blocks.old.count objects.old.count blocks.new.words.now objects.new.addresses.now objects.new.counts.now
+        (reached blocks.new.count objects.new.count result) }
+    ensures kept { SameWords blocks.old blocks.new }
+    ensures kept_objects { SameTable objects.old objects.new }
 {
     let mut map = [0u8; CELLS];
     let cells = heap.size / 16 + 1;
-    read_with(
-        image,
-        wanted,
-        list,
-        addresses,
-        counts,
-        &mut map[..cells],
-        reading,
-        tree,
-        heap,
-        count,
-        objects,
-    )
+    read_with(reading, blocks, objects, &mut map[..cells], tree, heap)
 }
 
 // The contents of a group with an entered heap, with a map that is as long as the segment asks for. A list is followed for each name in a segment that
 // is too long.
 pub fn read_in(
-    image: &[u8],
-    wanted: &[u8],
-    list: &mut [u64],
-    addresses: &mut [u64],
-    counts: &mut [u32],
-    reading: Reading,
+    reading: &Reading<'_>,
+    blocks: &mut Blocks<'_>,
+    objects: &mut Objects<'_>,
     tree: u64,
     heap: Heap,
-    count: usize,
-    objects: usize,
 ) -> Result<State, Refusal>
-    requires settings { Settings image.now reading.end_of_file reading.room reading.leaf_k reading.internal_k }
-    requires ready { Ready reading.auditing list.old addresses.old counts.old reading.end_of_file reading.room count objects }
-    requires segment_inside { SegmentInside image.now reading.end_of_file heap }
-    ensures { ContentsAre image.now wanted.now list.old addresses.old counts.old
-        reading.end_of_file reading.room reading.leaf_k reading.internal_k reading.auditing tree heap count objects
-        list.new addresses.new counts.new result }
+    requires settings { Settings reading.now.image.now reading.now.bounds.end_of_file reading.now.bounds.room reading.now.leaf_k
+        reading.now.internal_k }
+    requires ready { Ready reading.now.auditing blocks.old.words.now objects.old.addresses.now objects.old.counts.now
+        reading.now.bounds.end_of_file reading.now.bounds.room blocks.old.count objects.old.count }
+    requires segment_inside { SegmentInside reading.now.image.now reading.now.bounds.end_of_file heap }
+    ensures read { ContentsAre reading.now.image.now reading.now.wanted.now blocks.old.words.now objects.old.addresses.now objects.old.counts.now
+        reading.now.bounds.end_of_file reading.now.bounds.room reading.now.leaf_k reading.now.internal_k reading.now.auditing tree heap
+        blocks.old.count objects.old.count blocks.new.words.now objects.new.addresses.now objects.new.counts.now
+        (reached blocks.new.count objects.new.count result) }
+    ensures kept { SameWords blocks.old blocks.new }
+    ensures kept_objects { SameTable objects.old objects.new }
 {
     if no_list(heap.head) {
-        return read_plain(
-            image, wanted, list, addresses, counts, reading, tree, heap, count, objects,
-        );
+        return read_plain(reading, blocks, objects, tree, heap);
     }
     if heap.size / 16 < FEW_CELLS {
-        return read_mapped::<FEW_CELLS>(
-            image, wanted, list, addresses, counts, reading, tree, heap, count, objects,
-        );
+        return read_mapped::<FEW_CELLS>(reading, blocks, objects, tree, heap);
     }
     if heap.size / 16 < MANY_CELLS {
-        return read_mapped::<MANY_CELLS>(
-            image, wanted, list, addresses, counts, reading, tree, heap, count, objects,
-        );
+        return read_mapped::<MANY_CELLS>(reading, blocks, objects, tree, heap);
     }
     if heap.size / 16 < MOST_CELLS {
-        return read_mapped::<MOST_CELLS>(
-            image, wanted, list, addresses, counts, reading, tree, heap, count, objects,
-        );
+        return read_mapped::<MOST_CELLS>(reading, blocks, objects, tree, heap);
     }
-    read_plain(
-        image, wanted, list, addresses, counts, reading, tree, heap, count, objects,
-    )
+    read_plain(reading, blocks, objects, tree, heap)
 }

@@ -22,12 +22,11 @@ use Rattle.std.specs.Prelude.{Result, Ok, Err}
 use Rattle.laws.proofs.Simulation.{Simulation, start, returned, passed, failed, outside, block-entered, block_refused, callee-value, callee-refusal}
 use Rattle.laws.proofs.Simulation.{callee-last, callee-stopped, callee-done}
 use Rattle.tally.specs.Tally.{Tallied}
-use Rattle.scan.specs.Scan.{MessagesAre}
+use Rattle.scan.specs.Scan.{Gathering, MessagesAre}
 use Rattle.continuations.specs.Continuations.{GatheredIs, Waiting}
 use Rattle.continuations.proofs.ContinuationLaws.{cursor}
 use Rattle.tally.specs.declared.Tally.{Tally}
 use Rattle.continuations.specs.declared.Reading.{Reading}
-use Rattle.scan.specs.declared.Gathering.{Gathering}
 use Rattle.scan.proofs.ScanLaws.{messages-held}
 use Rattle.header_messages.proofs.HeaderBlock.{version-shown, field-shown, header-length, header-known, block-messages, first-waiting}
 use Rattle.header_messages.proofs.HeaderBlock.{total-equal, total-unequal}
@@ -40,7 +39,8 @@ module _ {S : Type 0} (visit : Message → S → reader.Result S) (im : List ℕ
   unfolding header_messages
   at-start = start im eof room (header_messages visit at found) count ws l
 
-  pub header-outside : eof < at + 16 → Walked ws ws (stopped (not_entered 5 2 at 16 [])) (run im eof room (header_messages visit at found) (blocks_of count ws))
+  pub header-outside : eof < at + 16 →
+      Walked ws ws (stopped (not_entered 5 2 at 16 [])) (run im eof room (header_messages visit at found) (blocks_of count ws))
   header-outside h = outside h at-start
 
   module _ (size : ℕ) (n : Number im (at + 8) 4 size) (h : at + 16 ≤ length im) (k : at + 16 ≤ eof) (ws₁ : List ℕ)
@@ -57,7 +57,7 @@ module _ {S : Type 0} (visit : Message → S → reader.Result S) (im : List ℕ
 -- a callee that gathers the messages of what is left
 pub gathered-last : (im : List ℕ) (q : Reading) (w₀ w : Walk (Gathered Found)) (n₀ n : ℕ) (ws₀ ws ws₁ a c m : List ℕ)
     (r : Result (Gathering × ℕ) Refusal) →
-    Simulation im q.end_of_file q.room w₀ n₀ ws₀ w n ws → GatheredIs im q ws n w ws₁ a c m r → GatheredIs im q ws₀ n₀ w₀ ws₁ a c m r
+    Simulation im q.bounds.end_of_file q.bounds.room w₀ n₀ ws₀ w n ws → GatheredIs im q ws n w ws₁ a c m r → GatheredIs im q ws₀ n₀ w₀ ws₁ a c m r
 gathered-last im q w₀ w n₀ n ws₀ ws ws₁ a c m (Ok g) s h = (h.0, callee-last ws₁ s h.1, h.2)
 gathered-last im q w₀ w n₀ n ws₀ ws ws₁ a c m (Err x) s h = callee-last ws₁ s h
 

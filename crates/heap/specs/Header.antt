@@ -53,10 +53,10 @@ segment_of im h = part im h.segment h.size
 abbrev pub open_heap : List ℕ → Heap → OpenHeap
 open_heap im h = record { segment = segment_of im h; head = h.head; place = h.segment }
 
--- how the reader's run ended
-abbrev pub open_end : List ℕ → Result (Heap × ℕ) Refusal → Ended OpenHeap
-open_end im (Ok h) = ended (open_heap im h.0) h.1
-open_end im (Err r) = stopped r
+-- how the reader's run ended, with so many blocks
+abbrev pub open_end : List ℕ → ℕ → Result Heap Refusal → Ended OpenHeap
+open_end im count (Ok h) = ended (open_heap im h) count
+open_end im count (Err r) = stopped r
 
 -- the segment lies in the image, before the end-of-file address
 pub record SegmentInside (im : List ℕ) (eof : ℕ) (h : Heap) : Type 0 where
@@ -64,6 +64,6 @@ pub record SegmentInside (im : List ℕ) (eof : ℕ) (h : Heap) : Type 0 where
   pub file : h.segment + h.size ≤ eof
 
 -- so does that of a heap that was entered
-abbrev pub OpenedInside : List ℕ → ℕ → Result (Heap × ℕ) Refusal → Type 0
-OpenedInside im eof (Ok h) = SegmentInside im eof h.0
+abbrev pub OpenedInside : List ℕ → ℕ → Result Heap Refusal → Type 0
+OpenedInside im eof (Ok h) = SegmentInside im eof h
 OpenedInside im eof (Err r) = Unit {0}

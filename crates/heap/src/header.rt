@@ -2,10 +2,11 @@
 ghost use Rattle.std.specs.Prelude.{◌≤◌, length};
 ghost use Rattle.format.specs.Walk.{run};
 ghost use Rattle.walk.specs.Lent.{Lent, Walked, blocks_of};
+ghost use Rattle.walk.specs.Entered.{SameWords};
 ghost use Rattle.heap.specs.Header.{HeaderRead, open_walk, open_end, OpenedInside};
 
 use format::{Refusal, answers};
-use walk::blocks::enter;
+use walk::blocks::{Blocks, Bounds};
 use walk::kinds;
 use walk::numbers::{u32_at, u64_at};
 
@@ -50,40 +51,25 @@ fn read_header(bytes: &[u8]) -> Result<Header, u8>
     })
 }
 
-// Enters the header and the segment of the heap at `at`: the heap, and the number of blocks entered.
-pub fn open(
-    image: &[u8],
-    end_of_file: u64,
-    blocks: &mut [u64],
-    count: usize,
-    room: usize,
-    at: u64,
-) -> Result<(Heap, usize), Refusal>
-    requires lent { Lent blocks.old count room }
-    requires end_of_file_in_bounds { end_of_file ≤ length image.now }
-    ensures walked { Walked blocks.old blocks.new (open_end image.now result)
-        (run image.now end_of_file room (open_walk at) (blocks_of count blocks.old)) }
-    ensures opened_inside { OpenedInside image.now end_of_file result }
+// Enters the header and the segment of the heap at `at`.
+pub fn open(image: &[u8], blocks: &mut Blocks<'_>, bounds: Bounds, at: u64) -> Result<Heap, Refusal>
+    requires lent { Lent blocks.old.words.now blocks.old.count bounds.room }
+    requires end_of_file_in_bounds { bounds.end_of_file ≤ length image.now }
+    ensures walked { Walked blocks.old.words.now blocks.new.words.now (open_end image.now blocks.new.count result)
+        (run image.now bounds.end_of_file bounds.room (open_walk at) (blocks_of blocks.old.count blocks.old.words.now)) }
+    ensures opened_inside { OpenedInside image.now bounds.end_of_file result }
+    ensures kept { SameWords blocks.old blocks.new }
 {
-    let with_header = enter(end_of_file, blocks, count, room, kinds::HEAP, at, 32)?;
+    blocks.enter(bounds, kinds::HEAP, at, 32)?;
     let place = at as usize;
     let behind = place + 32;
     let header = read_header(&image[place..behind]).map_err(|answer| Refusal::Fault(
         answer, place,
     ))?;
-    let with_segment = enter(
-        end_of_file,
-        blocks,
-        with_header,
-        room,
-        kinds::SEGMENT,
-        header.address,
-        header.size,
-    )?;
-    let heap = Heap {
+    blocks.enter(bounds, kinds::SEGMENT, header.address, header.size)?;
+    Ok(Heap {
         segment: header.address as usize,
         size: header.size as usize,
         head: header.head,
-    };
-    Ok((heap, with_segment))
+    })
 }

@@ -51,7 +51,7 @@ read_as visit im eof room ws count at found l ws' g n k h (ended o m) e = rw e.1
 read_as visit im eof room ws count at found l ws' g n k h (stopped x) e = read-refused visit im eof room ws count at found l ws' g n k h x e
 
 pub counting-then : (q : Reading) (ws addresses counts marks : List ℕ) (objects n : ℕ) (w : Walk Object) (e : Ended Object) → KnownAs w n e →
-    CountingIf q.auditing ws addresses counts marks q.end_of_file n objects 16 → CountingThen q ws addresses counts marks objects e
+    CountingIf q.auditing ws addresses counts marks q.bounds.end_of_file n objects 16 → CountingThen q ws addresses counts marks objects e
 counting-then q ws addresses counts marks objects n w (ended o m) k h = rw k.1 h
 counting-then q ws addresses counts marks objects n w (stopped x) k h = tt
 

@@ -24,17 +24,8 @@ use Rattle.heap.specs.Segment.{heap_with}
 use Rattle.names.specs.Texts.{fault_of, CheckedAs}
 use Rattle.nul.specs.Nul.{NulWithin}
 use Rattle.names.specs.declared.NameFault.{NameFault}
-use Rattle.names.specs.declared.NameFault.TheVariants.{Outside, NoNul, BadForm, InFreeBlock}
 use Rattle.range.proofs.FirstBytes.{name_at, string-inside}
 use Rattle.key.specs.Key.{KeysAre, KeyAt, KeyIs}
-
--- every fault gives 9
-pub fault-nine : (f : NameFault) → 9 ≡ fault_number (fault_of f)
-unfolding fault_number
-fault-nine Outside = refl
-fault-nine NoNul = refl
-fault-nine BadForm = refl
-fault-nine InFreeBlock = refl
 
 -- a key is read from the segment alone
 key-segment : (h : Heap) (seg : List ℕ) (off : ℕ) → h.segment ≡ seg → (free : List Block) → key_text h off ≡ key_text (heap_with seg free) off

@@ -1,27 +1,14 @@
 // The keys of a tree node: strings of the heap's segment.
 #![tactic(auto)]
 
-ghost use Rattle.std.specs.Prelude.{◌≡◌, ◌+◌, ◌*◌, ◌≤◌, length};
-ghost use Rattle.format.specs.Names.{fault_number};
-ghost use Rattle.names.specs.Texts.{fault_of};
+ghost use Rattle.std.specs.Prelude.{◌+◌, ◌*◌, ◌≤◌, length};
 ghost use Rattle.nul.specs.Nul.{LastNul};
 ghost use Rattle.key.specs.Key.{KeysAre, KeyAt, KeyIs};
 
-use format::{Refusal, answers};
-use names::NameFault;
+use format::Refusal;
 use order::{first_number, second_number};
 use range::Name;
 use walk::numbers::u64_at;
-
-// The answer to a fault of a name.
-pub fn fault_number(fault: NameFault) -> u8
-    ensures { result ≡ fault_number (fault_of fault) }
-{
-    match fault {
-        NameFault::Outside | NameFault::NoNul | NameFault::BadForm | NameFault::InFreeBlock =>
-            answers::HEAP_UNSOUND,
-    }
-}
 
 // Whether `n` keys are strings of the segment, of which `ended` bytes reach to the last NUL. The first stands at `from`, and a child's
 // address behind each but the last.
@@ -39,7 +26,7 @@ pub fn check_keys(
     for i in 0..n {
         let at = from + 16 * i;
         let off = u64_at(image, at);
-        names::key(segment, ended, off).map_err(|f| Refusal::Fault(fault_number(f), at))?;
+        names::key(segment, ended, off).map_err(|f| Refusal::Fault(u8::from(f), at))?;
     }
     Ok(())
 }

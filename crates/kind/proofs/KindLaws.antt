@@ -131,12 +131,12 @@ module _ (im : List ℕ) (ms : List Message) (t : Tally) (a : Tallied im ms t) w
       (all-four _ _ _ _)
 
 -- What the answers say, by what the tally has of each type.
-module _ (im : List ℕ) (at : ℕ) (t : Tally) (count : ℕ) where
+module _ (im : List ℕ) (at : ℕ) (t : Tally) where
   pub is-group : (place tree heap : ℕ) → t.space ≡ Absent → t.datatype ≡ Absent → t.layout ≡ Absent → t.table ≡ Once place → Number im place 8 tree →
       Number im (place + 8) 8 heap →
-      KindIs im at t count (Ok (Group tree heap count))
+      KindIs im at t (Ok (Group tree heap))
   is-group place tree heap s d l e n o = record {
-    known = λ ms a.
+    known = λ ms count a.
         let i = rw e at a.table in
         let z : place + 0 ≡ place = omega arith in
         let k : 16 ≤ u16 im (place - 6) = i.2.long refl in (
@@ -149,9 +149,9 @@ module _ (im : List ℕ) (at : ℕ) (t : Tally) (count : ℕ) where
 
   pub is-dataset : (p q r : ℕ) (x y z : Body) → t.space ≡ Once p → t.datatype ≡ Once q → t.layout ≡ Once r → t.table ≡ Absent → BodyAt im p x →
       BodyAt im q y → BodyAt im r z →
-      KindIs im at t count (Ok (Dataset x y z count))
+      KindIs im at t (Ok (Dataset (record { space = x; datatype = y; layout = z })))
   is-dataset p q r x y z s d l e u v w = record {
-    known = λ ms a.
+    known = λ ms count a.
         let i = rw s at a.space in
         let j = rw d at a.datatype in
         let k = rw l at a.layout in (
@@ -168,27 +168,27 @@ module _ (im : List ℕ) (at : ℕ) (t : Tally) (count : ℕ) where
         let i = rw d at a.datatype in
         ap (λ (m : Message). m.flags) (i.1 ∙ sym (u.is 0x0003))
 
-    pub is-committed : (b.flags / 2 % 2 ≡ 1 → ⊥) → KindIs im at t count (Ok (Committed count))
+    pub is-committed : (b.flags / 2 % 2 ≡ 1 → ⊥) → KindIs im at t (Ok Committed)
     is-committed n = record {
-      known = λ ms a.
+      known = λ ms count a.
           let i = rw d at a.datatype in
           (object-committed at ms (rw s at a.space) i.0 (rw l at a.layout) (rw e at a.table) (rw (flags-are ms a) (ne_eqb _ 1 n)), refl);
       bodies = tt;
     }
 
-    pub is-shared : b.flags / 2 % 2 ≡ 1 → KindIs im at t count (Err (fault 10 at))
+    pub is-shared : b.flags / 2 % 2 ≡ 1 → KindIs im at t (Err (fault 10 at))
     is-shared n = record {
-      known = λ ms a.
+      known = λ ms count a.
           let i = rw d at a.datatype in
           object-shared at ms (rw s at a.space) i.0 (rw l at a.layout) (rw e at a.table) (rw (flags-are ms a) (eq-eqb _ 1 n));
       bodies = tt;
     }
 
   -- "Anything else gives 10"
-  pub is-none : has_kind t.space t.datatype t.layout t.table ≡ false → KindIs im at t count (Err (fault 10 at))
+  pub is-none : has_kind t.space t.datatype t.layout t.table ≡ false → KindIs im at t (Err (fault 10 at))
   unfolding object_of
   is-none n = record {
-    known = λ ms a.
+    known = λ ms count a.
         let f = no-other (of_group t.space t.datatype t.layout t.table) (of_dataset t.space t.datatype t.layout t.table)
         (of_committed t.space t.datatype t.layout t.table) n in
         rw (has-group im ms t a ∙ f.0, has-dataset im ms t a ∙ f.1, has-committed im ms t a ∙ f.2) refl;

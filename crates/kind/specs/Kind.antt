@@ -24,19 +24,19 @@ pub record BodyAt (im : List ℕ) (place : ℕ) (b : Body) : Type 0 where
   pub inside : b.place + b.size ≤ length im
 
 -- the object, with the number of blocks then entered, or the refusal
-abbrev pub header_end : List ℕ → Result HeaderRead Refusal → Ended Object
-header_end im (Ok (Group tree heap count)) = ended (group tree heap) count
-header_end im (Ok (Dataset space type layout count)) =
-    ended (dataset (message_of im 0x0001 space) (message_of im 0x0003 type) (message_of im 0x0008 layout)) count
-header_end im (Ok (Committed count)) = ended committed count
-header_end im (Err r) = stopped r
+abbrev pub header_end : List ℕ → ℕ → Result HeaderRead Refusal → Ended Object
+header_end im count (Ok (Group tree heap)) = ended (group tree heap) count
+header_end im count (Ok (Dataset b)) =
+    ended (dataset (message_of im 0x0001 b.space) (message_of im 0x0003 b.datatype) (message_of im 0x0008 b.layout)) count
+header_end im count (Ok Committed) = ended committed count
+header_end im count (Err r) = stopped r
 
 -- the bodies of a dataset lie inside the image
 abbrev pub BodiesInside : List ℕ → Result HeaderRead Refusal → Type 0
-BodiesInside im (Ok (Group tree heap count)) = Unit {0}
-BodiesInside im (Ok (Dataset space type layout count)) =
-    (space.place + space.size ≤ length im) × (type.place + type.size ≤ length im) × (layout.place + layout.size ≤ length im)
-BodiesInside im (Ok (Committed count)) = Unit {0}
+BodiesInside im (Ok (Group tree heap)) = Unit {0}
+BodiesInside im (Ok (Dataset b)) =
+    (b.space.place + b.space.size ≤ length im) × (b.datatype.place + b.datatype.size ≤ length im) × (b.layout.place + b.layout.size ≤ length im)
+BodiesInside im (Ok Committed) = Unit {0}
 BodiesInside im (Err r) = Unit {0}
 
 -- the walk of an object that is known, with so many blocks entered
@@ -44,6 +44,7 @@ abbrev pub KnownAs : Walk Object → ℕ → Ended Object → Type 0
 KnownAs w count (ended o n) = (w ≡ ret o) × (n ≡ count)
 KnownAs w count (stopped r) = w ≡ refuse r
 
-pub record KindIs (im : List ℕ) (at : ℕ) (t : Tally) (count : ℕ) (r : Result HeaderRead Refusal) : Type 0 where
-  pub known : (ms : List Message) → Tallied im ms t → KnownAs (object_of at ms) count (header_end im r)
+-- the object is known by the messages of the tally, however many blocks are entered
+pub record KindIs (im : List ℕ) (at : ℕ) (t : Tally) (r : Result HeaderRead Refusal) : Type 0 where
+  pub known : (ms : List Message) (count : ℕ) → Tallied im ms t → KnownAs (object_of at ms) count (header_end im count r)
   pub bodies : BodiesInside im r

@@ -5,7 +5,7 @@ ghost use Rattle.tally.specs.Tally.{HasTally};
 ghost use Rattle.kind.specs.Kind.{Located, BodyAt, KindIs};
 
 use format::{Refusal, answers};
-use message::Body;
+use message::{Bodies, Body};
 use tally::Occurrence::{Absent, Once};
 use tally::Tally;
 use walk::numbers::{u16_at, u64_at};
@@ -22,46 +22,35 @@ fn body_at(image: &[u8], place: usize) -> Body
     }
 }
 
-// The object that a header tells of, with the number of blocks then entered.
+// The object that a header tells of.
 #[derive(Clone, Copy)]
 pub enum HeaderRead {
-    Group {
-        tree: u64,
-        heap: u64,
-        count: usize,
-    },
-    Dataset {
-        space: Body,
-        datatype: Body,
-        layout: Body,
-        count: usize,
-    },
-    Committed(usize),
+    Group { tree: u64, heap: u64 },
+    Dataset(Bodies),
+    Committed,
 }
 
 // What the object is, by its messages.
-pub fn kind_of(image: &[u8], at: usize, tally: Tally, count: usize) -> Result<HeaderRead, Refusal>
+pub fn kind_of(image: &[u8], at: usize, tally: Tally) -> Result<HeaderRead, Refusal>
     requires { HasTally image.now tally }
-    ensures { KindIs image.now at tally count result }
+    ensures { KindIs image.now at tally result }
 {
     match (tally.space, tally.datatype, tally.layout, tally.table) {
         (Absent, Absent, Absent, Once(place)) => Ok(HeaderRead::Group {
             tree: u64_at(image, place),
             heap: u64_at(image, place + 8),
-            count,
         }),
-        (Once(space), Once(datatype), Once(layout), Absent) => Ok(HeaderRead::Dataset {
+        (Once(space), Once(datatype), Once(layout), Absent) => Ok(HeaderRead::Dataset(Bodies {
             space: body_at(image, space),
             datatype: body_at(image, datatype),
             layout: body_at(image, layout),
-            count,
-        }),
+        })),
         (Absent, Once(datatype), Absent, Absent) => {
             let body = body_at(image, datatype);
             if body.flags / 2 % 2 == 1 {
                 return Err(Refusal::Fault(answers::HEADER_UNSOUND, at));
             }
-            Ok(HeaderRead::Committed(count))
+            Ok(HeaderRead::Committed)
         }
         _ => Err(Refusal::Fault(answers::HEADER_UNSOUND, at)),
     }

@@ -9,6 +9,7 @@ use format::Refusal;
 use image::header;
 use kind::HeaderRead;
 use superblock::Superblock;
+use walk::blocks::{Blocks, Bounds};
 
 // The numbers of document 01 for the kinds of objects. They stay numbers, as the reply has them in C too.
 const GROUP: u8 = 1;
@@ -29,11 +30,19 @@ pub fn kind_at(
     requires lent { Lent list.old 0 room }
     ensures { KindIs image.now superblock room at result }
 {
-    let entered = superblock::enter_superblock(superblock, list, room)?;
-    let header = header::read(image, superblock.end_of_file, list, entered, room, at)?;
+    let mut blocks = Blocks {
+        words: list,
+        count: 0,
+    };
+    superblock::enter_superblock(superblock, &mut blocks, room)?;
+    let bounds = Bounds {
+        end_of_file: superblock.end_of_file,
+        room,
+    };
+    let header = header::read(image, &mut blocks, bounds, at)?;
     match header {
         HeaderRead::Group { .. } => Ok(GROUP),
-        HeaderRead::Dataset { .. } => Ok(DATASET),
-        HeaderRead::Committed(_) => Ok(COMMITTED_DATATYPE),
+        HeaderRead::Dataset(_) => Ok(DATASET),
+        HeaderRead::Committed => Ok(COMMITTED_DATATYPE),
     }
 }

@@ -174,7 +174,8 @@ module _ {im : List ℕ} {eof room : ℕ} {A : Type 0} {w₀ : Walk A} {n₀ : �
 
   -- the function `enter`, called for a block of m bytes
   module _ {v : Kind} {a : ℕ} {l : Length} {k : List ℕ → Walk A} (m : ℕ) (sized : m ≡ length_in im v a l) (known : known_length im eof v a l ≡ m) (ws₁ : List ℕ)
-      (s : Simulation im eof room w₀ n₀ ws₀ (enter v a l k) n ws) (q : IsEntered (entry_answer eof room (blocks_of n ws) a m) ws n (kind_number v) a m ws₁) where
+      (s : Simulation im eof room w₀ n₀ ws₀ (enter v a l k) n ws)
+      (q : IsEntered (entry_answer eof room (blocks_of n ws) a m) ws n (kind_number v) a m ws₁) where
     abbrev answer : ℕ
     answer = entry_answer eof room (blocks_of n ws) a m
 

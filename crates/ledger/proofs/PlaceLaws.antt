@@ -14,7 +14,7 @@ use Rattle.format.specs.Ledger.{Linked, linked, in_ledger, add_link, count_link}
 use Rattle.format.specs.Sharing.{place_of}
 use Rattle.ledger.specs.Index.{Found}
 use Rattle.ledger.specs.Table.{linked_of, Table, Discovered}
-use Rattle.std.specs.Prelude.{Some}
+use Rattle.std.specs.Prelude.{Option, Some, None, unwrap_or}
 use Rattle.ledger.proofs.LedgerLaws.{count-cases, count-in}
 use Rattle.ledger.proofs.TableLaws.{length-linked_of}
 
@@ -79,14 +79,21 @@ linked-place a (suc r) (suc n) (x ∷ xs) (t ∷ ts) h k l b e =
     place-later a (linked x t) (linked_of n xs ts) (ne_eqb a x (λ q. b 0 (omega arith) (sym q)))
     ∙ ap suc (linked-place a r n xs ts (omega arith) (omega arith) (omega arith) (λ j m. b (suc j) (omega arith)) (λ m. e (omega arith)))
 
--- where a search ended, the object stands after its discovery
-module _ (xs ts : List ℕ) (n a r : ℕ) (t : Table xs ts n) (f : Found xs n a r) where
-  pub found-place : place_of a (linked_of n xs ts) ≡ r
-  found-place = linked-place a r n xs ts (omega (arith, t.fits, t.addresses_long)) (omega (arith, t.fits, t.counts_long)) f.within f.before f.there
+-- the place of the object that a search found, or of the next one
+pub found-place : (xs ts : List ℕ) (n a : ℕ) (o : Option ℕ) → Table xs ts n → Found xs n a o → place_of a (linked_of n xs ts) ≡ unwrap_or o n
+found-place xs ts n a (Some r) t f =
+    linked-place a r n xs ts (omega (arith, t.fits, t.addresses_long)) (omega (arith, t.fits, t.counts_long)) (omega (arith, f.0)) f.2 (λ _. f.1)
+found-place xs ts n a None t f =
+    linked-place a n n xs ts (omega (arith, t.fits, t.addresses_long)) (omega (arith, t.fits, t.counts_long)) (omega arith) f (λ l. absurd (omega arith))
+
+-- there the object stands after its discovery
+module _ (xs ts : List ℕ) (n a : ℕ) (o : Option ℕ) (t : Table xs ts n) (f : Found xs n a o) where
+  abbrev r : ℕ
+  r = unwrap_or o n
 
   module _ (xs' ts' : List ℕ) (m : ℕ) (d : Discovered xs ts n a xs' ts' (Some m)) where
     pub discovered-place : place_of a (linked_of m xs' ts') ≡ r
-    discovered-place = count-place a (linked_of n xs ts) (linked_of m xs' ts') (sym d.walk) ∙ found-place
+    discovered-place = count-place a (linked_of n xs ts) (linked_of m xs' ts') (sym d.walk) ∙ found-place xs ts n a o t f
 
     pub discovered-inside : r < m
     discovered-inside =

@@ -1,6 +1,6 @@
 -- Laws of the search for an address: the halving, and what the place and a guess decide.
-use Rattle.std.specs.Prelude.{Some}
-use Prim.Native.Nat.{ℕ, ◌+◌, ◌-◌, ◌/◌, ◌≤◌, ◌<◌}
+use Rattle.std.specs.Prelude.{Some, None}
+use Prim.Native.Nat.{ℕ, ◌+◌, ◌-◌, ◌≤◌, ◌<◌}
 use mathlib.Core.List.{List}
 use mathlib.Core.Logic.{⊎_elim}
 use mathlib.Core.Path.{◌≡◌, sym, ap, ◌∙◌}
@@ -11,7 +11,7 @@ use Rattle.format.specs.Limits.{objects_most}
 use Rattle.ordering.specs.Order.{words_from}
 use Rattle.ordering.proofs.OrderLaws.{below_or_not}
 use Rattle.ledger.specs.Index.{index_words, table_words, guess_at, address_in, Sorted, Indexed, Placed, Halving, Found, Guessed, Sought}
-use Rattle.ledger.specs.declared.search.Place.{Place}
+use Rattle.ordering.specs.declared.halving.Place.{Place}
 
 -- a guess stands behind the order, and in a list that has guesses
 pub guess-from : (a : ℕ) → index_words ≤ guess_at a
@@ -22,56 +22,20 @@ pub guess-in : (a : ℕ) → guess_at a < table_words
 unfolding guess_at objects_most
 guess-in a = omega arith
 
--- The objects before `low` have lower addresses than a, those from `high` on don't.
-pub record Between (xs : List ℕ) (from n a low high : ℕ) : Type 0 where
-  pub ordered : low ≤ high
-  pub most : high ≤ n
-  pub before : (k : ℕ) → k < low → address_in xs from k < a
-  pub after : (k : ℕ) → high ≤ k → k < n → a ≤ address_in xs from k
-
-pub between-all : (xs : List ℕ) (from n a : ℕ) → Between xs from n a 0 n
-between-all xs from n a = record {
-  ordered = omega arith;
-  most = omega arith;
-  before = λ k h. absurd (omega arith);
-  after = λ k h l. absurd (omega arith);
-}
-
-module _ (xs : List ℕ) (from n a low high : ℕ) (x : Sorted xs from n) (s : Between xs from n a low high) where
-  abbrev middle : ℕ
-  middle = low + (high - low) / 2
-
-  pub middle-in : low < high → middle < n
-  middle-in h = omega (arith, s.most)
-
-  -- the object in the middle is one of those in the list
-  pub middle-object : low < high → words_from xs from middle < length xs
-  middle-object h = omega (arith, x.ordering.within middle (middle-in h), x.inside)
-
-  pub middle-low : low < high → address_in xs from middle < a → Between xs from n a (middle + 1) high
-  middle-low h e = record {
-    ordered = omega arith;
-    most = s.most;
-    before = λ k l. ⊎_elim (λ (q : k ≡ middle). rw q e) (λ (q : k < middle). earlier k q) (eq-or-lt_of_le (omega arith));
-    after = s.after;
+-- The objects before a place in the order have lower addresses, if the last of them has; those from there on don't, if the first of them hasn't.
+module _ (xs : List ℕ) (from n a : ℕ) (x : Sorted xs from n) where
+  pub placed_by : (p : ℕ) → p ≤ n → ((k : ℕ) → k + 1 ≡ p → address_in xs from k < a) → (p < n → a ≤ address_in xs from p) → Placed xs from n a p
+  placed_by p m b u = record {
+    most = m;
+    before = λ k h. ⊎_elim (λ (q : k + 1 ≡ p). b k q) (λ (q : k + 1 < p). earlier k q) (eq-or-lt_of_le (omega arith));
+    after = λ k h l. ⊎_elim (λ (q : p ≡ k). rw (← q) (u (omega arith))) (λ (q : p < k). later k q l) (eq-or-lt_of_le h);
   }
     where
-      earlier : (k : ℕ) → k < middle → address_in xs from k < a
-      earlier k q = omega (arith, x.ordering.rising k middle q (omega (arith, s.most)))
+      earlier : (k : ℕ) → k + 1 < p → address_in xs from k < a
+      earlier k q = omega (arith, x.ordering.rising k (p - 1) (omega arith) (omega arith), b (p - 1) (omega arith))
 
-  pub middle-high : low < high → a ≤ address_in xs from middle → Between xs from n a low middle
-  middle-high h e = record {
-    ordered = omega arith;
-    most = omega (arith, s.most);
-    before = s.before;
-    after = λ k l u. ⊎_elim (λ (q : middle ≡ k). rw (← q) e) (λ (q : middle < k). later k q u) (eq-or-lt_of_le l);
-  }
-    where
-      later : (k : ℕ) → middle < k → k < n → a ≤ address_in xs from k
-      later k q u = omega (arith, x.ordering.rising middle k q u)
-
-  pub between_none : high ≤ low → Placed xs from n a low
-  between_none h = record { most = omega (arith, s.most, s.ordered); before = s.before; after = λ k l u. s.after k (omega arith) u }
+      later : (k : ℕ) → p < k → k < n → a ≤ address_in xs from k
+      later k q l = omega (arith, x.ordering.rising p k q l, u (omega arith))
 
 -- The place in the order decides.
 module _ (xs : List ℕ) (n a : ℕ) (x : Indexed xs n) where
@@ -97,12 +61,12 @@ module _ (xs : List ℕ) (n a : ℕ) (x : Indexed xs n) where
               omega (arith, rw (i.2, j.2) at r)
 
   -- so an object with the address is the first that has it
-  pub one_found : (p : ℕ) → p < n → get_or xs p 0 ≡ a → Found xs n a p
-  one_found p h e = record { within = omega arith; before = λ k l q. absurd (omega (arith, distinct k p (omega arith) h (q ∙ sym e))); there = λ _. e }
+  pub one_found : (p : ℕ) → p < n → get_or xs p 0 ≡ a → Found xs n a (Some p)
+  one_found p h e = (h, e, λ k l q. absurd (omega (arith, distinct k p (omega arith) h (q ∙ sym e))))
 
   -- none has the address, where the first that isn't lower is a higher one, or where there is no such
-  pub none_found : (order : ℕ) → Placed xs objects_most n a order → (order < n → address_in xs objects_most order ≡ a → ⊥) → Found xs n a n
-  none_found order p h = record { within = omega arith; before = λ k l e. other k (x.ordering.onto k l) e; there = λ l. absurd (omega arith) }
+  pub none_found : (order : ℕ) → Placed xs objects_most n a order → (order < n → address_in xs objects_most order ≡ a → ⊥) → Found xs n a None
+  none_found order p h k l e = other k (x.ordering.onto k l) e
     where
       other : (k : ℕ) → (j : ℕ) × (j < n) × (words_from xs objects_most j ≡ k) → get_or xs k 0 ≡ a → ⊥
       other k j e =
@@ -117,8 +81,8 @@ module _ (xs : List ℕ) (n a : ℕ) (x : Indexed xs n) where
           (below_or_not j.0 order)
 
   -- what a search ends with: the guess that has the address
-  pub sought-guess : (p : ℕ) → Guessed xs n a (Some p) → Sought xs n a 2 (record { place = p; order = 0; tests = 1 })
-  sought-guess p g = record { found = one_found p g.0 g.1; placed = λ l. absurd (omega (arith, g.0)); tests = λ m l. omega arith }
+  pub sought-guess : (p : ℕ) → Guessed xs n a (Some p) → Sought xs n a 2 (record { object = Some p; order = 0; tests = 1 })
+  sought-guess p g = record { found = one_found p g.0 g.1; placed = λ e. absurd (cc); tests = λ m l. omega arith }
 
   module _ (from : ℕ) (is : from ≡ objects_most) where
     pub from_sorted : Sorted xs from n
@@ -133,7 +97,7 @@ module _ (xs : List ℕ) (n a : ℕ) (x : Indexed xs n) where
 
       -- the object in the place has the address
       pub sought-there : r.place < n → address_in xs from r.place ≡ a →
-          Sought xs n a 1 (record { place = words_from xs from r.place; order = r.place; tests = r.tests + 1 })
+          Sought xs n a 1 (record { object = Some (words_from xs from r.place); order = r.place; tests = r.tests + 1 })
       sought-there l e = record {
         found = one_found _ (rw is (x.ordering.within r.place l)) e;
         placed = λ _. placed;
@@ -142,7 +106,7 @@ module _ (xs : List ℕ) (n a : ℕ) (x : Indexed xs n) where
 
       -- it has another, or there is none
       pub sought-none : (r.place < n → address_in xs from r.place ≡ a → ⊥) →
-          Sought xs n a 1 (record { place = n; order = r.place; tests = r.tests + 1 })
+          Sought xs n a 1 (record { object = None; order = r.place; tests = r.tests + 1 })
       sought-none l = record {
         found = none_found r.place placed (rw is at l);
         placed = λ _. placed;

@@ -40,7 +40,8 @@ pub drop_past : (n i : ℕ) (xs ts : List ℕ) → n ≤ i → drop i (linked_of
 drop_past n i xs ts h = let l : length (linked_of n xs ts) ≤ i = rw length-linked_of h in drop_of_length-le (linked_of n xs ts) l
 
 -- a place written behind the first n is one object more
-linked-last : (a c n : ℕ) (xs ts : List ℕ) → n < length xs → n < length ts → linked_of (suc n) (set xs n a) (set ts n c) ≡ linked_of n xs ts ++ (linked a c ∷ [])
+linked-last : (a c n : ℕ) (xs ts : List ℕ) → n < length xs → n < length ts →
+    linked_of (suc n) (set xs n a) (set ts n c) ≡ linked_of n xs ts ++ (linked a c ∷ [])
 unfolding linked_of
 linked-last a c n [] ts h k = absurd (omega arith)
 linked-last a c n (x ∷ xs) [] h k = absurd (omega arith)
@@ -76,7 +77,8 @@ linked-in a (suc r) (suc n) (x ∷ xs) (t ∷ ts) h k l b e =
     in-later a (linked x t) (linked_of n xs ts) (ne_eqb a x (λ q. b 0 (omega arith) (sym q)))
     ∙ linked-in a r n xs ts (omega arith) (omega arith) (omega arith) (λ j m. b (suc j) (omega arith)) e
 
-pub linked-out : (a n : ℕ) (xs ts : List ℕ) → n ≤ length xs → n ≤ length ts → ((k : ℕ) → k < n → get_or xs k 0 ≡ a → ⊥) → in_ledger a (linked_of n xs ts) ≡ false
+pub linked-out : (a n : ℕ) (xs ts : List ℕ) → n ≤ length xs → n ≤ length ts → ((k : ℕ) → k < n → get_or xs k 0 ≡ a → ⊥) →
+    in_ledger a (linked_of n xs ts) ≡ false
 unfolding linked_of in_ledger
 linked-out a zero xs ts h k b = refl
 linked-out a (suc n) [] ts h k b = absurd (omega arith)
@@ -136,17 +138,17 @@ module _ (xs ts : List ℕ) (n a : ℕ) (xs' : List ℕ) (t : Table xs ts n) (l 
   pub ledger-added : linked_of (n + 1) xs' (set ts n 1) ≡ linked_of n xs ts ++ (linked a 1 ∷ [])
   ledger-added = linked-added a 1 n xs ts xs' (omega (arith, t.addresses_long)) (omega (arith, t.counts_long)) l d
 
--- A search that found a place or none, and what is then done to the table.
-module _ (xs ts : List ℕ) (n a r : ℕ) (t : Table xs ts n) (f : Found xs n a r) where
+-- A search that found an object, and what is then done to the table.
+module _ (xs ts : List ℕ) (n a r : ℕ) (t : Table xs ts n) (f : Found xs n a (Some r)) where
   -- one link more, and the object is the guess for its address, where there are guesses
-  pub discover-known : (xs' : List ℕ) (o : ℕ) → xs' ≡ with_guess xs a o → r < n → Discovered xs ts n a xs' (set ts r (get_or ts r 0 + 1)) (Some n)
-  discover-known xs' o e h =
+  pub discover-known : (xs' : List ℕ) (o : ℕ) → xs' ≡ with_guess xs a o → Discovered xs ts n a xs' (set ts r (get_or ts r 0 + 1)) (Some n)
+  discover-known xs' o e =
       let i : n ≤ length xs = omega (arith, t.fits, t.addresses_long) in
       let j : n ≤ length ts = omega (arith, t.fits, t.counts_long) in
       record {
         walk =
-            ap value (linked-same n xs xs' _ (λ k m. kept k (omega (arith, t.fits))) ∙ sym (linked-more a r n xs ts i j h f.before (f.there h))) ∙ sym
-            (count-known a (linked_of n xs ts) (linked-in a r n xs ts i j h f.before (f.there h)));
+            ap value (linked-same n xs xs' _ (λ k m. kept k (omega (arith, t.fits))) ∙ sym (linked-more a r n xs ts i j f.0 f.2 f.1)) ∙ sym
+            (count-known a (linked_of n xs ts) (linked-in a r n xs ts i j f.0 f.2 f.1));
         table = record {
           fits = t.fits;
           addresses_long = rw long t.addresses_long;
@@ -165,31 +167,33 @@ module _ (xs ts : List ℕ) (n a r : ℕ) (t : Table xs ts n) (f : Found xs n a 
       long : length xs' ≡ length xs
       long = ap length e ∙ guess-long xs a o
 
-  out : n ≤ r → in_ledger a (linked_of n xs ts) ≡ false
-  out h = linked-out a n xs ts (omega (arith, t.fits, t.addresses_long)) (omega (arith, t.fits, t.counts_long)) (λ k m. f.before k (omega arith))
+  -- the count of the object has room for one more
+  pub discover-fits : (most : ℕ) → link_sum (linked_of n xs ts) + 1 < most → get_or ts r 0 + 1 < most
+  discover-fits most l = omega (arith, count-bound r n xs ts (omega (arith, t.fits, t.addresses_long)) (omega (arith, t.fits, t.counts_long)) f.0)
 
-  pub discover-full : n ≤ r → objects_most ≤ n → Discovered xs ts n a xs ts None
-  discover-full h l =
+-- A search that found none.
+module _ (xs ts : List ℕ) (n a : ℕ) (t : Table xs ts n) (f : Found xs n a None) where
+  out : in_ledger a (linked_of n xs ts) ≡ false
+  out = linked-out a n xs ts (omega (arith, t.fits, t.addresses_long)) (omega (arith, t.fits, t.counts_long)) f
+
+  pub discover-full : objects_most ≤ n → Discovered xs ts n a xs ts None
+  discover-full l =
       let m : objects_most ≤ length (linked_of n xs ts) = rw length-linked_of l in
-      record { walk = sym (count-full a (linked_of n xs ts) (out h) m); table = (refl, refl); addresses_same = refl; counts_same = refl }
+      record { walk = sym (count-full a (linked_of n xs ts) out m); table = (refl, refl); addresses_same = refl; counts_same = refl }
 
   -- a new object
-  pub discover-addable : (order : ℕ) → n ≤ r → n < objects_most → Placed xs objects_most n a order → Addable xs n a order
-  discover-addable order h l p = record { indexed = table-indexed t; room = l; absent = λ k m. f.before k (omega arith); placed = p }
+  pub discover-addable : (order : ℕ) → n < objects_most → Placed xs objects_most n a order → Addable xs n a order
+  discover-addable order l p = record { indexed = table-indexed t; room = l; absent = f; placed = p }
 
-  pub discover-new : (xs' : List ℕ) → n ≤ r → n < objects_most → Added xs n a xs' → Discovered xs ts n a xs' (set ts n 1) (Some (n + 1))
-  discover-new xs' h l d =
+  pub discover-new : (xs' : List ℕ) → n < objects_most → Added xs n a xs' → Discovered xs ts n a xs' (set ts n 1) (Some (n + 1))
+  discover-new xs' l d =
       let m : length (linked_of n xs ts) < objects_most = rw length-linked_of l in
       record {
-        walk = ap value (ledger-added xs ts n a xs' t l d) ∙ sym (count-new a (linked_of n xs ts) (out h) m);
+        walk = ap value (ledger-added xs ts n a xs' t l d) ∙ sym (count-new a (linked_of n xs ts) out m);
         table = table-added xs ts n a xs' t l d;
         addresses_same = d.long;
         counts_same = length-set ts n 1;
       }
-
-  -- the count of a place that was found has room for one more
-  pub discover-fits : (most : ℕ) → r < n → link_sum (linked_of n xs ts) + 1 < most → get_or ts r 0 + 1 < most
-  discover-fits most h l = omega (arith, count-bound r n xs ts (omega (arith, t.fits, t.addresses_long)) (omega (arith, t.fits, t.counts_long)) h)
 
 -- a link that was counted is one more of all
 pub discovered-sum : (xs ts : List ℕ) (n a : ℕ) (xs' ts' : List ℕ) (m : ℕ) → Discovered xs ts n a xs' ts' (Some m) →

@@ -2,7 +2,7 @@
 use Rattle.std.specs.Prelude.{ℕ, ◌+◌, ◌*◌, ◌/◌, ◌%◌, ◌^◌, ◌≤◌, ◌<◌, List, ◌≡◌, leb, length, get_or, set, if◌then◌else◌, Option, Some, None}
 use Rattle.format.specs.Limits.{objects_most}
 use Rattle.ordering.specs.Order.{Ordering, words_from}
-use Rattle.ledger.specs.declared.search.Place.{Place}
+use Rattle.ordering.specs.declared.halving.Place.{Place}
 use Rattle.ledger.specs.declared.search.Search.{Search}
 
 -- the guesses, four for each object
@@ -55,11 +55,11 @@ pub record Halving (addresses : List ℕ) (from n address : ℕ) (r : Place) : T
   pub placed : Placed addresses from n address r.place
   pub tests : (m : ℕ) → n < 2 ^ m → r.tests ≤ m
 
--- the first of the places in use that holds the address; none does if it is `objects`
-pub record Found (addresses : List ℕ) (objects address place : ℕ) : Type 0 where
-  pub within : place ≤ objects
-  pub before : (k : ℕ) → k < place → get_or addresses k 0 ≡ address → ⊥
-  pub there : place < objects → get_or addresses place 0 ≡ address
+-- the first of the objects in use that has the address, or none has it
+abbrev pub Found : List ℕ → ℕ → ℕ → Option ℕ → Type 0
+Found addresses objects address (Some object) =
+    (object < objects) × (get_or addresses object 0 ≡ address) × ((k : ℕ) → k < object → get_or addresses k 0 ≡ address → ⊥)
+Found addresses objects address None = (k : ℕ) → k < objects → get_or addresses k 0 ≡ address → ⊥
 
 -- an object that has the address, if it is one in use
 abbrev pub Guessed : List ℕ → ℕ → ℕ → Option ℕ → Type 0
@@ -69,8 +69,8 @@ Guessed addresses objects address None = Unit {0}
 -- What a search finds: the object with the address, or where a new one stands in the order. It compares an address for each time that the
 -- number of objects doubles, and so many more.
 pub record Sought (addresses : List ℕ) (objects address more : ℕ) (r : Search) : Type 0 where
-  pub found : Found addresses objects address r.place
-  pub placed : objects ≤ r.place → Placed addresses objects_most objects address r.order
+  pub found : Found addresses objects address r.object
+  pub placed : r.object ≡ None → Placed addresses objects_most objects address r.order
   pub tests : (m : ℕ) → objects < 2 ^ m → r.tests ≤ m + more
 
 -- there is room for one object more, no object in use has its address, and so many of these have a lower one

@@ -4,6 +4,8 @@ ghost use Rattle.std.specs.Prelude.{◌≡◌};
 ghost use Rattle.ledger.specs.Index.{guess_at, with_guess, Sorted, Indexed, Halving, Guessed, Sought, Addable, Added};
 
 use format::OBJECTS_MOST;
+use ordering::halving;
+use ordering::halving::Place;
 
 // The guesses: four for each object, so that few addresses share one.
 pub const GUESSES: usize = 4 * OBJECTS_MOST;
@@ -41,40 +43,22 @@ fn guessed(addresses: &[u64], objects: usize, address: u64) -> Option<usize>
     Some(guess)
 }
 
-// How many objects have an address below this one, and how many are compared for that.
-#[derive(Clone, Copy)]
-pub struct Place {
-    pub place: usize,
-    pub tests: usize,
-}
-
-// Finds the place by halving, in the order that begins at the word `from`. `partition_point` finds it too, but doesn't say how many objects are
-// compared.
+// How many objects have an address below this one, in the order that begins at the word `from`.
 fn halve(addresses: &[u64], from: usize, objects: usize, address: u64) -> Place
     requires { Sorted addresses.now from objects }
     ensures { Halving addresses.now from objects address result }
 {
-    let mut low = 0;
-    let mut high = objects;
-    let mut tests = 0;
-    while low < high {
-        let middle = low + (high - low) / 2;
-        let object = addresses[from + middle] as usize;
-        tests += 1;
-        if addresses[object] < address {
-            low = middle + 1;
-        } else {
-            high = middle;
-        }
-    }
-    Place { place: low, tests }
+    halving::halve(objects, |k| {
+        let object = addresses[from + k] as usize;
+        addresses[object] < address
+    })
 }
 
-// The object with an address, or `objects` if none has it; then also how many objects have a lower address, which is where a new
-// one stands in the order. And how many addresses were compared at most.
+// The object with an address; where none has it, how many objects have a lower address, which is where a new one stands in the
+// order. And how many addresses were compared at most.
 #[derive(Clone, Copy)]
 pub struct Search {
-    pub place: usize,
+    pub object: Option<usize>,
     pub order: usize,
     pub tests: usize,
 }
@@ -89,17 +73,17 @@ fn find_in_order(addresses: &[u64], objects: usize, address: u64) -> Search
     let order = found.place;
     let tests = found.tests + 1;
     if order < objects {
-        let place = addresses[from + order] as usize;
-        if addresses[place] == address {
+        let object = addresses[from + order] as usize;
+        if addresses[object] == address {
             return Search {
-                place,
+                object: Some(object),
                 order,
                 tests,
             };
         }
     }
     Search {
-        place: objects,
+        object: None,
         order,
         tests,
     }
@@ -110,9 +94,9 @@ pub fn find(addresses: &[u64], objects: usize, address: u64) -> Search
     requires { Indexed addresses.now objects }
     ensures { Sought addresses.now objects address 2 result }
 {
-    if let Some(place) = guessed(addresses, objects, address) {
+    if let Some(object) = guessed(addresses, objects, address) {
         return Search {
-            place,
+            object: Some(object),
             order: 0,
             tests: 1,
         };

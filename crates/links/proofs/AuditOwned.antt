@@ -115,7 +115,8 @@ left-one-owner im eof room w =
 pub run-one-owner : {A : Type 0} (im : List ℕ) (eof room : ℕ) (w : Walk A) (a : A) (bs : List Block) → run im eof room w [] ≡ done a bs → OneOwner bs
 run-one-owner im eof room w a bs e = rw e at (left-one-owner im eof room w)
 
-module _ (im : List ℕ) (lent : ℕ) (s : Superblock) (os : List Linked) (bs : List Block) (p : open_image im ≡ opened s) (e : audit_run im lent ≡ done os bs) where
+module _ (im : List ℕ) (lent : ℕ) (s : Superblock) (os : List Linked) (bs : List Block) (p : open_image im ≡ opened s)
+    (e : audit_run im lent ≡ done os bs) where
   -- whose block it is
   pub audit-owned : Owned im (room_of lent) s os bs
   audit-owned = walk-owned im (room_of lent) s os bs (audit-walked im lent s os bs p e)

@@ -52,7 +52,8 @@ pub audit-opened : (im : List ℕ) (lent : ℕ) (os : List Linked) (bs : List Bl
 unfolding audit_run
 audit-opened im lent os bs e = opened-done (open_image im) (λ s. run im s.end_of_file (room_of lent) (audit_walk s) []) os bs e
 
-module _ (im : List ℕ) (lent : ℕ) (s : Superblock) (os : List Linked) (bs : List Block) (p : open_image im ≡ opened s) (e : audit_run im lent ≡ done os bs) where
+module _ (im : List ℕ) (lent : ℕ) (s : Superblock) (os : List Linked) (bs : List Block) (p : open_image im ≡ opened s)
+    (e : audit_run im lent ≡ done os bs) where
   -- its walk is done
   pub audit-walked : run im s.end_of_file (room_of lent) (audit_walk s) [] ≡ done os bs
   audit-walked =

@@ -14,7 +14,8 @@ use Rattle.ledger.specs.Links.{addresses_of, Distinct}
 use Rattle.links.proofs.LedgerIn.{member-in, taken-member}
 
 -- new addresses come behind those that are there
-pub place_kept : (x : ℕ) (os os' : List Linked) (new : List ℕ) → in_ledger x os ≡ true → addresses_of os' ≡ addresses_of os ++ new → place_of x os' ≡ place_of x os
+pub place_kept : (x : ℕ) (os os' : List Linked) (new : List ℕ) → in_ledger x os ≡ true → addresses_of os' ≡ addresses_of os ++ new →
+    place_of x os' ≡ place_of x os
 unfolding in_ledger addresses_of place_of
 place_kept x [] os' new h e = let z : ◌≡◌ {A = ℕ} 0 1 = cc in absurd (omega arith)
 place_kept x (o ∷ os) [] new h e = let z : ◌≡◌ {A = ℕ} 0 1 = cc in absurd (omega arith)

@@ -19,7 +19,8 @@ pub entered-refused : {A : Type 0} (g : ℕ) (f : ℕ → Refusal) (o : Outcome 
 entered-refused zero f o bs r ms e = inr (refl, e)
 entered-refused (suc g) f o bs r ms e = inl (cc, (λ z. omega arith), cc)
 
-not_entered_lem : {A : Type 0} (g : ℕ) (f : ℕ → Refusal) (o : Outcome A) (bs : List Block) → (g ≡ 0 → ⊥) → if_entered g o (λ m. refused (f m) bs) ≡ refused (f g) bs
+not_entered_lem : {A : Type 0} (g : ℕ) (f : ℕ → Refusal) (o : Outcome A) (bs : List Block) → (g ≡ 0 → ⊥) →
+    if_entered g o (λ m. refused (f m) bs) ≡ refused (f g) bs
 not_entered_lem zero f o bs h = absurd (h refl)
 not_entered_lem (suc g) f o bs h = refl
 

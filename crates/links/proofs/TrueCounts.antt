@@ -31,7 +31,8 @@ module _ (measure : List Linked → ℕ) (weight : ℕ → ℕ) (links shares : 
       omega (arith, counting-rises rs b.0 os' b.2, step (target r) os b.0 b.1, more r rs)
 
 -- a reference is a hard link or a sharing
-one_more : (x : ℕ) (r : Reference) (rs : List Reference) → hard_links x (r ∷ rs) + sharings x (r ∷ rs) ≡ one_for x (target r) + (hard_links x rs + sharings x rs)
+one_more : (x : ℕ) (r : Reference) (rs : List Reference) →
+    hard_links x (r ∷ rs) + sharings x (r ∷ rs) ≡ one_for x (target r) + (hard_links x rs + sharings x rs)
 unfolding hard_links sharings
 one_more x (hard_link a) rs = omega arith
 one_more x (sharing a) rs = omega arith

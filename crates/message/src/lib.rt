@@ -17,6 +17,14 @@ pub struct Body {
     pub flags: u8,
 }
 
+// The bodies of a dataset's three messages: the dataspace, the datatype, the data layout.
+#[derive(Clone, Copy)]
+pub struct Bodies {
+    pub space: Body,
+    pub datatype: Body,
+    pub layout: Body,
+}
+
 #[derive(Clone, Copy)]
 pub enum Treatment {
     SteppedOver,

@@ -1,22 +1,34 @@
-// The strings of a heap's data segment: names, link values and keys. `ended` is how many bytes the segment has up to its last NUL: by it a string
-// ends in the segment or doesn't, and none is read only to know that.
+// The strings of a heap's data segment: names, link values and keys. By how many bytes the segment has up to its last NUL a string ends in the segment
+// or doesn't, and none is read only to know that.
 #![tactic(auto)]
 
 ghost use Rattle.std.specs.Prelude.{◌≡◌, List, ◌+◌, ◌≤◌, ◌<◌, length, drop};
 ghost use Rattle.format.specs.Blocks.{Block};
 ghost use Rattle.format.specs.Bytes.{part, contains};
-ghost use Rattle.format.specs.Names.{before_nul, key_text, name_text, value_text};
+ghost use Rattle.format.specs.Names.{before_nul, fault_number, key_text, name_text, value_text};
 ghost use Rattle.nul.specs.Nul.{LastNul};
 ghost use Rattle.free_list.specs.FreeBlocks.{chain, Held};
 ghost use Rattle.string_ends.specs.Ends.{ends_outside, Marked};
 ghost use Rattle.heap.specs.Segment.{heap_with};
-ghost use Rattle.names.specs.Texts.{TextRead, CheckedAs};
+ghost use Rattle.names.specs.Texts.{fault_of, TextRead, CheckedAs};
 ghost use Rattle.names.specs.Sizes.{Plain, Slashless, name_size};
 
-use free_list::search::{meets_free, overlaps_free};
+use format::answers;
+use free_list::search::{FreeBlocks, meets_free, overlaps_free};
 use nul::nul_within;
 use order::{contains, contains_at};
 use string_ends::ends_outside;
+
+// The strings of a heap: its data segment, the map of the free bytes, where the free list begins and how many blocks it has, and how many bytes the
+// segment has up to its last NUL.
+#[derive(Clone, Copy)]
+pub struct Strings<'a> {
+    pub segment: &'a [u8],
+    pub map: &'a [u8],
+    pub head: u64,
+    pub free: usize,
+    pub ended: usize,
+}
 
 // What can be wrong with a string, in this order.
 #[derive(Clone, Copy)]
@@ -25,6 +37,18 @@ pub enum NameFault {
     NoNul,
     BadForm,
     InFreeBlock,
+}
+
+// The answer to a fault of a string.
+impl From<NameFault> for u8 {
+    ghost from_gives = { λ f n. n ≡ fault_number (fault_of f) };
+
+    fn from(fault: NameFault) -> u8 {
+        match fault {
+            NameFault::Outside | NameFault::NoNul | NameFault::BadForm | NameFault::InFreeBlock =>
+                answers::HEAP_UNSOUND,
+        }
+    }
 }
 
 // A key: any string that ends in a NUL inside the segment.
@@ -136,58 +160,58 @@ fn name_size(segment: &[u8], off: usize) -> Option<usize>
     size_unless_dot(segment, off, n)
 }
 
-// A name of a group: how many bytes it has, without its NUL. `head` is where the segment's free list begins, and `free` how many blocks it has.
-pub fn name(
-    segment: &[u8],
-    map: &[u8],
-    head: u64,
-    free: usize,
-    ended: usize,
-    off: u64,
-) -> Result<usize, NameFault>
-    requires last_nul { LastNul segment.now ended }
-    requires held { Held segment.now map.now head free }
-    ensures { TextRead segment.now off result (name_text (heap_with segment.now (chain free segment.now head)) off) }
+// A name of a group: how many bytes it has, without its NUL.
+pub fn name(strings: Strings<'_>, off: u64) -> Result<usize, NameFault>
+    requires last_nul { LastNul strings.segment.now strings.ended }
+    requires held { Held strings.segment.now strings.map.now strings.head strings.free }
+    ensures { TextRead strings.entry.segment.now off result
+        (name_text (heap_with strings.entry.segment.now (chain strings.entry.free strings.entry.segment.now strings.entry.head)) off) }
 {
-    key(segment, ended, off)?;
+    let segment = strings.segment;
+    key(segment, strings.ended, off)?;
     let start = off as usize;
     let size = name_size(segment, start).ok_or(NameFault::BadForm)?;
-    if free != 0 && meets_free(segment, map, head, free, start, size + 1) {
+    let free = FreeBlocks {
+        segment,
+        head: strings.head,
+        count: strings.free,
+    };
+    if free.count != 0 && meets_free(free, strings.map, start, size + 1) {
         return Err(NameFault::InFreeBlock);
     }
     Ok(size)
 }
 
 // Whether the string at `off`, which ends in the segment, has no byte in a free block, its NUL included.
-fn outside_free(segment: &[u8], map: &[u8], head: u64, free: usize, off: usize) -> bool
-    requires segment_in_bounds { off + before_nul (drop off segment.now) < length segment.now }
-    requires held { Held segment.now map.now head free }
-    requires marked { Marked map.now segment.now (chain free segment.now head) }
-    ensures { result ≡ ends_outside segment.now (chain free segment.now head) off }
+fn outside_free(strings: Strings<'_>, off: usize) -> bool
+    requires segment_in_bounds { off + before_nul (drop off strings.segment.now) < length strings.segment.now }
+    requires held { Held strings.segment.now strings.map.now strings.head strings.free }
+    requires marked { Marked strings.map.now strings.segment.now (chain strings.free strings.segment.now strings.head) }
+    ensures { result ≡ ends_outside strings.entry.segment.now (chain strings.entry.free strings.entry.segment.now strings.entry.head) off }
 {
+    let segment = strings.segment;
+    let map = strings.map;
     if map.len() != 0 {
         return ends_outside(segment, map, off);
     }
     let end = nul_within(segment, off, segment.len() - off);
-    !overlaps_free(segment, head, free, off as u64, (end - off + 1) as u64)
+    let free = FreeBlocks {
+        segment,
+        head: strings.head,
+        count: strings.free,
+    };
+    !overlaps_free(free, off as u64, (end - off + 1) as u64)
 }
 
 // The value of a symbolic link.
-pub fn value(
-    segment: &[u8],
-    map: &[u8],
-    head: u64,
-    free: usize,
-    ended: usize,
-    off: u64,
-) -> Result<(), NameFault>
-    requires last_nul { LastNul segment.now ended }
-    requires held { Held segment.now map.now head free }
-    requires marked { Marked map.now segment.now (chain free segment.now head) }
-    ensures { CheckedAs result (value_text (heap_with segment.now (chain free segment.now head)) off) }
+pub fn value(strings: Strings<'_>, off: u64) -> Result<(), NameFault>
+    requires last_nul { LastNul strings.segment.now strings.ended }
+    requires held { Held strings.segment.now strings.map.now strings.head strings.free }
+    requires marked { Marked strings.map.now strings.segment.now (chain strings.free strings.segment.now strings.head) }
+    ensures { CheckedAs result (value_text (heap_with strings.entry.segment.now (chain strings.entry.free strings.entry.segment.now strings.entry.head)) off) }
 {
-    key(segment, ended, off)?;
-    if free != 0 && !outside_free(segment, map, head, free, off as usize) {
+    key(strings.segment, strings.ended, off)?;
+    if strings.free != 0 && !outside_free(strings, off as usize) {
         return Err(NameFault::InFreeBlock);
     }
     Ok(())

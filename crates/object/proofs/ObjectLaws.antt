@@ -24,7 +24,7 @@ use Rattle.laws.proofs.Follows.{Ran}
 use Rattle.laws.proofs.Simulation.{Simulation, start, same-walk, returned, callee-value, callee-refusal, callee-done, callee-stopped, callee-last}
 use Rattle.ledger.specs.Table.{linked_of}
 use Rattle.visit.specs.Visit.{Both, both_of}
-use Rattle.symbol.specs.declared.entry.State.{State}
+use Rattle.symbol.specs.State.{State}
 use Rattle.std.specs.Prelude.{Result, Ok, Err}
 use Rattle.sharing.specs.Sharing.{found_of, visit_message, Kept, KindKnown}
 use Rattle.continuations.specs.Counting.{Counting}
@@ -34,8 +34,7 @@ use Rattle.group.specs.Group.{Ready, group_end, GroupIs}
 use Rattle.group.proofs.Entries.{audit-part}
 use Rattle.superblock.specs.Superblock.{superblock_of}
 use Rattle.superblock.specs.declared.Superblock as superblocks
-use Rattle.object.specs.Object.{Opened, Bounded, Listed, FoundWalked, behind_header}
-use Rattle.object.specs.declared.object.ObjectRead.{ObjectRead}
+use Rattle.object.specs.Object.{Opened, Bounded, Listed, ObjectRead, FoundWalked, behind_header}
 
 -- an image that was opened, with the room that a list of so many words gives
 pub opened : (im : List ℕ) (s : superblocks.Superblock) (room lent : ℕ) → room ≡ places_of lent → Bounded im s → Opened im s room

@@ -2,7 +2,7 @@
 use Rattle.std.specs.Prelude.{ℕ, List, Result, Ok, Err}
 use Rattle.format.specs.declared.Refusal.{Refusal}
 use Rattle.format.specs.Walk.{Walk, run, located, ◌>>=◌}
-use Rattle.format.specs.Header.{Object}
+use Rattle.format.specs.Header.{Object, dataset}
 use Rattle.format.specs.Object.{content_walk}
 use Rattle.format.specs.Sharing.{Found, known}
 use Rattle.walk.specs.Lent.{blocks_of, Lent, Ended, ended, stopped, Walked}
@@ -11,7 +11,12 @@ use Rattle.continuations.specs.Counting.{Counting}
 use Rattle.group.specs.Group.{Settings}
 use Rattle.superblock.specs.Superblock.{FieldsBounded, superblock_of}
 use Rattle.superblock.specs.declared.Superblock.{Superblock}
-use Rattle.object.specs.declared.object.ObjectRead.{ObjectRead}
+use Rattle.superblock.specs.declared.File.{File}
+use Rattle.walk.specs.declared.blocks.Blocks.{Blocks}
+use Rattle.sharing.specs.declared.Found as lent
+use Rattle.message.specs.declared.Bodies.{Bodies}
+use Rattle.message.specs.Message.{message_of}
+use Rattle.dataset.specs.Dataset.{BodiesInside}
 
 -- what is known of an image with this superblock
 abbrev pub Opened : List ℕ → Superblock → ℕ → Type 0
@@ -25,6 +30,16 @@ Bounded im s = FieldsBounded im (Ok s)
 pub record Listed (ws addresses counts marks : List ℕ) (eof room count objects spare : ℕ) : Type 0 where
   pub lent : Lent ws count room
   pub counting : Counting ws addresses counts marks eof count objects spare
+
+-- the numbers of blocks entered and of objects found
+pub record ObjectRead : Type 0 where
+  pub count : ℕ
+  pub objects : ℕ
+
+-- a part that was walked up to these numbers, or the refusal
+abbrev pub walked_to : ℕ → ℕ → Result (Unit {0}) Refusal → Result ObjectRead Refusal
+walked_to count objects (Ok u) = Ok (record { count = count; objects = objects })
+walked_to count objects (Err r) = Err r
 
 -- what was found, with the number of blocks then entered, or the refusal
 abbrev pub object_end : List ℕ → List ℕ → List ℕ → Result ObjectRead Refusal → Ended Found
@@ -45,3 +60,23 @@ pub record FoundWalked (im ws addresses counts marks : List ℕ) (s : Superblock
 -- behind the header of the i-th object, which is at the address at: its kind is known, then its contents are walked
 abbrev pub behind_header : Superblock → ℕ → ℕ → Object → Found → Walk Found
 behind_header s i at o f = located at (known i o f) >>= content_walk (superblock_of s) o
+
+-- so of the values that the functions are lent: lists that an object is walked with
+abbrev pub ListedWith : File → Blocks → lent.Found → ℕ → Type 0
+ListedWith file b f spare =
+    Listed b.words.now f.objects.now.addresses.now f.objects.now.counts.now f.marks.now file.superblock.end_of_file file.room b.count f.objects.now.count spare
+
+-- a part of the audit that was walked in them
+abbrev pub WalkedWith : File → Blocks → lent.Found → (Found → Walk Found) → Blocks → lent.Found → Result (Unit {0}) Refusal → Type 0
+WalkedWith file b f w b' f' r =
+    FoundWalked file.image.now b.words.now f.objects.now.addresses.now f.objects.now.counts.now f.marks.now file.superblock file.room w b.count f.objects.now.count
+    b'.words.now f'.objects.now.addresses.now f'.objects.now.counts.now f'.marks.now (walked_to b'.count f'.objects.now.count r)
+
+-- a dataset with these bodies of its messages
+abbrev pub dataset_of : File → Bodies → Object
+dataset_of file b =
+    dataset (message_of file.image.now 0x0001 b.space) (message_of file.image.now 0x0003 b.datatype) (message_of file.image.now 0x0008 b.layout)
+
+-- these lie in the image
+abbrev pub DatasetInside : File → Bodies → Type 0
+DatasetInside file b = BodiesInside file.image.now b.space b.datatype b.layout

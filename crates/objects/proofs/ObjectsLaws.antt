@@ -17,8 +17,12 @@ use Rattle.ledger.specs.Table.{Table}
 use Rattle.sharing.specs.Sharing.{found_of}
 use Rattle.ledger.proofs.TableLaws.{drop-linked_of, drop_past}
 use Rattle.superblock.specs.Superblock.{superblock_of}
-use Rattle.superblock.specs.declared.Superblock as superblocks
-use Rattle.object.specs.Object.{Listed}
+use Rattle.superblock.specs.declared.File.{File}
+use Rattle.walk.specs.declared.blocks.Blocks.{Blocks}
+use Rattle.walk.specs.Entered.{SameWords}
+use Rattle.sharing.specs.declared.Found as lent
+use Rattle.sharing.specs.Lent.{SameFound}
+use Rattle.object.specs.Object.{ListedWith}
 
 module _ (s : Superblock) (i n : ℕ) (addresses counts marks : List ℕ) (t : Table addresses counts n) where
   abbrev f : Found
@@ -57,11 +61,13 @@ module _ (im : List ℕ) (eof room : ℕ) (s : Superblock) {w₀ : Walk Found} {
         Simulation im eof room w₀ n₀ ws₀ (objects_walk s (objects_most - (i + 1)) (i + 1) g) c ws₁
     object-done g c same r = callee-done ws₁ (object_walk s i (get_or addresses i 0) (found_of addresses counts marks n)) _ at-object same r
 
--- The loop over all objects, in the lists that were lent and are now ws, a, c, m.
-pub record Loop (im ws₀ a₀ c₀ m₀ : List ℕ) (s : superblocks.Superblock) (room count objects : ℕ) (ws a c m : List ℕ) (entered found i : ℕ) : Type 0 where
-  pub listed : Listed ws a c m s.end_of_file room entered found 0
-  pub come : Simulation im s.end_of_file room (objects_walk (superblock_of s) objects_most 0 (found_of a₀ c₀ m₀ objects)) count ws₀
-      (objects_walk (superblock_of s) (objects_most - i) i (found_of a c m found)) entered ws
-  pub addresses_same : length a ≡ length a₀
-  pub counts_same : length c ≡ length c₀
-  pub marks_same : length m ≡ length m₀
+-- The loop over all objects, in the values that were lent as b₀ and f₀ and are now b and f.
+pub record Loop (file : File) (b₀ : Blocks) (f₀ : lent.Found) (b : Blocks) (f : lent.Found) (i : ℕ) : Type 0 where
+  pub listed : ListedWith file b f 0
+  pub come : Simulation file.image.now file.superblock.end_of_file file.room
+      (objects_walk (superblock_of file.superblock) objects_most 0
+      (found_of f₀.objects.now.addresses.now f₀.objects.now.counts.now f₀.marks.now f₀.objects.now.count)) b₀.count b₀.words.now
+      (objects_walk (superblock_of file.superblock) (objects_most - i) i
+      (found_of f.objects.now.addresses.now f.objects.now.counts.now f.marks.now f.objects.now.count)) b.count b.words.now
+  pub kept : SameWords b₀ b
+  pub kept_found : SameFound f₀ f

@@ -3,46 +3,34 @@
 
 ghost use Rattle.format.specs.Limits.{objects_most};
 ghost use Rattle.format.specs.Audit.{objects_walk};
+ghost use Rattle.walk.specs.Entered.{SameWords};
+ghost use Rattle.sharing.specs.Lent.{SameFound};
 ghost use Rattle.superblock.specs.Superblock.{superblock_of};
-ghost use Rattle.object.specs.Object.{Opened, Listed, FoundWalked};
+ghost use Rattle.object.specs.Object.{Opened, ListedWith, WalkedWith};
 
 use format::Refusal;
-use object::object::ObjectRead;
-use superblock::Superblock;
+use sharing::Found;
+use superblock::File;
+use walk::blocks::Blocks;
 
 // Walks each object of the table once, and those that are found on the way, from the first one on. The table grows while it is walked, so that no
 // range has its places.
 pub fn read(
-    image: &[u8],
-    list: &mut [u64],
-    addresses: &mut [u64],
-    counts: &mut [u32],
-    marks: &mut [u8],
-    superblock: Superblock,
-    room: usize,
-    count: usize,
-    objects: usize,
-) -> Result<ObjectRead, Refusal>
-    requires opened { Opened image.now superblock room }
-    requires listed { Listed list.old addresses.old counts.old marks.old superblock.end_of_file room count objects 0 }
-    ensures { FoundWalked image.now list.old addresses.old counts.old marks.old superblock room
-        (objects_walk (superblock_of superblock) objects_most 0) count objects list.new addresses.new counts.new
-        marks.new result }
+    file: File<'_>,
+    blocks: &mut Blocks<'_>,
+    found: &mut Found<'_, '_>,
+) -> Result<(), Refusal>
+    requires opened { Opened file.image.now file.superblock file.room }
+    requires listed { ListedWith file blocks.old found.old 0 }
+    ensures walked { WalkedWith file.entry blocks.old found.old (objects_walk (superblock_of file.entry.superblock) objects_most 0) blocks.new found.new result }
+    ensures kept { SameWords blocks.old blocks.new }
+    ensures kept_found { SameFound found.old found.new }
 {
-    let mut entered = count;
-    let mut found = objects;
     let mut i: usize = 0;
-    while i < found {
-        let at = addresses[i];
-        let read = object::object::read(
-            image, list, addresses, counts, marks, superblock, room, i, at, entered, found,
-        )?;
-        entered = read.count;
-        found = read.objects;
+    while i < found.objects.count {
+        let at = found.objects.addresses[i];
+        object::object::read(file, blocks, found, i, at)?;
         i += 1;
     }
-    Ok(ObjectRead {
-        count: entered,
-        objects: found,
-    })
+    Ok(())
 }

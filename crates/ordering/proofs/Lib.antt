@@ -3,3 +3,4 @@ pub mod RaiseLaws
 pub mod MergeLaws
 pub mod MergedCases
 pub mod RunLaws
+pub mod HalvingLaws

@@ -1,6 +1,8 @@
 // Numbered things kept in an order, in a list of words. What the numbers stand for and what their order is no function here knows: a
-// search has found the place.
+// search has found the place, by `halving` with a test of its own.
 #![tactic(auto)]
+
+pub mod halving;
 
 ghost use Rattle.std.specs.Prelude.{◌+◌, ◌≤◌, ◌<◌, length};
 ghost use Rattle.ordering.specs.Order.{Inserted};

@@ -53,7 +53,8 @@ length-places zero xs ss ts = refl
 length-places (suc n) xs ss ts = ap suc (length-places n (drop 1 xs) (drop 1 ss) (drop 1 ts))
 
 places-last : (n : ℕ) (xs ss ts : List ℕ) →
-    counted_places (suc n) xs ss ts ≡ counted_places n xs ss ts ++ (record { address = get_or xs n 0; stored_count = get_or ss n 0; true_count = get_or ts n 0 } ∷ [])
+    counted_places (suc n) xs ss ts ≡ counted_places n xs ss ts
+    ++ (record { address = get_or xs n 0; stored_count = get_or ss n 0; true_count = get_or ts n 0 } ∷ [])
 unfolding counted_places
 places-last zero xs ss ts = refl
 places-last (suc n) xs ss ts =

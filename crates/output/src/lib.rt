@@ -25,7 +25,8 @@ fn ascii_digit(d: u64) -> u8
     0x57 + d as u8
 }
 
-// Writes the lowest digits of a number, the lowest one last.
+// Writes the lowest digits of a number, the lowest one last. The library's `{:08x}` doesn't say what bytes it writes, since `LowerHex` has no
+// clause: what is proved of the command's lines needs these.
 pub fn put_hex(out: &mut [u8], at: usize, x: u64, digits: usize)
     requires { at + digits ≤ length out.old }
     ensures { out.new ≡ overwrite out.old at (hex digits x) }

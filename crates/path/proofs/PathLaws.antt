@@ -61,7 +61,8 @@ module _ (path : List ℕ) (i : ℕ) where
   }
 
 -- behind n bytes that aren't '/'
-pub ends-behind : (path : List ℕ) (n i r : ℕ) → i + n ≤ length path → ((k : ℕ) → k < n → get_or path (i + k) 0 ≡ 0x2f → ⊥) → EndsAt path (i + n) r → EndsAt path i r
+pub ends-behind : (path : List ℕ) (n i r : ℕ) → i + n ≤ length path → ((k : ℕ) → k < n → get_or path (i + k) 0 ≡ 0x2f → ⊥) →
+    EndsAt path (i + n) r → EndsAt path i r
 ends-behind path zero i r h f e = let z : i + 0 ≡ i = omega arith in rw z at e
 ends-behind path (suc n) i r h f e =
     let z : i + 0 ≡ i = omega arith in

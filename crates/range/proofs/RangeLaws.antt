@@ -5,13 +5,14 @@ use mathlib.Core.List.{List, [], ◌∷◌}
 use mathlib.Core.Logic.{⊎_elim}
 use mathlib.Core.Path.{◌≡◌, refl, ap, sym, ◌∙◌}
 use native.Mathlib.Omega.{arith}
+use Rattle.std.specs.Prelude.{Some, None}
 use Rattle.format.specs.Bytes.{all_hold}
 use Rattle.format.specs.Names.{below, within}
 use Rattle.walk.proofs.Tests.{all-fails, all-passes, all-last}
 use Rattle.order.proofs.OrderLaws.{below-transitive, below-asymmetric, below_total}
-use Rattle.range.specs.Range.{NameInside, name_in, range_holds, at_most, Floor, HigherOf, LowerOf, Narrowed}
+use Rattle.range.specs.Range.{Range, NameInside, name_in, range_holds, at_most, Floor, HigherOf, LowerOf, Narrowed}
 use Rattle.range.specs.declared.Name.{Name}
-use Rattle.range.specs.declared.Range.{Range}
+use Rattle.range.specs.declared.Keys.{Keys}
 
 -- Of two tests the one from which the other follows says what both say.
 module _ (x y : Bool) where
@@ -83,14 +84,6 @@ two false y = refl
 two true true = refl
 two true false = refl
 
--- Whether a string isn't above the high key, by the tests.
-module _ (seg : List ℕ) (range : Range) (t : List ℕ) where
-  pub most-all : range.bounded ≡ false → true ≡ at_most seg range t
-  most-all e = rw e
-
-  pub most-high : {x : Bool} → range.bounded ≡ true → x ≡ below (name_in seg range.high) t → not x ≡ at_most seg range t
-  most-high e g = rw e (ap not g)
-
 -- a test joined with the first of two is the same before the second
 joined : (x y p q : Bool) → p ≡ all_hold (y ∷ x ∷ []) → all_hold (x ∷ all_hold (y ∷ q ∷ []) ∷ []) ≡ all_hold (p ∷ q ∷ [])
 unfolding all_hold
@@ -117,13 +110,13 @@ second-fails true true p e = e
 second-fails true false p e = refl
 second-fails false y p e = let z : ◌≡◌ {A = ℕ} 0 1 = cc in absurd (omega arith)
 
--- The floor of a range, by whether it is bounded.
-module _ (seg : List ℕ) (range : Range) (last : Name) where
-  pub floor-last : NameInside seg last → range.bounded ≡ false → Floor seg range (name_in seg last) last
-  floor-last i e = record { inside = i; above = λ t. rw e }
+-- The floor of a range, by whether keys bound it.
+module _ (seg : List ℕ) (last : Name) where
+  pub floor-last : NameInside seg last → Floor seg None (name_in seg last) last
+  floor-last i = record { inside = i; above = λ t. refl }
 
-  pub floor-higher : (r : Name) → range.bounded ≡ true → HigherOf seg last range.low r → Floor seg range (name_in seg last) r
-  floor-higher r e h = record { inside = h.inside; above = λ t. rw e (joined _ _ _ _ (h.above t)) }
+  pub floor-higher : (k : Keys) (r : Name) → HigherOf seg last k.low r → Floor seg (Some k) (name_in seg last) r
+  floor-higher k r h = record { inside = h.inside; above = λ t. joined _ _ _ _ (h.above t) }
 
 -- What the floor and the high key say of a name.
 module _ (seg : List ℕ) (range : Range) (last : List ℕ) (floor : Name) (t : List ℕ) (f : Floor seg range last floor) where
@@ -139,35 +132,30 @@ module _ (seg : List ℕ) (range : Range) (last : List ℕ) (floor : Name) (t : 
 -- behind a name that is in the range, that name is the floor
 pub floor-next : (seg : List ℕ) (range : Range) (name : Name) → NameInside seg name → range_holds seg range (name_in seg name) ≡ true →
     Floor seg range (name_in seg name) name
-floor-next seg range name i held = record { inside = i; above = λ t. go range.bounded refl t }
+floor-next seg None name i held = record { inside = i; above = λ t. refl }
+floor-next seg (Some k) name i held = record { inside = i; above = λ t. turn t (below (name_in seg name) t) refl }
   where
-    go : (b : Bool) → range.bounded ≡ b → (t : List ℕ) →
-        all_hold (below (name_in seg name) t ∷ range_holds seg range t ∷ []) ≡ all_hold (below (name_in seg name) t ∷ at_most seg range t ∷ [])
-    go false e t = rw e
-    go true e t = turn (below (name_in seg name) t) refl
-      where
-        low : below (name_in seg range.low) (name_in seg name) ≡ true
-        low = (both_hold _ _ (rw e at held)).0
+    low : below (name_in seg k.low) (name_in seg name) ≡ true
+    low = (both_hold _ _ held).0
 
-        turn : (z : Bool) → below (name_in seg name) t ≡ z →
-            all_hold (below (name_in seg name) t ∷ range_holds seg range t ∷ []) ≡ all_hold (below (name_in seg name) t ∷ at_most seg range t ∷ [])
-        turn false p = sym (all-fails _ p) ∙ all-fails _ p
-        turn true p = rw (p, e) (ap (λ (q : Bool). all_hold (true ∷ q ∷ [])) (sym (all-passes _ (below-transitive _ _ _ low p) (all-last _))))
+    turn : (t : List ℕ) (z : Bool) → below (name_in seg name) t ≡ z →
+        all_hold (below (name_in seg name) t ∷ range_holds seg (Some k) t ∷ []) ≡ all_hold (below (name_in seg name) t ∷ at_most seg (Some k) t ∷ [])
+    turn t false p = sym (all-fails _ p) ∙ all-fails _ p
+    turn t true p = rw p (ap (λ (q : Bool). all_hold (true ∷ q ∷ [])) (sym (all-passes _ (below-transitive _ _ _ low p) (all-last _))))
 
 -- The range of a child: between two keys, inside the range of its node.
-module _ (seg : List ℕ) (range : Range) (low high : Name) where
-  pub narrowed-first : NameInside seg low → NameInside seg high → range.bounded ≡ false →
-      Narrowed seg range low high (record { bounded = true; low = low; high = high })
+module _ (seg : List ℕ) (low high : Name) where
+  pub narrowed-first : NameInside seg low → NameInside seg high → Narrowed seg None low high (Some (record { low = low; high = high }))
   unfolding within
-  narrowed-first i j e = record {
+  narrowed-first i j = record {
     inside = record { low_inside = i; high_inside = j };
-    tight = λ bounds f t l. rw (f t l, e) (two _ _);
+    tight = λ bounds f t l. rw (f t l) (two _ _);
   }
 
-  pub narrowed-more : (l h : Name) → range.bounded ≡ true → HigherOf seg range.low low l → LowerOf seg range.high high h →
-      Narrowed seg range low high (record { bounded = true; low = l; high = h })
+  pub narrowed-more : (k : Keys) (l h : Name) → HigherOf seg k.low low l → LowerOf seg k.high high h →
+      Narrowed seg (Some k) low high (Some (record { low = l; high = h }))
   unfolding within
-  narrowed-more l h e u v = record {
+  narrowed-more k l h u v = record {
     inside = record { low_inside = u.inside; high_inside = v.inside };
-    tight = λ bounds f t k. rw (f t k, e, u.above t, v.not_above t) (four _ _ _ _);
+    tight = λ bounds f t m. rw (f t m, u.above t, v.not_above t) (four _ _ _ _);
   }

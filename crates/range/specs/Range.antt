@@ -1,11 +1,11 @@
 -- Strings of the segment, and the range that the keys above a name leave for it.
-use Rattle.std.specs.Prelude.{ℕ, ◌+◌, ◌≤◌, Bool, true, not, List, [], ◌∷◌, ◌≡◌, length, drop, if◌then◌else◌}
+use Rattle.std.specs.Prelude.{ℕ, ◌+◌, ◌≤◌, Bool, true, not, List, [], ◌∷◌, ◌≡◌, length, drop, Option, Some, None}
 use Rattle.format.specs.Limits.{name_most}
 use Rattle.format.specs.Bytes.{all_hold, part}
 use Rattle.format.specs.Names.{Bound, below, within}
 use Rattle.order.specs.BigEndian.{first_number}
 use Rattle.range.specs.declared.Name.{Name}
-use Rattle.range.specs.declared.Range.{Range}
+use Rattle.range.specs.declared.Keys.{Keys}
 
 -- a string's bytes
 abbrev pub name_in : List ℕ → Name → List ℕ
@@ -17,17 +17,27 @@ pub record NameInside (seg : List ℕ) (n : Name) : Type 0 where
   pub first : n.first ≡ first_number 8 (name_in seg n)
   pub second : n.second ≡ first_number 8 (drop 8 (name_in seg n))
 
-pub record RangeInside (seg : List ℕ) (r : Range) : Type 0 where
-  pub low_inside : NameInside seg r.low
-  pub high_inside : NameInside seg r.high
+-- the keys that bound a name, if any do
+abbrev pub Range : Type 0
+Range = Option Keys
+
+pub record KeysInside (seg : List ℕ) (k : Keys) : Type 0 where
+  pub low_inside : NameInside seg k.low
+  pub high_inside : NameInside seg k.high
+
+abbrev pub RangeInside : List ℕ → Option Keys → Type 0
+RangeInside seg (Some k) = KeysInside seg k
+RangeInside seg None = Unit {0}
 
 -- "names under child i are above key i and at most key i+1"
-abbrev pub range_holds : List ℕ → Range → List ℕ → Bool
-range_holds seg r t = if r.bounded then all_hold (below (name_in seg r.low) t ∷ not (below (name_in seg r.high) t) ∷ []) else true
+abbrev pub range_holds : List ℕ → Option Keys → List ℕ → Bool
+range_holds seg (Some k) t = all_hold (below (name_in seg k.low) t ∷ not (below (name_in seg k.high) t) ∷ [])
+range_holds seg None t = true
 
 -- the string isn't above the high key
-abbrev pub at_most : List ℕ → Range → List ℕ → Bool
-at_most seg r t = if r.bounded then not (below (name_in seg r.high) t) else true
+abbrev pub at_most : List ℕ → Option Keys → List ℕ → Bool
+at_most seg (Some k) t = not (below (name_in seg k.high) t)
+at_most seg None t = true
 
 -- The range says the same as the keys on every level above, of every string that is no longer than a name: no key is read further.
 abbrev pub Tight : List ℕ → Range → List Bound → Type 0

@@ -1,7 +1,7 @@
 // The keys that bound a name: of all nodes above it the highest key before it and the lowest behind it.
 #![tactic(auto)]
 
-ghost use Rattle.std.specs.Prelude.{◌≡◌};
+ghost use Rattle.std.specs.Prelude.{◌≡◌, Some};
 ghost use Rattle.format.specs.Names.{below as is_below};
 ghost use Rattle.range.specs.Range.{NameInside, RangeInside, name_in, at_most, Floor, HigherOf, LowerOf, Narrowed};
 
@@ -17,9 +17,9 @@ pub struct Name {
     pub second: u64,
 }
 
+// A name is above the low key and not above the high one. Nothing bounds the names of a root, so that a range is an Option of these.
 #[derive(Clone, Copy)]
-pub struct Range {
-    pub bounded: bool,
+pub struct Keys {
     pub low: Name,
     pub high: Name,
 }
@@ -53,16 +53,15 @@ pub fn name_below(segment: &[u8], a: Name, b: Name) -> bool
 }
 
 // Whether a name isn't above the high key.
-pub fn at_most(segment: &[u8], range: Range, name: Name) -> bool
+pub fn at_most(segment: &[u8], range: Option<Keys>, name: Name) -> bool
     requires range_inside { RangeInside segment.now range }
     requires name_inside { NameInside segment.now name }
     ensures { result ≡ at_most segment.now range (name_in segment.now name) }
 {
-    if !range.bounded {
-        return true;
+    match range {
+        Some(keys) => !name_below(segment, keys.high, name),
+        None => true,
     }
-    let high = range.high;
-    !name_below(segment, high, name)
 }
 
 // The higher of two keys.
@@ -91,37 +90,29 @@ fn lower(segment: &[u8], a: Name, b: Name) -> Name
 
 // The string that the next name has to be above: the last name or the low key, whichever is higher. So a name is compared twice, and not
 // three times.
-pub fn floor(segment: &[u8], range: Range, last: Name) -> Name
+pub fn floor(segment: &[u8], range: Option<Keys>, last: Name) -> Name
     requires range_inside { RangeInside segment.now range }
     requires name_inside { NameInside segment.now last }
     ensures { Floor segment.now range (name_in segment.now last) result }
 {
-    if !range.bounded {
-        return last;
+    match range {
+        Some(keys) => higher(segment, last, keys.low),
+        None => last,
     }
-    let low = range.low;
-    higher(segment, last, low)
 }
 
 // The range between two keys of a node inside the range of the node.
-pub fn narrowed(segment: &[u8], range: Range, low: Name, high: Name) -> Range
+pub fn narrowed(segment: &[u8], range: Option<Keys>, low: Name, high: Name) -> Keys
     requires range_inside { RangeInside segment.now range }
     requires name_inside { NameInside segment.now low }
     requires name_inside_2 { NameInside segment.now high }
-    ensures { Narrowed segment.now range low high result }
+    ensures { Narrowed segment.now range low high (Some result) }
 {
-    if !range.bounded {
-        return Range {
-            bounded: true,
-            low,
-            high,
-        };
-    }
-    let outer_low = range.low;
-    let outer_high = range.high;
-    Range {
-        bounded: true,
-        low: higher(segment, outer_low, low),
-        high: lower(segment, outer_high, high),
+    match range {
+        Some(outer) => Keys {
+            low: higher(segment, outer.low, low),
+            high: lower(segment, outer.high, high),
+        },
+        None => Keys { low, high },
     }
 }

@@ -123,7 +123,7 @@ module _ (im ws : List ℕ) (s : Superblock) (b : Bounded im s) where
         )
 
   -- the walk is done
-  module _ (count objects : ℕ) (ws₁ addresses counts : List ℕ) (w : ImageWalked im ws s ws₁ addresses counts (Ok (record { count = count; objects = objects }))) where
+  module _ (count objects : ℕ) (ws₁ addresses counts : List ℕ) (w : ImageWalked im ws s ws₁ addresses counts (Ok (record { block_count = count; objects = objects }))) where
     abbrev table : Table addresses counts objects
     table = w.ready.table refl
 

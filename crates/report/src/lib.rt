@@ -18,7 +18,8 @@ use walk::blocks;
 use walk::blocks::WORK_WORDS;
 
 // The audit's answer; how many blocks were entered; the place of the fault and the damaged block, zeros of a sound file; with 6
-// the first block met; and the number of objects, 0 where the answer isn't 0.
+// the first block met; and the number of objects, 0 where the answer isn't 0. No Result: the blocks entered are left with either, and C's reply, which
+// the definition gives, has a place and a block of a sound file too.
 #[derive(Clone, Copy)]
 pub struct Reported {
     pub answer: u8,
@@ -81,7 +82,7 @@ fn report_opened(
             read_stored(image, addresses, stored, read.objects);
             Reported {
                 answer: answers::DONE,
-                block_count: read.count,
+                block_count: read.block_count,
                 place: 0,
                 block: no_block(),
                 met: 0,
@@ -111,7 +112,7 @@ pub fn report_into(
     }
 }
 
-// The report with the ledger of a sound file, which is empty of any other.
+// The report with the ledger of a sound file, which is empty of any other. No Result, as `Reported` is none.
 #[derive(Drop)]
 pub struct Reply {
     pub answer: u8,
@@ -123,6 +124,7 @@ pub struct Reply {
 }
 
 // The report of an image. The list is lent for the blocks, four words a block, and has them at the end, also those before a fault.
+// One function for such calls would take this one as a closure, and a trait for the count of its blocks: no plainer than these lines.
 pub fn report(image: &[u8], list: &mut [u64]) -> Reply
     ensures { ReportIs image.now (length list.old) list.new result }
 {

@@ -8,7 +8,25 @@ use Rattle.format.specs.Header.{Gathered, messages, pass_over}
 use Rattle.format.specs.Message.{Message, of_type}
 use Rattle.tally.specs.Tally.{message_at, Tallied}
 use Rattle.sharing.specs.Sharing.{found_of, visit_message, KeptIf}
-use Rattle.scan.specs.declared.Gathering.{Gathering}
+use Rattle.tally.specs.declared.Tally.{Tally}
+
+-- what messages come to, and the number of objects found with them
+pub record Gathering : Type 0 where
+  pub tally : Tally
+  pub objects : ℕ
+
+abbrev pub gathering : Tally → ℕ → Gathering
+gathering t objects = record { tally = t; objects = objects }
+
+-- a value, and the tally then lent
+abbrev pub with_tally : Result (Unit {0}) Refusal → Tally → Result Tally Refusal
+with_tally (Ok u) t = Ok t
+with_tally (Err r) t = Err r
+
+-- a tally, and the number of objects then found
+abbrev pub with_objects : Result Tally Refusal → ℕ → Result Gathering Refusal
+with_objects (Ok t) objects = Ok (gathering t objects)
+with_objects (Err r) objects = Err r
 
 -- the walk of the messages from `from` to `end`, with what was found before them, is w, with any fuel that lasts
 abbrev pub MessagesAre : {S : Type 0} → (Message → S → reader.Result S) → List ℕ → ℕ → ℕ → S → Walk (Gathered S) → Type 0
@@ -22,7 +40,7 @@ pub record Holds (im : List ℕ) (from end : ℕ) (ms : List Message) : Type 0 w
   pub read : messages pass_over fuel from (part im from (end - from)) tt ≡ ret (record { all = ms; found = tt })
 
 -- the tally t' is t with these messages more
-abbrev pub TalliedWith : List ℕ → List Message → Rattle.tally.specs.declared.Tally.Tally → Rattle.tally.specs.declared.Tally.Tally → Type 0
+abbrev pub TalliedWith : List ℕ → List Message → Tally → Tally → Type 0
 TalliedWith im ms t t' = (sofar : List Message) → Tallied im sofar t → Tallied im (sofar ++ ms) t'
 
 -- the messages of the block, the tally with them and what was found with them, or the refusal

@@ -3,68 +3,64 @@
 
 ghost use Rattle.std.specs.Prelude.{◌+◌, ◌-◌, ◌≤◌, length};
 ghost use Rattle.sharing.specs.Sharing.{TablesIf};
-ghost use Rattle.scan.specs.Scan.{Scanned, Readable, NextIs};
+ghost use Rattle.sharing.specs.Lent.{SameFound};
+ghost use Rattle.scan.specs.Scan.{gathering, with_tally, with_objects, Scanned, Readable, NextIs};
 
 use format::Refusal;
+use sharing::Found;
 use tally::Tally;
 use walk::numbers::u16_at;
 
-// What messages come to, and the number of objects found with them.
+// Where messages stand in the image: from a place to the end of the last.
 #[derive(Clone, Copy)]
-pub struct Gathering {
-    pub tally: Tally,
-    pub objects: usize,
+pub struct Span {
+    pub from: usize,
+    pub end: usize,
 }
 
-// Reads the messages that fill the bytes from `from` to `end`, and counts them. In an audit, what a message shares is
-// discovered before the next message is read. The step is a message's size, so that no range has the places.
+// Reads the messages that fill the bytes of a span, and counts them behind those of the tally. In an audit, what a message
+// shares is discovered before the next message is read. The step is a message's size, so that no range has the places. The
+// tally is lent: a long chain of blocks is read more slowly if each returns its own.
 pub fn scan_block(
     image: &[u8],
-    addresses: &mut [u64],
-    counts: &mut [u32],
-    marks: &mut [u8],
+    found: &mut Found<'_, '_>,
     auditing: bool,
-    from: usize,
-    end: usize,
-    before: Gathering,
-) -> Result<Gathering, Refusal>
-    requires from_le_end { from ≤ end }
-    requires end_in_bounds { end ≤ length image.now }
-    requires tables_if { TablesIf auditing addresses.old counts.old marks.old before.objects (end - from) }
-    ensures { Scanned image.now from end auditing addresses.old counts.old marks.old before
-        addresses.new counts.new marks.new result }
+    span: Span,
+    tally: &mut Tally,
+) -> Result<(), Refusal>
+    requires from_le_end { span.from ≤ span.end }
+    requires end_in_bounds { span.end ≤ length image.now }
+    requires tables_if { TablesIf auditing found.old.objects.now.addresses.now found.old.objects.now.counts.now found.old.marks.now
+        found.old.objects.now.count (span.end - span.from) }
+    ensures scanned { Scanned image.now span.from span.end auditing found.old.objects.now.addresses.now found.old.objects.now.counts.now
+        found.old.marks.now (gathering tally.old found.old.objects.now.count) found.new.objects.now.addresses.now found.new.objects.now.counts.now
+        found.new.marks.now (with_objects (with_tally result tally.new) found.new.objects.now.count) }
+    ensures kept { SameFound found.old found.new }
 {
-    let mut at = from;
-    let mut sofar = before;
+    let mut at = span.from;
+    let end = span.end;
     while at < end {
         let message = message::message(image, at, end).map_err(|n| Refusal::Fault(n, at))?;
         let body = at + 8;
         let next = body + message.size;
         let kind = message.kind;
-        sofar.objects = sharing::visit_message(
-            &image[body..next],
-            auditing,
-            kind,
-            addresses,
-            counts,
-            marks,
-            sofar.objects,
-        )
-        .map_err(|n| Refusal::Fault(n, at))?;
-        sofar.tally = tally::counted(sofar.tally, kind, body);
+        found
+            .visit_message(&image[body..next], auditing, kind)
+            .map_err(|n| Refusal::Fault(n, at))?;
+        *tally = tally::counted(*tally, kind, body);
         at = next;
     }
-    Ok(sofar)
+    Ok(())
 }
 
-// Where the next continuation message from `from` on stands, among messages that have been read already and end at `end`;
-// `end` if there is none. Here too the step is a message's size.
-pub fn next_continuation(image: &[u8], from: usize, end: usize) -> usize
-    requires { Readable image.now from end }
-    ensures { NextIs image.now from end result }
+// Where the first continuation message of a span stands, whose messages have been read already; its end if there is none.
+// Here too the step is a message's size.
+pub fn next_continuation(image: &[u8], span: Span) -> usize
+    requires { Readable image.now span.from span.end }
+    ensures { NextIs image.now span.from span.end result }
 {
-    let mut at = from;
-    while at < end {
+    let mut at = span.from;
+    while at < span.end {
         if u16_at(image, at) == 0x0010 {
             return at;
         }

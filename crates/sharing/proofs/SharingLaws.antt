@@ -7,7 +7,7 @@ use native.Mathlib.Omega.{arith}
 use borrow.Author.Tests.{eq-eqb, ne_eqb}
 use lib.Dec.{eqb}
 use lib.ListN.{length, get_or, set, length-set}
-use Rattle.std.specs.Prelude.{Result, Ok, Err, Option, Some, None}
+use Rattle.std.specs.Prelude.{Result, Ok, Err, Option, Some, None, unwrap_or}
 use Rattle.format.specs.Result.{value}
 use Rattle.format.specs.Attribute.{read_attribute}
 use Rattle.format.specs.Sharing.{place_of, share, share_each, discover_sharing, not_committed}
@@ -21,8 +21,8 @@ use Rattle.ledger.proofs.TableLaws.{discovered-sum}
 use Rattle.ledger.proofs.PlaceLaws.{discovered-place, discovered-inside}
 use Rattle.sharing.specs.Sharing.{found_of, visit_message, Tables, TablesIf, Shared, MessageVisited, TypeShared, KindKnown}
 
--- A sharing of the address a, for which a search ended at the place r.
-module _ (xs ts ms : List ℕ) (n a r : ℕ) (t : Tables xs ts ms n 1) (f : index.Found xs n a r) (xs' ts' : List ℕ) {x : Option ℕ} where
+-- A sharing of the address a, for which a search found the object o, or none; then the new object's place is n.
+module _ (xs ts ms : List ℕ) (n a : ℕ) (o : Option ℕ) (t : Tables xs ts ms n 1) (f : index.Found xs n a o) (xs' ts' : List ℕ) {x : Option ℕ} where
   pub share-full : x ≡ None → Discovered xs ts n a xs' ts' x → Shared xs ts ms n a xs' ts' ms (Err 12)
   unfolding share
   share-full e d =
@@ -33,31 +33,31 @@ module _ (xs ts ms : List ℕ) (n a r : ℕ) (t : Tables xs ts ms n 1) (f : inde
     counted : Discovered xs ts n a xs' ts' (Some m)
     counted = rw e at d
 
-    place : place_of a (linked_of m xs' ts') ≡ r
-    place = discovered-place xs ts n a r t.table f xs' ts' m counted
+    place : place_of a (linked_of m xs' ts') ≡ unwrap_or o n
+    place = discovered-place xs ts n a o t.table f xs' ts' m counted
 
     -- the place has a mark
-    pub marked-place : r < length ms
-    marked-place = omega (arith, discovered-inside xs ts n a r t.table f xs' ts' m counted, counted.table.fits, t.marked)
+    pub marked-place : unwrap_or o n < length ms
+    marked-place = omega (arith, discovered-inside xs ts n a o t.table f xs' ts' m counted, counted.table.fits, t.marked)
 
     -- the mark that the definition looks at
-    mark-is : {v : Bool} → not (eqb (get_or ms r 0) 2) ≡ v → not (eqb (get_or ms (place_of a (linked_of m xs' ts')) 0) 2) ≡ v
+    mark-is : {v : Bool} → not (eqb (get_or ms (unwrap_or o n) 0) 2) ≡ v → not (eqb (get_or ms (place_of a (linked_of m xs' ts')) 0) 2) ≡ v
     mark-is h = rw place h
 
-    pub share_other : get_or ms r 0 ≡ 2 → Shared xs ts ms n a xs' ts' ms (Err 10)
+    pub share_other : get_or ms (unwrap_or o n) 0 ≡ 2 → Shared xs ts ms n a xs' ts' ms (Err 10)
     unfolding share
     share_other h = record {
-      walk = gives _ counted.walk (fails _ _ (mark-is (ap not (eq-eqb (get_or ms r 0) 2 h))));
+      walk = gives _ counted.walk (fails _ _ (mark-is (ap not (eq-eqb (get_or ms (unwrap_or o n) 0) 2 h))));
       kept = tt;
       addresses_same = counted.addresses_same;
       counts_same = counted.counts_same;
       marks_same = refl;
     }
 
-    pub share-counted : (get_or ms r 0 ≡ 2 → ⊥) → Shared xs ts ms n a xs' ts' (set ms r 1) (Ok m)
+    pub share-counted : (get_or ms (unwrap_or o n) 0 ≡ 2 → ⊥) → Shared xs ts ms n a xs' ts' (set ms (unwrap_or o n) 1) (Ok m)
     unfolding share
     share-counted h = record {
-      walk = gives _ counted.walk (passes _ _ (mark-is (ap not (ne_eqb (get_or ms r 0) 2 h))) (rw place));
+      walk = gives _ counted.walk (passes _ _ (mark-is (ap not (ne_eqb (get_or ms (unwrap_or o n) 0) 2 h))) (rw place));
       kept = record {
         table = counted.table;
         marked = rw length-set t.marked;
@@ -65,7 +65,7 @@ module _ (xs ts ms : List ℕ) (n a r : ℕ) (t : Tables xs ts ms n 1) (f : inde
       };
       addresses_same = counted.addresses_same;
       counts_same = counted.counts_same;
-      marks_same = length-set ms r 1;
+      marks_same = length-set ms (unwrap_or o n) 1;
     }
 
 -- A message, by what is done at it.

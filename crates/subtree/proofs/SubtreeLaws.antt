@@ -18,9 +18,16 @@ use Rattle.walk.proofs.Parts.{part-number, part-first-number, drop-part}
 use Rattle.laws.proofs.Simulation.{Simulation, start, same-walk, callee-done, callee-stopped}
 use Rattle.laws.proofs.Growth.{Grown}
 use Rattle.laws.proofs.SumOfLengths.{grown-apart, grown-inside, grown-lengths}
+use Rattle.walk.specs.Entered.{SameWords}
+use Rattle.walk.specs.declared.blocks.Blocks.{Blocks}
+use Rattle.ledger.specs.Objects.{SameTable}
+use Rattle.ledger.specs.declared.table.Objects.{Objects}
+use Rattle.range.specs.Range.{Range, Tight}
 use Rattle.visit.specs.Visit.{Both}
 use Rattle.symbol.specs.declared.entry.Group.{Group}
-use Rattle.symbol.specs.declared.entry.State.{State}
+use Rattle.symbol.specs.Entry.{group_of, state_of}
+use Rattle.symbol.specs.State.{State, state_with}
+use Rattle.symbol.specs.declared.entry.State as lent
 use Rattle.node.specs.Node.{branch_walk}
 use Rattle.symbol_node.specs.Tree.{Sound}
 
@@ -122,8 +129,9 @@ unfolding subtree
 leaf_walked im eof room ws count g height at bounds s ws₁ r e h = rw e h
 
 -- a sound state stays so with more blocks
-pub sound_more : (seg ws addresses counts : List ℕ) (g : Group) (s : State) (ws₁ : List ℕ) (n : ℕ) → Sound seg ws addresses counts g s → Lent ws₁ n g.room →
-    Grown g.end_of_file g.room (blocks_of s.count ws) (blocks_of n ws₁) →
+pub sound_more : (seg ws addresses counts : List ℕ) (g : Group) (s : State) (ws₁ : List ℕ) (n : ℕ) → Sound seg ws addresses counts g s →
+    Lent ws₁ n g.bounds.room →
+    Grown g.bounds.end_of_file g.bounds.room (blocks_of s.count ws) (blocks_of n ws₁) →
     Sound seg ws₁ addresses counts g (record { count = n; objects = s.objects; last = s.last; link = s.link })
 sound_more seg ws addresses counts g s ws₁ n h l m = record {
   lent = l;
@@ -133,3 +141,22 @@ sound_more seg ws addresses counts g s ws₁ n h l m = record {
   inside = grown-inside m h.inside;
   links = omega (arith, h.links, grown-lengths m);
 }
+
+-- What holds at each turn of the loop over a node's children: the walk of the subtree has come to the ith child.
+pub record Turn (g : Group) (range : Range) (height at : ℕ) (blocks₀ : Blocks) (objects₀ : Objects) (s₀ : lent.State) (n : ℕ) (blocks : Blocks)
+    (objects : Objects) (i : ℕ) (s : lent.State) : Type 0 where
+  pub sound : Sound g.strings.segment.now blocks.words.now objects.addresses.now objects.counts.now g (state_with blocks.count objects.count s)
+  pub walk : (bounds : List Bound) → Tight g.strings.segment.now range bounds →
+      Simulation g.image.now g.bounds.end_of_file g.bounds.room
+      (subtree (group_of g.strings.segment.now g.wanted.now g) height at bounds
+      (state_of g.strings.segment.now objects₀.addresses.now objects₀.counts.now (state_with blocks₀.count objects₀.count s₀)))
+      blocks₀.count blocks₀.words.now
+      (children_from (group_of g.strings.segment.now g.wanted.now g) (height - 1) g.image.now (at + 24) (8 + 32 * g.internal_k) n i bounds
+      (state_of g.strings.segment.now objects.addresses.now objects.counts.now (state_with blocks.count objects.count s)))
+      blocks.count blocks.words.now
+  pub words : SameWords blocks₀ blocks
+  pub table : SameTable objects₀ objects
+
+-- the same words are lent after two steps
+pub words-kept : {b b' b'' : Blocks} → SameWords b b' → SameWords b' b'' → SameWords b b''
+words-kept h k = record { same = k.same ∙ h.same; long = k.long ∙ h.long }

@@ -6,11 +6,13 @@ ghost use Rattle.format.specs.Superblock.{open_image, versions_read, sizes_read,
 ghost use Rattle.format.specs.Superblock.{superblock_read, superblock_sound, superblock_fields, superblock_walk};
 ghost use Rattle.format.specs.Walk.{run};
 ghost use Rattle.walk.specs.Lent.{Lent, Walked, entry_end};
+ghost use Rattle.walk.specs.Entered.{with_count, SameWords};
 ghost use Rattle.superblock.specs.Superblock.{Shifted, superblock_of, opening_of, FieldsBounded};
 
 use format::{Refusal, answers};
+use walk::blocks::{Blocks, Bounds};
+use walk::kinds;
 use walk::numbers::{UNDEFINED_ADDRESS, u16_at, u32_at, u64_at};
-use walk::{blocks, kinds};
 
 // The signature's eight bytes as a number, the lowest first: 89 48 44 46 0d 0a 1a 0a.
 const SIGNATURE: u64 = 0x0a1a0a0d46444889;
@@ -22,6 +24,26 @@ pub struct Superblock {
     pub internal_k: u64,
     pub end_of_file: u64,
     pub root: u64,
+}
+
+// An image that was opened: its bytes, its superblock, and the room for blocks in a list.
+#[derive(Clone, Copy)]
+pub struct File<'a> {
+    pub image: &'a [u8],
+    pub superblock: Superblock,
+    pub room: usize,
+}
+
+impl File<'_> {
+    // What its blocks keep to.
+    pub fn bounds(self) -> Bounds
+        ensures { result ≡ record { end_of_file = self.entry.superblock.end_of_file; room = self.entry.room } }
+    {
+        Bounds {
+            end_of_file: self.superblock.end_of_file,
+            room: self.room,
+        }
+    }
 }
 
 // How far the fields behind byte 23 are moved: by 4 in version 1.
@@ -149,20 +171,18 @@ pub fn open(image: &[u8]) -> Result<Superblock, u8>
 // every image.
 pub fn enter_superblock(
     superblock: Superblock,
-    blocks: &mut [u64],
+    blocks: &mut Blocks<'_>,
     room: usize,
-) -> Result<usize, Refusal>
-    requires { Lent blocks.old 0 room }
-    ensures { (im : List ℕ) → Walked blocks.old blocks.new (entry_end result)
+) -> Result<(), Refusal>
+    requires lent { Lent blocks.old.words.now 0 room }
+    requires empty { blocks.old.count ≡ 0 }
+    ensures walked { (im : List ℕ) → Walked blocks.old.words.now blocks.new.words.now (entry_end (with_count result blocks.new.count))
         (run im superblock.end_of_file room (superblock_walk (superblock_of superblock)) []) }
+    ensures kept { SameWords blocks.old blocks.new }
 {
-    blocks::enter(
-        superblock.end_of_file,
-        blocks,
-        0,
+    let bounds = Bounds {
+        end_of_file: superblock.end_of_file,
         room,
-        kinds::SUPERBLOCK,
-        0,
-        superblock.size,
-    )
+    };
+    blocks.enter(bounds, kinds::SUPERBLOCK, 0, superblock.size)
 }

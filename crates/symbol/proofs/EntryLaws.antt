@@ -25,20 +25,22 @@ use Rattle.names.specs.Texts.{fault_of, TextRead, CheckedAs}
 use Rattle.names.specs.declared.NameFault.{NameFault}
 use Rattle.ledger.specs.Links.{link_sum}
 use Rattle.ledger.specs.Table.{linked_of}
+use Rattle.ledger.specs.Objects.{SameTable}
+use Rattle.ledger.specs.declared.table.Objects.{Objects}
 use Rattle.laws.proofs.Bind.{ret-bind, refuse-bind}
 use Rattle.laws.proofs.Results.{passes, fails, gives, answers}
 use Rattle.walk.proofs.Parts.{part-part, drop-part}
 use Rattle.walk.proofs.Tests.{takes-then, takes-else, field-equal, field-unequal, field-most, field-above}
-use Rattle.range.specs.Range.{name_in, range_holds, Tight}
+use Rattle.range.specs.Range.{Range, name_in, range_holds, Tight, Floor}
 use Rattle.range.proofs.FirstBytes.{name_at, string-inside}
 use Rattle.range.proofs.RangeLaws.{floor-next, second-fails}
 use Rattle.visit.specs.Visit.{Both, visit_both, Visited}
 use Rattle.symbol.specs.Entry.{group_of, state_of, ValueIs, NameSound, Kept, EntryIs, EntriesAre}
 use Rattle.range.specs.declared.Name.{Name}
-use Rattle.range.specs.declared.Range.{Range}
 use Rattle.visit.specs.declared.Link.{Link}
 use Rattle.symbol.specs.declared.entry.Group.{Group}
-use Rattle.symbol.specs.declared.entry.State.{State}
+use Rattle.symbol.specs.declared.entry.State as lent
+use Rattle.symbol.specs.State.{State, state_with}
 
 -- a field of the entry, read from the image
 field : (im : List ℕ) (at m b n : ℕ) → 40 ≤ m → b + n ≤ 40 → little_endian (part (part im at m) b n) ≡ little_endian (part im (at + b) n)
@@ -88,35 +90,35 @@ name-short h off t e = by_key (key_text h off) e
 
 -- a name that was read at the entry's first field
 pub name-sound : {im seg : List ℕ} {g : Group} {at off n : ℕ} {x : Result ℕ NameFault} → off ≡ u64 im at → x ≡ Ok n →
-    TextRead seg off x (name_text (chained_heap seg g.head g.free) off) → NameSound im seg g at (name_at seg off n)
+    TextRead seg off x (name_text (chained_heap seg g.strings.head g.strings.free) off) → NameSound im seg g at (name_at seg off n)
 name-sound {im} {seg} {g} {at} {off} {n} o e h =
-    let t : TextRead seg off (Ok n) (name_text (chained_heap seg g.head g.free) off) = rw e at h in
+    let t : TextRead seg off (Ok n) (name_text (chained_heap seg g.strings.head g.strings.free) off) = rw e at h in
     let j : off + n < length seg = t.inside in
     record {
       inside = string-inside seg off n (omega arith);
-      short = name-short (chained_heap seg g.head g.free) off (part seg off n) (sym t.value);
+      short = name-short (chained_heap seg g.strings.head g.strings.free) off (part seg off n) (sym t.value);
       is = rw (← o) (sym t.value);
     }
 
 -- An entry, by its tests in their order.
 module _ (im seg wanted addresses counts : List ℕ) (g : Group) (r : Range) (at : ℕ) (s : State) (addresses' counts' : List ℕ) where
   pub name-refused : {off : ℕ} {x : Result ℕ NameFault} {f : NameFault} → off ≡ u64 im at → x ≡ Err f →
-      TextRead seg off x (name_text (chained_heap seg g.head g.free) off) →
+      TextRead seg off x (name_text (chained_heap seg g.strings.head g.strings.free) off) →
       EntryIs im seg wanted addresses counts g r at s addresses' counts' (Err (fault_at (fault_number (fault_of f)) at))
   unfolding read_entry
   name-refused {off} {x} {f} o e h =
-      let t : TextRead seg off (Err f) (name_text (chained_heap seg g.head g.free) off) = rw e at h in
+      let t : TextRead seg off (Err f) (name_text (chained_heap seg g.strings.head g.strings.free) off) = rw e at h in
       record {
         walk =
             λ bounds m u l i. ap (located at)
-            (answers _ (ap read_text (t.value ∙ ap (name_text (chained_heap seg g.head g.free)) (o ∙ sym (first_field im at m l)))));
+            (answers _ (ap read_text (t.value ∙ ap (name_text (chained_heap seg g.strings.head g.strings.free)) (o ∙ sym (first_field im at m l)))));
         kept = tt;
         floor = tt;
       }
 
   module _ {n : Name} (sound : NameSound im seg g at n) where
-    name-there : (m : ℕ) → 40 ≤ m → value (name_in seg n) ≡ read_text (name_text (chained_heap seg g.head g.free) (u64 (part im at m) 0))
-    name-there m l = ap read_text (sym sound.is ∙ ap (name_text (chained_heap seg g.head g.free)) (sym (first_field im at m l)))
+    name-there : (m : ℕ) → 40 ≤ m → value (name_in seg n) ≡ read_text (name_text (chained_heap seg g.strings.head g.strings.free) (u64 (part im at m) 0))
+    name-there m l = ap read_text (sym sound.is ∙ ap (name_text (chained_heap seg g.strings.head g.strings.free)) (sym (first_field im at m l)))
 
     -- its place among names and keys: both tests fail with 8
     pub place-refused : all_hold (below (name_in seg s.last) (name_in seg n) ∷ range_holds seg r (name_in seg n) ∷ []) ≡ false →
@@ -153,11 +155,11 @@ module _ (im seg wanted addresses counts : List ℕ) (g : Group) (r : Range) (at
         }
 
         module _ (known : kind ≤ 2) where
-          pub link-refused : {v : Result (Unit {0}) ℕ} {x : ℕ} → v ≡ Err x → ValueIs im seg (chain g.free seg g.head) kind at v →
+          pub link-refused : {v : Result (Unit {0}) ℕ} {x : ℕ} → v ≡ Err x → ValueIs im seg (chain g.strings.free seg g.strings.head) kind at v →
               EntryIs im seg wanted addresses counts g r at s addresses' counts' (Err (fault_at x at))
           unfolding read_entry
           link-refused {v} {x} e w =
-              let w' : ValueIs im seg (chain g.free seg g.head) kind at (Err x) = rw e at w in
+              let w' : ValueIs im seg (chain g.strings.free seg g.strings.head) kind at (Err x) = rw e at w in
               record {
                 walk = λ bounds m t l i.
                     ap (located at)
@@ -167,10 +169,10 @@ module _ (im seg wanted addresses counts : List ℕ) (g : Group) (r : Range) (at
                 floor = tt;
               }
 
-          module _ {v : Result (Unit {0}) ℕ} (e : v ≡ Ok tt) (w : ValueIs im seg (chain g.free seg g.head) kind at v) {header : ℕ}
+          module _ {v : Result (Unit {0}) ℕ} (e : v ≡ Ok tt) (w : ValueIs im seg (chain g.strings.free seg g.strings.head) kind at v) {header : ℕ}
               (h : header ≡ u64 im (at + 8)) {name : List ℕ} (q : name ≡ name_in seg n) {y : Option (ℕ × Link)}
               (d : Visited addresses counts s.objects g.auditing name wanted kind header s.link addresses' counts' y) where
-            value_sound : ValueIs im seg (chain g.free seg g.head) kind at (Ok tt)
+            value_sound : ValueIs im seg (chain g.strings.free seg g.strings.head) kind at (Ok tt)
             value_sound = rw e at w
 
             -- what the visit is told
@@ -274,3 +276,20 @@ module _ {im seg wanted addresses₀ counts₀ : List ℕ} {g : Group} {r : Rang
           addresses_same = p ∙ reading.addresses_same;
           counts_same = q ∙ reading.counts_same;
         }
+
+-- the same lists are lent after two steps
+pub table-kept : {o o' o'' : Objects} → SameTable o o' → SameTable o' o'' → SameTable o o''
+table-kept h k = record {
+  addresses = k.addresses ∙ h.addresses;
+  counts = k.counts ∙ h.counts;
+  addresses_long = k.addresses_long ∙ h.addresses_long;
+  counts_long = k.counts_long ∙ h.counts_long;
+}
+
+-- what holds at each turn of the loop, whatever the number of blocks
+pub record Turn (g : Group) (r : Range) (from n : ℕ) (objects₀ : Objects) (s₀ : lent.State) (objects : Objects) (i : ℕ) (s : lent.State) (floor : Name) :
+    Type 0 where
+  pub reading : (count : ℕ) → Reading g.image.now g.strings.segment.now g.wanted.now objects₀.addresses.now objects₀.counts.now g r from n
+      (state_with count objects₀.count s₀) objects.addresses.now objects.counts.now i (state_with count objects.count s)
+  pub above : Floor g.strings.segment.now r (name_in g.strings.segment.now s.last) floor
+  pub same : SameTable objects₀ objects

@@ -12,12 +12,11 @@ use Rattle.segment.specs.Segment.{Known}
 use Rattle.heap.specs.Segment.{heap_with, chained_heap}
 use Rattle.ledger.specs.Links.{link_sum}
 use Rattle.ledger.specs.Table.{linked_of}
-use Rattle.range.specs.Range.{NameInside, RangeInside, name_in, Tight, Floor}
+use Rattle.range.specs.Range.{Range, NameInside, RangeInside, name_in, Tight, Floor}
 use Rattle.visit.specs.Visit.{Both, visit_both, both_of, TableIf}
 use Rattle.range.specs.declared.Name.{Name}
-use Rattle.range.specs.declared.Range.{Range}
 use Rattle.symbol.specs.declared.entry.Group.{Group}
-use Rattle.symbol.specs.declared.entry.State.{State}
+use Rattle.symbol.specs.State.{State}
 use Rattle.format.specs.declared.Refusal.{Refusal}
 
 -- the group as the definitions have it, with the visit for both uses
@@ -25,9 +24,8 @@ abbrev pub group_of : List ℕ → List ℕ → Group → Rattle.format.specs.En
 group_of seg wanted g = record {
   leaf_k = g.leaf_k;
   internal_k = g.internal_k;
-  heap = chained_heap seg g.head g.free;
-  visit = visit_both g.auditing
-      wanted;
+  heap = chained_heap seg g.strings.head g.strings.free;
+  visit = visit_both g.auditing wanted;
 }
 
 abbrev pub state_of : List ℕ → List ℕ → List ℕ → State → GroupState Both
@@ -47,17 +45,17 @@ ValueIs im seg bs kind at r =
     (m : ℕ) → 40 ≤ m → at + m ≤ length im → kind ≡ little_endian (part (part im at m) 16 4) → value_of r ≡ read_value (heap_with seg bs) (part im at m)
 
 -- what holds at an entry: the segment is known, the strings lie in it, and the table is one
-pub record Ready (seg map addresses counts : List ℕ) (g : Group) (r : Range) (s : State) : Type 0 where
-  pub known : Known seg map g.head g.free g.ended
+pub record Ready (seg map addresses counts : List ℕ) (g : Group) (r : Range) (objects : ℕ) (n : Name) : Type 0 where
+  pub known : Known seg map g.strings.head g.strings.free g.strings.ended
   pub range : RangeInside seg r
-  pub last : NameInside seg s.last
-  pub table : TableIf g.auditing addresses counts s.objects
+  pub last : NameInside seg n
+  pub table : TableIf g.auditing addresses counts objects
 
 -- the entry's name is sound, and it is this one
 pub record NameSound (im seg : List ℕ) (g : Group) (at : ℕ) (n : Name) : Type 0 where
   pub inside : NameInside seg n
   pub short : length (name_in seg n) ≤ name_most
-  pub is : name_text (chained_heap seg g.head g.free) (u64 im at) ≡ text (name_in seg n)
+  pub is : name_text (chained_heap seg g.strings.head g.strings.free) (u64 im at) ≡ text (name_in seg n)
 
 -- the state after a step is as good as the one before, with so many links more at most
 pub record Kept (seg addresses counts : List ℕ) (g : Group) (s : State) (n : ℕ) (addresses' counts' : List ℕ) (s' : State) : Type 0 where

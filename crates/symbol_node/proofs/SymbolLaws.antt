@@ -27,9 +27,9 @@ use Rattle.ledger.specs.Table.{linked_of}
 use Rattle.visit.specs.Visit.{Both}
 use Rattle.symbol.specs.Entry.{group_of, state_of, EntriesAre}
 use Rattle.symbol_node.specs.Tree.{Descending, SymbolsAre}
-use Rattle.range.specs.declared.Range.{Range}
 use Rattle.symbol.specs.declared.entry.Group.{Group}
-use Rattle.symbol.specs.declared.entry.State.{State}
+use Rattle.range.specs.Range.{Range}
+use Rattle.symbol.specs.State.{State}
 
 -- the signature is the number of these four bytes
 signed : (n : ℕ) → n ≡ 0x444f4e53 → n ≡ SNOD
@@ -43,15 +43,15 @@ unsigned n h e = h e
 -- The node's block was entered: it lies in the image, and the links found and one for each entry of it are no more than the bytes of all blocks.
 pub record NodeEntered (im : List ℕ) (g : Group) (links at : ℕ) (ws₁ : List ℕ) (m : ℕ) : Type 0 where
   pub there : at + (8 + 80 * g.leaf_k) ≤ length im
-  pub lent : Lent ws₁ m g.room
+  pub lent : Lent ws₁ m g.bounds.room
   pub apart : Fresh [] (blocks_of m ws₁)
-  pub inside : Inside g.end_of_file (blocks_of m ws₁)
+  pub inside : Inside g.bounds.end_of_file (blocks_of m ws₁)
   pub room : links + (8 + 80 * g.leaf_k) ≤ length_sum (blocks_of m ws₁)
 
 -- so links of the entries fit 32 bits
-pub links-small : {im : List ℕ} {g : Group} {links at : ℕ} {ws₁ : List ℕ} {m : ℕ} (n : ℕ) → NodeEntered im g links at ws₁ m → g.end_of_file < 2 ^ 32 →
+pub links-small : {im : List ℕ} {g : Group} {links at : ℕ} {ws₁ : List ℕ} {m : ℕ} (n : ℕ) → NodeEntered im g links at ws₁ m → g.bounds.end_of_file < 2 ^ 32 →
     n ≤ 8 + 80 * g.leaf_k → links + n < 2 ^ 32
-links-small {im} {g} {links} {at} {ws₁} {m} n e h k = omega (arith, lengths-inside g.end_of_file (blocks_of m ws₁) e.apart e.inside, e.room)
+links-small {im} {g} {links} {at} {ws₁} {m} n e h k = omega (arith, lengths-inside g.bounds.end_of_file (blocks_of m ws₁) e.apart e.inside, e.room)
 
 -- for any keys above
 module _ {im seg map ws addresses counts : List ℕ} {g : Group} {r : Range} {s : State} (d : Descending im seg map ws addresses counts g r s) (wanted : List ℕ)
@@ -63,22 +63,22 @@ module _ {im seg map ws addresses counts : List ℕ} {g : Group} {r : Range} {s 
   b = part im at size
 
   abbrev answer : ℕ
-  answer = entry_answer g.end_of_file g.room (blocks_of s.count ws) at size
+  answer = entry_answer g.bounds.end_of_file g.bounds.room (blocks_of s.count ws) at size
 
   abbrev w : List Bound → Walk (GroupState Both)
   w bounds = symbol_walk (group_of seg wanted g) at bounds (state_of seg addresses counts s)
 
   -- what is left of the walk, with so many blocks
   abbrev Left : List Bound → Walk (GroupState Both) → ℕ → Type 0
-  Left bounds w' m = Simulation im g.end_of_file g.room (w bounds) s.count ws w' m ws₁
+  Left bounds w' m = Simulation im g.bounds.end_of_file g.bounds.room (w bounds) s.count ws w' m ws₁
 
-  wrong : {x : Refusal} → ((bounds : List Bound) → Walked ws ws₁ (stopped x) (run im g.end_of_file g.room (w bounds) (blocks_of s.count ws))) →
+  wrong : {x : Refusal} → ((bounds : List Bound) → Walked ws ws₁ (stopped x) (run im g.bounds.end_of_file g.bounds.room (w bounds) (blocks_of s.count ws))) →
       SymbolsAre im seg wanted ws addresses counts g r at s ws₁ addresses counts (Err x)
   wrong h = record { walked = λ bounds t. h bounds; sound = tt }
 
   module _ (q : IsEntered answer ws s.count 7 at size ws₁) where
-    begun : (bounds : List Bound) → Simulation im g.end_of_file g.room (w bounds) s.count ws (w bounds) s.count ws
-    begun bounds = start im g.end_of_file g.room (w bounds) s.count ws d.sound.lent
+    begun : (bounds : List Bound) → Simulation im g.bounds.end_of_file g.bounds.room (w bounds) s.count ws (w bounds) s.count ws
+    begun bounds = start im g.bounds.end_of_file g.bounds.room (w bounds) s.count ws d.sound.lent
 
     pub symbols-refused : (x : Refusal) → Err x ≡ entering answer 7 at size (blocks_of s.count ws) s.count →
         SymbolsAre im seg wanted ws addresses counts g r at s ws₁ addresses counts (Err x)
@@ -93,17 +93,17 @@ module _ {im seg map ws addresses counts : List ℕ} {g : Group} {r : Range} {s 
       unfolding symbol_walk ◌>>=◌ shown
       at-signature bounds = block-entered size refl refl ws₁ (begun bounds) q m e
 
-      inside_file : at + size ≤ g.end_of_file
+      inside_file : at + size ≤ g.bounds.end_of_file
       unfolding symbol_walk ◌>>=◌
       inside_file = entered-inside size refl refl ws₁ (begun []) q m e
 
-      grown : Grown g.end_of_file g.room (blocks_of s.count ws) (blocks_of m ws₁)
-      grown = entered-grown g.end_of_file g.room symbol_block at size s.count ws ws₁ d.sound.lent q m e
+      grown : Grown g.bounds.end_of_file g.bounds.room (blocks_of s.count ws) (blocks_of m ws₁)
+      grown = entered-grown g.bounds.end_of_file g.bounds.room symbol_block at size s.count ws ws₁ d.sound.lent q m e
 
       lengths : length_sum (blocks_of m ws₁) ≡ length_sum (blocks_of s.count ws) + size
       unfolding length_sum
       lengths =
-          rw (entered-blocks g.end_of_file g.room symbol_block at size s.count ws ws₁ d.sound.lent q m e)
+          rw (entered-blocks g.bounds.end_of_file g.bounds.room symbol_block at size s.count ws ws₁ d.sound.lent q m e)
           (lengths-append (blocks_of s.count ws) (block_of 7 at size ∷ []) ∙ omega arith)
 
       pub node-entered : NodeEntered im g (link_sum (linked_of s.objects addresses counts)) at ws₁ m

@@ -7,7 +7,7 @@ use Rattle.format.specs.Blocks.{Block}
 use mathlib.Core.Path.{◌≡◌, refl, ap, sym, ◌∙◌}
 use native.Mathlib.Omega.{arith}
 use lib.ListN.{length}
-use Rattle.std.specs.Prelude.{if◌then◌else◌}
+use Rattle.std.specs.Prelude.{if◌then◌else◌, None}
 use Rattle.format.specs.Bytes.{part, u8, u16, u32}
 use Rattle.format.specs.declared.Refusal.{Refusal}
 use Rattle.format.specs.Walk.{fault, Kind, shown, tree_block, Walk, ret, enter_block, check, ◌>>=◌, ◌>>◌, run}
@@ -21,7 +21,6 @@ use mathlib.Core.Bool.{true, false}
 use Rattle.walk.proofs.Tests.{field-equal, field-unequal, field-least}
 use Rattle.laws.proofs.Simulation.{passed, failed, chosen-then, Simulation, start, same-walk, returned, callee-done, callee-stopped}
 use Rattle.range.specs.Range.{Tight}
-use Rattle.range.specs.declared.Range.{Range}
 use Rattle.visit.specs.Visit.{Both}
 
 -- two walks that enter the same block and go on alike with its bytes run alike
@@ -100,6 +99,6 @@ module _ (im : List ℕ) (g : Rattle.format.specs.Entry.Group Both) (at : ℕ) (
         empty-read x = returned (passed _ (fault 8 at) _ (field-equal level-there x) root-empty)
 
 -- the whole tree has no keys above it
-pub no-bounds : (seg : List ℕ) (r : Range) → r.bounded ≡ false → Tight seg r []
+pub no-bounds : (seg : List ℕ) → Tight seg None []
 unfolding within
-no-bounds seg r e t l = rw e
+no-bounds seg t l = refl

@@ -6,7 +6,7 @@ use Rattle.format.specs.Tree.{tree_walk}
 use Rattle.walk.specs.Lent.{blocks_of, Walked}
 use Rattle.symbol.specs.Entry.{group_of, state_of}
 use Rattle.symbol.specs.declared.entry.Group.{Group}
-use Rattle.symbol.specs.declared.entry.State.{State}
+use Rattle.symbol.specs.State.{State}
 use Rattle.format.specs.declared.Refusal.{Refusal}
 use Rattle.symbol_node.specs.Tree.{step_end, SoundIf}
 
@@ -18,6 +18,6 @@ pub record HeightAt (im : List ℕ) (at r : ℕ) : Type 0 where
 -- a tree was read as its walk reads it
 pub record TreeIs (im seg wanted ws addresses counts : List ℕ) (g : Group) (at : ℕ) (s : State) (ws' addresses' counts' : List ℕ)
     (x : Result State Refusal) : Type 0 where
-  pub walked : Walked ws ws' (step_end seg addresses' counts' x) (run im g.end_of_file g.room
+  pub walked : Walked ws ws' (step_end seg addresses' counts' x) (run im g.bounds.end_of_file g.bounds.room
       (tree_walk (group_of seg wanted g) at (state_of seg addresses counts s)) (blocks_of s.count ws))
   pub sound : SoundIf seg ws' addresses' counts' g x

@@ -2,13 +2,17 @@
 #![tactic(auto)]
 
 ghost use Rattle.std.specs.Prelude.{◌+◌};
+ghost use Rattle.walk.specs.Entered.{SameWords};
+ghost use Rattle.ledger.specs.Objects.{SameTable};
+ghost use Rattle.symbol.specs.State.{state_with, reached};
 ghost use Rattle.symbol_node.specs.Tree.{Fixed, Sound};
 ghost use Rattle.tree.specs.Tree.{HeightAt, TreeIs};
 
 use format::{Refusal, answers};
-use range::{Name, Range};
+use ledger::table::Objects;
 use subtree::subtree;
 use symbol::entry::{Group, State};
+use walk::blocks::Blocks;
 use walk::numbers::u16_at;
 
 // The height of a root with entries; 0 for an empty one, and where it doesn't lie inside the image: then reading it answers.
@@ -28,46 +32,29 @@ fn root_height(image: &[u8], at: u64) -> u64
 
 // The whole tree, from its root. A root with entries is a subtree of its own level; an empty one has level 0.
 pub fn tree(
-    image: &[u8],
-    segment: &[u8],
-    map: &[u8],
-    wanted: &[u8],
-    list: &mut [u64],
-    addresses: &mut [u64],
-    counts: &mut [u32],
-    group: Group,
+    group: &Group<'_>,
+    blocks: &mut Blocks<'_>,
+    objects: &mut Objects<'_>,
     at: u64,
     state: State,
 ) -> Result<State, Refusal>
-    requires fixed { Fixed image.now segment.now map.now group }
-    requires sound { Sound segment.now list.old addresses.old counts.old group state }
-    ensures { TreeIs image.now segment.now wanted.now list.old addresses.old
-        counts.old group at state list.new addresses.new counts.new result }
+    requires fixed { Fixed group.now.image.now group.now.strings.segment.now group.now.strings.map.now group.now }
+    requires sound { Sound group.now.strings.segment.now blocks.old.words.now objects.old.addresses.now objects.old.counts.now group.now
+        (state_with blocks.old.count objects.old.count state) }
+    ensures read { TreeIs group.now.image.now group.now.strings.segment.now group.now.wanted.now blocks.old.words.now
+        objects.old.addresses.now objects.old.counts.now group.now at (state_with blocks.old.count objects.old.count state)
+        blocks.new.words.now objects.new.addresses.now objects.new.counts.now (reached blocks.new.count objects.new.count result) }
+    ensures kept { SameWords blocks.old blocks.new }
+    ensures kept_objects { SameTable objects.old objects.new }
 {
-    let height = root_height(image, at);
+    let height = root_height(group.image, at);
     if height != 0 {
-        let none = Name {
-            at: 0,
-            size: 0,
-            first: 0,
-            second: 0,
-        };
-        let range = Range {
-            bounded: false,
-            low: none,
-            high: none,
-        };
-        return subtree(
-            image, segment, map, wanted, list, addresses, counts, group, range, height, at, state,
-        );
+        return subtree(group, blocks, objects, None, height, at, state);
     }
-    let root = node::read_node(image, list, group, state.count, at)?;
+    let root = node::read_node(group, blocks, at)?;
     let inner = root.level != 0;
     if inner {
         return Err(Refusal::Fault(answers::NODE_UNSOUND, at as usize));
     }
-    Ok(State {
-        count: root.count,
-        ..state
-    })
+    Ok(state)
 }

@@ -1,15 +1,16 @@
 -- The words of a log of bytes, read in place.
-use Prim.Native.Nat.{ℕ, zero, suc, ◌+◌, ◌*◌, ◌/◌, ◌≤◌, ◌<◌}
+use Prim.Native.Nat.{ℕ, zero, suc, ◌+◌, ◌-◌, ◌*◌, ◌/◌, ◌≤◌, ◌<◌}
 use mathlib.Core.Bool.{Bool}
 use mathlib.Core.List.{List}
 use mathlib.Core.Path.{◌≡◌, refl, ap, sym, ◌∙◌}
 use native.Mathlib.Omega.{arith}
-use lib.ListN.{length, drop, get_or}
-use lib.Seq.{drop-drop}
-use Rattle.format.specs.Bytes.{u64, to_words}
-use Rattle.format.specs.Log.{put_count}
+use lib.ListN.{length, take, drop, get_or}
+use lib.Seq.{drop-drop, get_or-drop}
+use Rattle.format.specs.Bytes.{u64, part, to_words}
+use Rattle.format.specs.Log.{changes, put_count}
 use Rattle.format.specs.Undo.{fits}
 use Rattle.walk.specs.Numbers.{Number}
+use Rattle.walk.proofs.Parts.{part_length, part-number}
 use Rattle.undo.specs.Reply.{change_of, words_of}
 use Rattle.undo.proofs.UndoLaws.{entry_at}
 
@@ -47,3 +48,55 @@ module _ (log : List ℕ) (i : ℕ) (h : 16 * i + 16 ≤ length log) where
     pub old-put : (im im' : List ℕ) → im' ≡ put_count im f (w / 4294967296) →
         im' ≡ put_count im (get_or (words_of log) (2 * i) 0) (get_or (words_of log) (2 * i + 1) 0 / 4294967296)
     old-put im im' e = rw (field-read m, counts-read n) at e
+
+-- entries by the words that they are
+changes_same : (e : ℕ) (ws ws' : List ℕ) → ((j : ℕ) → j < 2 * e → get_or ws j 0 ≡ get_or ws' j 0) → changes e ws ≡ changes e ws'
+unfolding changes
+changes_same zero ws ws' h = refl
+changes_same (suc e) ws ws' h =
+    let i : changes e (drop 2 ws) ≡ changes e (drop 2 ws') =
+    changes_same e (drop 2 ws) (drop 2 ws') (λ j l. get_or-drop 2 ws j 0 ∙ h (2 + j) (omega arith) ∙ sym (get_or-drop 2 ws' j 0)) in
+    rw (h 0 (omega arith), h 1 (omega arith), i) refl
+
+changes-behind : (f n : ℕ) (ws : List ℕ) → drop f (changes (f + n) ws) ≡ changes n (drop (2 * f) ws)
+unfolding changes
+changes-behind zero n ws = let e : 0 + n ≡ n = omega arith in rw e refl
+changes-behind (suc f) n ws =
+    let e : 2 * suc f ≡ 2 + 2 * f = omega arith in
+    let more : suc f + n ≡ suc (f + n) = omega arith in
+    rw more (changes-behind f n (drop 2 ws) ∙ rw (e, drop-drop))
+
+-- the entries of a part of a log are those of the log from the first of the part on
+pub entries-part : (log : List ℕ) (f n : ℕ) → f + n ≤ length log / 16 →
+    (length (part log (16 * f) (16 * n)) / 16 ≡ n) × (changes n (words_of (part log (16 * f) (16 * n))) ≡ drop f (changes (f + n) (words_of log)))
+entries-part log f n h =
+    let s = part log (16 * f) (16 * n) in
+    let long : length s ≡ 16 * n = part_length log (16 * f) (16 * n) (omega arith) in (
+      omega (arith, long),
+      changes_same n (words_of s) (drop (2 * f) (words_of log))
+          (λ j l.
+          let at : 16 * f + 8 * j ≡ 8 * (2 * f + j) = omega arith in
+          word_at (length s / 8) j s (omega (arith, l, long))
+          ∙ part-number log (16 * f) (16 * n) (8 * j) 8 (omega arith)
+          ∙ ap (λ (a : ℕ). u64 log a) at
+          ∙ sym (word_at (length log / 8) (2 * f + j) log (omega (arith, l)))
+          ∙ sym (get_or-drop (2 * f) (words_of log) j 0))
+          ∙ sym (changes-behind f n (words_of log)),
+    )
+
+-- the first entries of a log, and the last of these
+pub entries-first : (log : List ℕ) (e : ℕ) → e ≤ length log / 16 →
+    changes (length (take (16 * e) log) / 16) (words_of (take (16 * e) log)) ≡ changes e (words_of log)
+entries-first log e h =
+    let all : 0 + e ≡ e = omega arith in
+    let p = entries-part log 0 e (omega arith) in
+    rw p.0 (p.1 ∙ ap (λ (n : ℕ). changes n (words_of log)) all)
+
+pub entries-last : (log : List ℕ) (e w : ℕ) → e ≤ length log / 16 → w ≤ e →
+    let s = take (16 * e - 16 * (e - w)) (drop (16 * (e - w)) log) in
+    changes (length s / 16) (words_of s) ≡ drop (e - w) (changes e (words_of log))
+entries-last log e w h l =
+    let size : 16 * e - 16 * (e - w) ≡ 16 * w = omega arith in
+    let all : e - w + w ≡ e = omega arith in
+    let p = entries-part log (e - w) w (omega arith) in
+    rw (size, p.0) (p.1 ∙ ap (λ (n : ℕ). drop (e - w) (changes n (words_of log))) all)

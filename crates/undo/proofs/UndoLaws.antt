@@ -84,6 +84,13 @@ fits-inside im c b e = go (leb (c.field + 4) (length im)) (eqb (u32 im c.field) 
     go true false p q = let z : ◌≡◌ {A = ℕ} 0 1 = cc in absurd (omega arith)
     go false u p q = let z : ◌≡◌ {A = ℕ} 0 1 = cc in absurd (omega arith)
 
+-- where all entries fit, those from one on fit
+pub fit-behind : (im : List ℕ) (i : ℕ) (cs : List Change) → all_fit im cs ≡ true → all_fit im (drop i cs) ≡ true
+unfolding all_fit
+fit-behind im zero cs h = h
+fit-behind im (suc i) [] h = h
+fit-behind im (suc i) (c ∷ cs) h = fit-behind im i cs (fits-inside im c (all_fit im cs) h).1
+
 -- where all entries fit, the ith has its field inside
 pub field-inside : (im log : List ℕ) (e i : ℕ) → i < e → all_fit im (changes e log) ≡ true → get_or log (2 * i) 0 + 4 ≤ length im
 unfolding changes all_fit

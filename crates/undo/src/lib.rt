@@ -1,7 +1,7 @@
 // Undo: writes the old counts of a mender's log back into the image. The log is bytes of any length, so that its words are read in place.
 #![tactic(auto)]
 
-ghost use Rattle.std.specs.Prelude.{◌≡◌, ◌≢◌, IfErr, true, ◌-◌, ◌*◌, ◌≤◌, min, length, drop};
+ghost use Rattle.std.specs.Prelude.{◌≡◌, ◌≢◌, IfErr, true, ◌/◌, ◌≤◌, length};
 ghost use Rattle.format.specs.Log.{changes, restored};
 ghost use Rattle.format.specs.Undo.{fits as fits_image, all_fit, undo_number};
 ghost use Rattle.format.specs.Answers.{undo as undo_reply};
@@ -31,13 +31,12 @@ fn fits(image: &[u8], field: u64, word: u64) -> bool
     count == word % OLD_UNIT
 }
 
-// Whether all entries fit the image.
-fn all_fit(image: &[u8], log: &[u8], entries: usize) -> bool
-    requires in_bounds { 4 ≤ length image.now }
-    requires entries_in_bounds { 16 * entries ≤ length log.now }
-    ensures { result ≡ all_fit image.now (changes entries (words_of log.now)) }
+// Whether all entries of a log fit the image.
+fn all_fit(image: &[u8], log: &[u8]) -> bool
+    requires { 4 ≤ length image.now }
+    ensures { result ≡ all_fit image.now (changes (length log.now / 16) (words_of log.now)) }
 {
-    for i in 0..entries {
+    for i in 0..log.len() / ENTRY_BYTES {
         let field = u64_at(log, ENTRY_BYTES * i);
         let word = u64_at(log, ENTRY_BYTES * i + 8);
         if !fits(image, field, word) {
@@ -47,14 +46,12 @@ fn all_fit(image: &[u8], log: &[u8], entries: usize) -> bool
     true
 }
 
-// Writes the old counts of the last `writes` entries, last first. Fields may overlap, so that the order matters.
-fn restore(image: &mut [u8], log: &[u8], entries: usize, writes: usize)
-    requires writes_le_entries { writes ≤ entries }
-    requires entries_in_bounds { 16 * entries ≤ length log.now }
-    requires log_value { all_fit image.old (changes entries (words_of log.now)) ≡ true }
-    ensures { image.new ≡ restored image.old (drop (entries - writes) (changes entries (words_of log.now))) }
+// Writes the old counts of a log's entries, last first. Fields may overlap, so that the order matters.
+fn restore(image: &mut [u8], log: &[u8])
+    requires { all_fit image.old (changes (length log.now / 16) (words_of log.now)) ≡ true }
+    ensures { image.new ≡ restored image.old (changes (length log.now / 16) (words_of log.now)) }
 {
-    for i in (entries - writes..entries).rev() {
+    for i in (0..log.len() / ENTRY_BYTES).rev() {
         let field = u64_at(log, ENTRY_BYTES * i);
         let old = u64_at(log, ENTRY_BYTES * i + 8) / OLD_UNIT;
         put_u32(image, field as usize, old as u32);
@@ -76,7 +73,7 @@ fn check(image: &[u8], log: &[u8], entries: u64) -> Result<(), u8>
     if ((log.len() / ENTRY_BYTES) as u64) < entries {
         return Err(answers::LOG_TOO_SHORT);
     }
-    if !all_fit(image, log, entries as usize) {
+    if !all_fit(image, &log[..ENTRY_BYTES * entries as usize]) {
         return Err(answers::LOG_NOT_FITTING);
     }
     Ok(())
@@ -90,6 +87,7 @@ pub fn undo(image: &mut [u8], log: &[u8], entries: u64, limit: u64) -> Result<u6
 {
     check(image, log, entries)?;
     let writes = limit.min(entries);
-    restore(image, log, entries as usize, writes as usize);
+    let first = ENTRY_BYTES * (entries - writes) as usize;
+    restore(image, &log[first..ENTRY_BYTES * entries as usize]);
     Ok(writes)
 }

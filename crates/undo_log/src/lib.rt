@@ -13,9 +13,9 @@ use ledger::report::Ledger;
 use walk::{blocks, numbers};
 
 // How many objects have a wrong count.
-pub fn wrong(ledger: Ledger) -> usize
-    requires { ledger.objects ≤ objects_most }
-    ensures { WrongCounts ledger result }
+pub fn wrong(ledger: &Ledger) -> usize
+    requires { ledger.now.objects ≤ objects_most }
+    ensures { WrongCounts ledger.now result }
 {
     let mut n: usize = 0;
     for i in 0..ledger.objects {
@@ -43,12 +43,12 @@ fn put_entry(log: &mut [u64], n: usize, address: u64, stored: u32, true_count: u
 }
 
 // Writes the whole log: an entry for each wrong count, in the ledger's order, and zeros behind them.
-pub fn write_log(log: &mut [u64], ledger: Ledger)
-    requires objects_le_objects_most { ledger.objects ≤ objects_most }
-    requires counts_below { CountsBelow (2 ^ 64) ledger }
-    requires ledger_in_bounds { 2 * length (corrections (counted_of ledger)) ≤ length log.old }
-    ensures log_after { log.new ≡ padded (length log.old) (log_words (corrections (counted_of ledger))) }
-    ensures news_fit { NewsFit (corrections (counted_of ledger)) }
+pub fn write_log(log: &mut [u64], ledger: &Ledger)
+    requires objects_le_objects_most { ledger.now.objects ≤ objects_most }
+    requires counts_below { CountsBelow (2 ^ 64) ledger.now }
+    requires ledger_in_bounds { 2 * length (corrections (counted_of ledger.now)) ≤ length log.old }
+    ensures log_after { log.new ≡ padded (length log.old) (log_words (corrections (counted_of ledger.now))) }
+    ensures news_fit { NewsFit (corrections (counted_of ledger.now)) }
 {
     let mut n: usize = 0;
     for i in 0..ledger.objects {

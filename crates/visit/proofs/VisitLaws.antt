@@ -15,23 +15,24 @@ use Rattle.laws.proofs.Results.{value-bind, answer-bind}
 use Rattle.ledger.specs.Table.{linked_of, Discovered}
 use Rattle.ledger.proofs.LedgerLaws.{discover-hard, discover-other}
 use Rattle.ledger.proofs.TableLaws.{discovered-sum}
-use Rattle.visit.specs.Visit.{visit_both, link_of, hard_link, symbolic_link, link_after, TableIf, Visited}
+use Rattle.visit.specs.Visit.{visit_both, link_of, link_after, TableIf, Visited}
 use Rattle.visit.specs.declared.Link.{Link}
+use Rattle.visit.specs.declared.Link.TheVariants.{Hard, Symbolic}
 
 -- What a lookup knows after an entry, by the tests.
 module _ (name wanted : List ℕ) (kind header : ℕ) (l : Link) where
   pub link-other : same_bytes name wanted ≡ false → l ≡ link_after name wanted kind header l
   link-other e = rw e
 
-  pub link-hard : same_bytes name wanted ≡ true → kind ≤ 1 → hard_link header ≡ link_after name wanted kind header l
+  pub link-hard : same_bytes name wanted ≡ true → kind ≤ 1 → Hard header ≡ link_after name wanted kind header l
   link-hard e h = rw (e, le-leb kind 1 h)
 
-  pub link-soft : same_bytes name wanted ≡ true → 1 < kind → symbolic_link ≡ link_after name wanted kind header l
+  pub link-soft : same_bytes name wanted ≡ true → 1 < kind → Symbolic ≡ link_after name wanted kind header l
   link-soft e h = rw (e, lt-leb kind 1 h)
 
 -- the choices of a lookup are the definition's
 link-chosen : (t u : Bool) (header : ℕ) (l : Link) →
-    link_of (if t then if u then hard_link header else symbolic_link else l) ≡ (if t then if u then hard header else soft else link_of l)
+    link_of (if t then if u then Hard header else Symbolic else l) ≡ (if t then if u then hard header else soft else link_of l)
 link-chosen true true header l = refl
 link-chosen true false header l = refl
 link-chosen false u header l = refl

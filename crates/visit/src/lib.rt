@@ -5,23 +5,25 @@ ghost use Rattle.std.specs.Prelude.{◌+◌, ◌^◌, ◌<◌, ◌≡◌};
 ghost use Rattle.format.specs.Bytes.{same_bytes};
 ghost use Rattle.ledger.specs.Links.{link_sum};
 ghost use Rattle.ledger.specs.Table.{linked_of};
-ghost use Rattle.visit.specs.Visit.{link_after, TableIf, Visited};
+ghost use Rattle.ledger.specs.Objects.{SameTable};
+ghost use Rattle.visit.specs.Visit.{link_after, with_objects, TableIf, Visited};
 
-use ledger::table;
+use ledger::table::Objects;
 use order::same;
 
-// What a lookup has found: no entry of the wanted name, a hard link or a symbolic one.
-pub const ABSENT: u64 = 0;
-
-pub const HARD: u64 = 1;
-
-pub const SYMBOLIC: u64 = 2;
-
-// What the entries met so far say of the wanted name: one of these, and the header address of a hard link. As two numbers it is copied with
-// every entry in one piece.
+// What the entries met so far say of the wanted name: no entry has it, or a hard link to this header address, or a symbolic link.
 #[derive(Clone, Copy)]
-pub struct Link {
-    pub found: u64,
+pub enum Link {
+    Absent,
+    Hard(u64),
+    Symbolic,
+}
+
+// An entry of a symbol table: its name, its type, and the address of its header.
+#[derive(Clone, Copy)]
+pub struct Entry<'a> {
+    pub name: &'a [u8],
+    pub kind: u64,
     pub header: u64,
 }
 
@@ -39,50 +41,42 @@ fn is_wanted(name: &[u8], wanted: &[u8]) -> bool
     same(name, wanted)
 }
 
-// A lookup's answer after an entry of this type and header address.
-fn compare(name: &[u8], wanted: &[u8], kind: u64, header: u64, link: Link) -> Link
-    ensures { result ≡ link_after name.now wanted.now kind header link }
+// A lookup's answer after an entry.
+fn compare(entry: Entry<'_>, wanted: &[u8], link: Link) -> Link
+    ensures { result ≡ link_after entry.entry.name.now wanted.now entry.entry.kind entry.entry.header link }
 {
-    if !is_wanted(name, wanted) {
+    if !is_wanted(entry.name, wanted) {
         return link;
     }
-    let hard = kind <= 1;
+    let hard = entry.kind <= 1;
     if hard {
-        return Link {
-            found: HARD,
-            header,
-        };
+        return Link::Hard(entry.header);
     }
-    Link {
-        found: SYMBOLIC,
-        header: 0,
-    }
+    Link::Symbolic
 }
 
-// The number of objects and a lookup's answer after an entry; nothing where the table of objects is full.
+// A lookup's answer after an entry; nothing where the table of objects is full.
 pub fn visit_entry(
-    addresses: &mut [u64],
-    counts: &mut [u32],
-    objects: usize,
+    objects: &mut Objects<'_>,
     auditing: bool,
-    name: &[u8],
     wanted: &[u8],
-    kind: u64,
-    header: u64,
+    entry: Entry<'_>,
     link: Link,
-) -> Option<(usize, Link)>
-    requires table_if { TableIf auditing addresses.old counts.old objects }
-    requires counts_bound { link_sum (linked_of objects addresses.old counts.old) + 1 < 2 ^ 32 }
-    ensures { Visited addresses.old counts.old objects auditing name.now wanted.now kind header link
-        addresses.new counts.new result }
+) -> Option<Link>
+    requires table_if { TableIf auditing objects.old.addresses.now objects.old.counts.now objects.old.count }
+    requires counts_bound { link_sum (linked_of objects.old.count objects.old.addresses.now objects.old.counts.now) + 1 < 2 ^ 32 }
+    ensures visited { Visited objects.old.addresses.now objects.old.counts.now objects.old.count auditing entry.entry.name.now
+        wanted.now entry.entry.kind entry.entry.header link objects.new.addresses.now objects.new.counts.now
+        (with_objects objects.new.count result) }
+    ensures kept { SameTable objects.old objects.new }
 {
     if !auditing {
-        return Some((objects, compare(name, wanted, kind, header, link)));
+        return Some(compare(entry, wanted, link));
     }
-    let symbolic = 1 < kind;
+    let symbolic = 1 < entry.kind;
     if symbolic {
-        return Some((objects, link));
+        return Some(link);
     }
-    let with_object = table::discover(addresses, counts, objects, header)?;
-    Some((with_object, link))
+    objects.discover(entry.header)?;
+    Some(link)
 }

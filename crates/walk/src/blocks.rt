@@ -1,10 +1,11 @@
 // The blocks entered, in a working list. A block has four words: its address, its length, the number of its kind and the number
 // of the object that it was walked for. Behind the words of all blocks is their index.
-ghost use Rattle.std.specs.Prelude.{◌≡◌, Err, ◌++◌, ◌+◌, ◌-◌, ◌*◌, ◌^◌, ◌<◌, ◌≤◌, min, length, take, replicate};
+ghost use Rattle.std.specs.Prelude.{◌≡◌, ℕ, Err, OnErr, ◌++◌, ◌+◌, ◌-◌, ◌*◌, ◌^◌, ◌<◌, ◌≤◌, min, length, take, replicate};
 ghost use Rattle.format.specs.Limits.{blocks_most};
 ghost use Rattle.format.specs.Blocks.{entry_answer, room_of};
 ghost use Rattle.format.specs.declared.Refusal.TheVariants.{NotEntered};
 ghost use Rattle.walk.specs.Lent.{Lent, blocks_of, places_of, work_words, handed, appended, entering, IsEntered};
+ghost use Rattle.walk.specs.Entered.{with_count, SameWords};
 
 use crate::owner::{last_owner, owner_after};
 use block_index::adding::add;
@@ -12,7 +13,8 @@ use block_index::index::{RUN_MOST, find, places_for};
 use block_index::met::first_met;
 use format::{BLOCKS_MOST, Refusal, answers};
 
-// Sets the words from a place on to zero.
+// Sets the words from a place on to zero. `words::clear_from` does so with bytes: one function over both types would have to be given their
+// zero and the law that a clone of it is the same number, and be longer than these two.
 pub fn clear_from(words: &mut [u64], from: usize)
     requires { from ≤ length words.old }
     ensures { words.new ≡ take from words.old ++ replicate (length words.old - from) 0 }
@@ -50,7 +52,8 @@ pub fn work_words(room: usize) -> usize
     5 * room + 2 * RUN_MOST
 }
 
-// Copies the words of so many blocks from a working list to a caller's, which gets zeros behind them.
+// Copies the words of so many blocks from a working list to a caller's, which gets zeros behind them. It is given their number and not a part
+// of the list: every caller has the number, and would have to know that a block has four words.
 pub fn hand_over(list: &mut [u64], work: &[u64], count: usize)
     requires count_in_bounds { 4 * count ≤ length list.old }
     requires count_in_bounds_2 { 4 * count ≤ length work.now }
@@ -75,9 +78,8 @@ pub fn not_entered(number: u8, kind: u8, at: u64, size: u64, met: u64) -> Refusa
 }
 
 // Writes a block behind the others, with the number of its object.
-fn append(blocks: &mut [u64], count: usize, room: usize, kind: u8, at: u64, size: u64)
-    requires lent { Lent blocks.old count room }
-    requires count_lt_room { count < room }
+fn append(blocks: &mut [u64], count: usize, kind: u8, at: u64, size: u64)
+    requires { (room : ℕ) × Lent blocks.old count room × (count < room) }
     ensures { blocks.new ≡ appended blocks.old count kind at size }
 {
     let object = owner_after(last_owner(blocks, count), kind);
@@ -89,43 +91,56 @@ fn append(blocks: &mut [u64], count: usize, room: usize, kind: u8, at: u64, size
 }
 
 // The refusal of a block that isn't inside.
-fn outside(kind: u8, at: u64, size: u64) -> Result<usize, Refusal>
+fn outside(kind: u8, at: u64, size: u64) -> Result<(), Refusal>
     ensures { result ≡ Err (NotEntered 5 kind at size 0) }
 {
     Err(not_entered(answers::OUTSIDE, kind, at, size, 0))
 }
 
-// Enters the block of `size` bytes at `at`: 5 if it isn't inside, 6 if it overlaps, 13 if there is no room, or the new count.
-pub fn enter(
-    end_of_file: u64,
-    blocks: &mut [u64],
-    count: usize,
-    room: usize,
-    kind: u8,
-    at: u64,
-    size: u64,
-) -> Result<usize, Refusal>
-    requires { Lent blocks.old count room }
-    ensures value { result ≡ entering (entry_answer end_of_file room (blocks_of count blocks.old) at size) kind at size
-        (blocks_of count blocks.old) count }
-    ensures entered { IsEntered (entry_answer end_of_file room (blocks_of count blocks.old) at size) blocks.old
-        count kind at size blocks.new }
-{
-    if end_of_file < at {
-        return outside(kind, at, size);
+// The blocks entered, in a working list: its words, and how many blocks there are.
+#[derive(Drop)]
+pub struct Blocks<'a> {
+    pub words: &'a mut [u64],
+    pub count: usize,
+}
+
+// What a block that is entered keeps to: the end of file, and the room in the list.
+#[derive(Clone, Copy)]
+pub struct Bounds {
+    pub end_of_file: u64,
+    pub room: usize,
+}
+
+impl Blocks<'_> {
+    // Enters the block of `size` bytes at `at`: 5 if it isn't inside, 6 if it overlaps, 13 if there is no room.
+    pub fn enter(&mut self, bounds: Bounds, kind: u8, at: u64, size: u64) -> Result<(), Refusal>
+        requires { Lent self.old.words.now self.old.count bounds.room }
+        ensures value { with_count result self.new.count ≡ entering (entry_answer bounds.end_of_file bounds.room
+            (blocks_of self.old.count self.old.words.now) at size) kind at size (blocks_of self.old.count self.old.words.now) self.old.count }
+        ensures entered { IsEntered (entry_answer bounds.end_of_file bounds.room (blocks_of self.old.count self.old.words.now) at size)
+            self.old.words.now self.old.count kind at size self.new.words.now }
+        ensures refused { OnErr result (self.new.count ≡ self.old.count) }
+        ensures kept { SameWords self.old self.new }
+    {
+        let count = self.count;
+        let words = &mut *self.words;
+        if bounds.end_of_file < at {
+            return outside(kind, at, size);
+        }
+        if bounds.end_of_file - at < size {
+            return outside(kind, at, size);
+        }
+        let found = find(words, count, at, size);
+        if found.met {
+            let b = first_met(words, count, found, at, size);
+            return Err(not_entered(answers::OVERLAP, kind, at, size, words[4 * b]));
+        }
+        if bounds.room <= count {
+            return Err(not_entered(answers::NO_ROOM, kind, at, size, 0));
+        }
+        append(words, count, kind, at, size);
+        add(words, count, found.first, found.second);
+        self.count = count + 1;
+        Ok(())
     }
-    if end_of_file - at < size {
-        return outside(kind, at, size);
-    }
-    let found = find(blocks, count, at, size);
-    if found.met {
-        let b = first_met(blocks, count, found, at, size);
-        return Err(not_entered(answers::OVERLAP, kind, at, size, blocks[4 * b]));
-    }
-    if room <= count {
-        return Err(not_entered(answers::NO_ROOM, kind, at, size, 0));
-    }
-    append(blocks, count, room, kind, at, size);
-    add(blocks, count, found.first, found.second);
-    Ok(count + 1)
 }

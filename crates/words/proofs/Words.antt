@@ -89,8 +89,9 @@ begins-more out ws vs at b e h =
     record {
       fits = omega (arith, length-overwrite out at (word_bytes vs));
       begin =
-          ap (take (8 * length (ws ++ vs))) s ∙ take_at (word_bytes ws ++ word_bytes vs) (drop (at + length (word_bytes vs)) out) (8 * length (ws ++ vs)) k ∙ sym
-          (word_bytes-append ws vs);
+          ap (take (8 * length (ws ++ vs))) s
+          ∙ take_at (word_bytes ws ++ word_bytes vs) (drop (at + length (word_bytes vs)) out) (8 * length (ws ++ vs)) k
+          ∙ sym (word_bytes-append ws vs);
     }
 
 -- with zeros behind them it is the padded list

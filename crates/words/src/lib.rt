@@ -13,7 +13,7 @@ pub fn put_word(out: &mut [u8], at: usize, w: u64)
     out[at..at + 8].copy_from_slice(&w.to_le_bytes());
 }
 
-// Sets every byte from a place on to 0.
+// Sets every byte from a place on to 0, as `walk::blocks::clear_from` does with words. The reason why it isn't one function stands there.
 pub fn clear_from(out: &mut [u8], from: usize)
     requires { from ≤ length out.old }
     ensures { out.new ≡ take from out.old ++ replicate (length out.old - from) 0 }

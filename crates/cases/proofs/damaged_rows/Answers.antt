@@ -37,11 +37,13 @@ unfolding to_words image_least image_most level_most rank_most objects_most bloc
     same_bytes contains overlaps overlaps_any first_met entry_answer room_of blank_count shown results.◌>>=◌ ◌>>=◌ run signature version_shift versions_read
     sizes_read addresses_read superblock_read superblock_sound superblock_fields open_image superblock_walk treatment read_message messages of_type
     the_message continuations header_contents header_messages has_counts object_of header_with header_walk HEAP free_blocks free_list heap_walk before_nul
-    string_at key_text is_name name_text value_text fault_number below within SNOD read_value read_entry entries symbol_walk TREE keys_walk children node_walk branches
+    string_at key_text is_name name_text value_text fault_number below within SNOD read_value read_entry entries
+    symbol_walk TREE keys_walk children node_walk branches
     subtree tree_walk group_walk product read_dataspace read_datatype read_shared read_contiguous read_layout data_walk read_type storage_walk dataset_walk
     read_shared_part read_attribute place_of share share_each discover_sharing not_committed sharing_dataset in_ledger add_link count_link
     discover content_walk object_walk objects_walk audit_walk audit_run
-    path_parts is_component all_components parse_path compare_name find_walk target_walk component_walk follow locate_walk lookup_run dataset_of describe_walk describe_run
+    path_parts is_component all_components parse_path compare_name find_walk target_walk component_walk follow
+    locate_walk lookup_run dataset_of describe_walk describe_run
     damaged_table
 all-agree = tt
 

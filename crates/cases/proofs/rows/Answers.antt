@@ -39,12 +39,15 @@ use Rattle.cases.proofs.Agree.{agree, agree-equal}
 use Rattle.cases.proofs.rows.Goals as goal
 
 all-agree : T (agree table)
-unfolding image_least image_most input_most level_most rank_most objects_most blocks_most command_blocks name_most path_most all_hold little_endian to_bytes to_words
+unfolding image_least image_most input_most level_most rank_most objects_most blocks_most command_blocks name_most
+    path_most all_hold little_endian to_bytes to_words
     overwrite undefined_address same_bytes contains overlaps overlaps_any first_met entry_answer room_of owner_after block_words
     blank_count shown results.◌>>=◌ ◌>>=◌ run
-    signature version_shift versions_read sizes_read addresses_read superblock_read superblock_sound superblock_fields open_image superblock_walk treatment read_message
+    signature version_shift versions_read sizes_read addresses_read superblock_read superblock_sound superblock_fields
+    open_image superblock_walk treatment read_message
     messages of_type
-    the_message continuations header_contents header_messages has_counts object_of header_with header_walk HEAP free_blocks free_list heap_walk before_nul string_at
+    the_message continuations header_contents header_messages has_counts object_of header_with header_walk HEAP
+    free_blocks free_list heap_walk before_nul string_at
     key_text is_name name_text below within SNOD read_value read_entry entries symbol_walk TREE keys_walk children node_walk branches
     subtree tree_walk group_walk product read_dataspace read_datatype read_shared read_contiguous read_layout data_walk read_type storage_walk dataset_walk
     read_shared_part read_attribute place_of share share_each discover_sharing not_committed sharing_dataset in_ledger add_link

@@ -4,56 +4,56 @@ use Rattle.std.proofs.lemmas.Result.{err_from_is_err_and}
 use Rattle.component.proofs.component.Goals as goal
 
 pub read-requires : goal.read-requires
-read-requires c = record {
-  lent = (at-header c.args.image.now c.args.name.now c.args.list.now c.args.superblock c.args.room
-      c.args.at c.args.last c.requires.lent c.enter_superblock.new.blocks c.in_ok-entered.entered
-      c.enter_superblock.auto.blocks (c.in_ok-entered.ensures c.args.image.now)).lent;
+read-requires c = rw c.bounds.ensures (record {
+  lent = (at-header c.args.file.image.now c.args.name.now c.args.list.now c.args.file.superblock c.args.file.room
+      c.args.at c.args.last c.requires.lent c.enter_superblock.new.blocks.words.now c.enter_superblock.new.blocks.count
+      c.enter_superblock.ensures.kept.long (c.in_ok-enter_superblock.ensures.walked c.args.file.image.now)).lent;
   room_le_blocks_most = c.requires.opened.most;
   end_of_file_in_bounds = c.requires.opened.file;
-}
+})
 
 pub find-requires : goal.find-requires
 find-requires c = record {
   opened = c.requires.opened;
-  by_index = group-ready c.args.image.now c.args.name.now c.args.list.now c.args.superblock c.args.room
-      c.args.at c.args.last c.requires.lent c.enter_superblock.new.blocks c.in_ok-entered.entered
-      c.enter_superblock.auto.blocks (c.in_ok-entered.ensures c.args.image.now) c.read.new.list
-      c.in-Group.count c.read.auto.list c.in-Group.tree c.in-Group.heap (rw c.in-Group.is at c.in_ok-header.ensures).walked;
+  by_index = group-ready c.args.file.image.now c.args.name.now c.args.list.now c.args.file.superblock c.args.file.room
+      c.args.at c.args.last c.requires.lent c.enter_superblock.new.blocks.words.now c.enter_superblock.new.blocks.count
+      c.enter_superblock.ensures.kept.long (c.in_ok-enter_superblock.ensures.walked c.args.file.image.now) c.read.new.blocks.words.now
+      c.read.new.blocks.count c.read.ensures.kept.long c.in-Group.tree c.in-Group.heap (rw (c.bounds.ensures, c.in-Group.is) at c.in_ok-header.ensures.header).walked;
 }
 
-pub returns-in_err-entered : goal.returns-in_err-entered
-returns-in_err-entered c =
+pub returns-in_err-enter_superblock : goal.returns-in_err-enter_superblock
+returns-in_err-enter_superblock c =
     let p = err_from_is_err_and c.from_residual.result c.from_residual.ensures.1 in
     rw (p.1, p.2)
-    (superblock-stopped c.args.image.now c.args.name.now c.args.list.now c.args.superblock c.args.room
-    c.args.at c.args.last c.requires.lent c.enter_superblock.new.blocks _ (c.in_err-entered.ensures c.args.image.now))
+    (superblock-stopped c.args.file.image.now c.args.name.now c.args.list.now c.args.file.superblock c.args.file.room
+    c.args.at c.args.last c.requires.lent c.enter_superblock.new.blocks.words.now _ (c.in_err-enter_superblock.ensures.walked c.args.file.image.now))
 
 pub returns-in_err-header : goal.returns-in_err-header
 returns-in_err-header c =
     let p = err_from_is_err_and c.from_residual-in_err-header.result c.from_residual-in_err-header.ensures.1 in
     rw (p.1, p.2)
-    (header-stopped c.args.image.now c.args.name.now c.args.list.now c.args.superblock c.args.room
-    c.args.at c.args.last c.requires.lent c.enter_superblock.new.blocks c.in_ok-entered.entered
-    c.enter_superblock.auto.blocks (c.in_ok-entered.ensures c.args.image.now) c.read.new.list _
-    c.in_err-header.ensures.walked)
+    (header-stopped c.args.file.image.now c.args.name.now c.args.list.now c.args.file.superblock c.args.file.room
+    c.args.at c.args.last c.requires.lent c.enter_superblock.new.blocks.words.now c.enter_superblock.new.blocks.count
+    c.enter_superblock.ensures.kept.long (c.in_ok-enter_superblock.ensures.walked c.args.file.image.now) c.read.new.blocks.words.now _
+    (rw c.bounds.ensures at c.in_err-header.ensures.header).walked)
 
 pub returns-in-Committed : goal.returns-in-Committed
 returns-in-Committed c =
-    committed-found c.args.image.now c.args.name.now c.args.list.now c.args.superblock c.args.room
-    c.args.at c.args.last c.requires.lent c.enter_superblock.new.blocks c.in_ok-entered.entered
-    c.enter_superblock.auto.blocks (c.in_ok-entered.ensures c.args.image.now) c.read.new.list _
-    c.read.auto.list (rw c.in-Committed.is at c.in_ok-header.ensures).walked
+    committed-found c.args.file.image.now c.args.name.now c.args.list.now c.args.file.superblock c.args.file.room
+    c.args.at c.args.last c.requires.lent c.enter_superblock.new.blocks.words.now c.enter_superblock.new.blocks.count
+    c.enter_superblock.ensures.kept.long (c.in_ok-enter_superblock.ensures.walked c.args.file.image.now) c.read.new.blocks.words.now _
+    c.read.ensures.kept.long (rw (c.bounds.ensures, c.in-Committed.is) at c.in_ok-header.ensures.header).walked
 
 pub returns-in-Dataset : goal.returns-in-Dataset
 returns-in-Dataset c =
-    dataset-found c.args.image.now c.args.name.now c.args.list.now c.args.superblock c.args.room
-    c.args.at c.args.last c.requires.lent c.enter_superblock.new.blocks c.in_ok-entered.entered
-    c.enter_superblock.auto.blocks (c.in_ok-entered.ensures c.args.image.now) c.read.new.list _
-    c.read.auto.list _ _ _ (rw c.in-Dataset.is at c.in_ok-header.ensures).walked
+    dataset-found c.args.file.image.now c.args.name.now c.args.list.now c.args.file.superblock c.args.file.room
+    c.args.at c.args.last c.requires.lent c.enter_superblock.new.blocks.words.now c.enter_superblock.new.blocks.count
+    c.enter_superblock.ensures.kept.long (c.in_ok-enter_superblock.ensures.walked c.args.file.image.now) c.read.new.blocks.words.now _
+    c.read.ensures.kept.long _ _ _ (rw (c.bounds.ensures, c.in-Dataset.is) at c.in_ok-header.ensures.header).walked
 
 pub returns-in-Group : goal.returns-in-Group
 returns-in-Group c =
-    group-is c.args.image.now c.args.name.now c.args.list.now c.args.superblock c.args.room
-    c.args.at c.args.last c.requires.lent c.enter_superblock.new.blocks c.in_ok-entered.entered
-    c.enter_superblock.auto.blocks (c.in_ok-entered.ensures c.args.image.now) c.read.new.list
-    c.in-Group.count c.read.auto.list c.in-Group.tree c.in-Group.heap (rw c.in-Group.is at c.in_ok-header.ensures).walked _ c.find.ensures
+    group-is c.args.file.image.now c.args.name.now c.args.list.now c.args.file.superblock c.args.file.room
+    c.args.at c.args.last c.requires.lent c.enter_superblock.new.blocks.words.now c.enter_superblock.new.blocks.count
+    c.enter_superblock.ensures.kept.long (c.in_ok-enter_superblock.ensures.walked c.args.file.image.now) c.read.new.blocks.words.now
+    c.read.new.blocks.count c.read.ensures.kept.long c.in-Group.tree c.in-Group.heap (rw (c.bounds.ensures, c.in-Group.is) at c.in_ok-header.ensures.header).walked _ c.find.ensures.found

@@ -4,19 +4,20 @@ use Rattle.component.proofs.ComponentLaws.{group-stopped, group-found}
 use Rattle.component.proofs.find.Goals as goal
 
 pub read-requires : goal.read-requires
-read-requires c = record {
-  settings = c.requires.opened;
-  ready = c.requires.by_index _ _;
-}
+read-requires c =
+    rw c.bounds.ensures (record {
+      settings = c.requires.opened;
+      ready = c.requires.by_index _ _;
+    })
 
-pub returns-in_err-state : goal.returns-in_err-state
-returns-in_err-state c =
+pub returns-in_err-state-clause-found : goal.returns-in_err-state-clause-found
+returns-in_err-state-clause-found c =
     let p = err_from_is_err_and c.from_residual.result c.from_residual.ensures.1 in
     rw (p.1, p.2)
-    (group-stopped c.args.image.now c.args.name.now c.args.list.now _ _ c.args.superblock _ _ _ _ _ c.read.new.list
-    c.read.new.addresses c.read.new.counts _ c.in_err-state.ensures)
+    (group-stopped c.args.file.image.now c.args.name.now c.args.blocks.now.words.now _ _ c.args.file.superblock _ _ _ _ _ c.read.new.blocks.words.now
+    c.read.new.objects.addresses.now c.read.new.objects.counts.now _ (rw c.bounds.ensures at c.in_err-state.ensures.read))
 
-pub returns : goal.returns
-returns c =
-    group-found c.args.image.now c.args.name.now c.args.list.now _ _ c.args.superblock _ _ _ _ _ c.read.new.list
-    c.read.new.addresses c.read.new.counts _ _ c.in_ok-state.ensures c.target_of.ensures
+pub returns-clause-found : goal.returns-clause-found
+returns-clause-found c =
+    group-found c.args.file.image.now c.args.name.now c.args.blocks.now.words.now _ _ c.args.file.superblock _ _ _ _ _ c.read.new.blocks.words.now
+    c.read.new.objects.addresses.now c.read.new.objects.counts.now _ _ (rw c.bounds.ensures at c.in_ok-state.ensures.read) c.target_of.ensures

@@ -1,27 +1,19 @@
 -- Each case of what the entries say, and whether the component is the last.
-use mathlib.Core.Path.{sym}
-use borrow.Author.Tests.{eq-eqb, ne_eqb}
 use Rattle.format.specs.Lookup.{target_walk}
 use Rattle.component.proofs.target_of.Goals as goal
 
-pub returns-then-found-eq-ABSENT : goal.returns-then-found-eq-ABSENT
+pub returns-in-Absent : goal.returns-in-Absent
 unfolding target_walk
-returns-then-found-eq-ABSENT c = rw (eq-eqb c.args.state.link.found 0 c.if-found-eq-ABSENT.true)
+returns-in-Absent c = rw c.in-Absent.is search
 
-pub returns-then-found-eq-HARD : goal.returns-then-found-eq-HARD
+pub returns-in-Hard : goal.returns-in-Hard
 unfolding target_walk
-returns-then-found-eq-HARD c =
-    let found = c.args.state.link.found in
-    rw (ne_eqb found 0 c.if-found-eq-ABSENT.false, eq-eqb found 1 c.if-found-eq-HARD.true)
+returns-in-Hard c = rw c.in-Hard.is search
 
-pub returns-then-last : goal.returns-then-last
+pub returns-in-Symbolic : goal.returns-in-Symbolic
 unfolding target_walk
-returns-then-last c =
-    let found = c.args.state.link.found in
-    sym (rw (ne_eqb found 0 c.if-found-eq-ABSENT.false, ne_eqb found 1 c.if-found-eq-HARD.false, c.if-last.true))
+returns-in-Symbolic c = rw (c.in-Symbolic.is, c.if-last.true) search
 
-pub returns : goal.returns
+pub returns-in-Symbolic-2 : goal.returns-in-Symbolic-2
 unfolding target_walk
-returns c =
-    let found = c.args.state.link.found in
-    rw (ne_eqb found 0 c.if-found-eq-ABSENT.false, ne_eqb found 1 c.if-found-eq-HARD.false, c.if-last.false)
+returns-in-Symbolic-2 c = rw (c.in-Symbolic.is, c.if-last.false) search

@@ -3,114 +3,117 @@ use mathlib.Core.Path.{refl}
 use Rattle.format.specs.Header.{continuations}
 use Rattle.laws.proofs.Simulation.{start}
 use Rattle.std.proofs.lemmas.Result.{err_from_is_err_and}
-use Rattle.continuations.proofs.ContinuationLaws.{all_read, not-read, block-lent, waits, followed, loop-now, loop-inside}
+use Rattle.continuations.proofs.ContinuationLaws.{all_read, not-read, block-lent, waits, followed, loop-now, loop-inside, same_words-then}
+use Rattle.scan.proofs.ScanTables.{same_found, same_found-then}
 use native.Mathlib.Omega.{arith}
 use Rattle.continuations.proofs.follow.Goals as goal
 
 pub loop-c-init : goal.loop-c-init
-loop-c-init c = record {
-  going = λ fuel waiting sofar l k o t.
-      record {
-        fuel = fuel;
-        waiting = waiting;
-        sofar = sofar;
-        come = start _ _ _ (continuations _ fuel waiting _) _ _ k;
-        sought = o;
-        tally = t;
-        lasts = l;
-      };
-  counting = c.requires.lending.counting;
-  addresses_same = refl;
-  counts_same = refl;
-  marks_same = refl;
-}
+loop-c-init c = (
+  record {
+    going = λ fuel waiting sofar l k o t.
+        record {
+          fuel = fuel;
+          waiting = waiting;
+          sofar = sofar;
+          come = start _ _ _ (continuations _ fuel waiting _) _ _ k;
+          sought = o;
+          tally = t;
+          lasts = l;
+        };
+    counting = c.requires.lending.counting;
+  },
+  record { same = refl; long = refl },
+  same_found _,
+)
 
 pub overflow_add-at : goal.overflow_add-at
 overflow_add-at c =
-    let i = loop-inside c.loop-c.invariant c.requires.lending (c.seek-c.ensures _ c.requires.ready.1) c.requires.has_tally.1 c.loop-c-test.true in
+    let i = loop-inside c.loop-c.invariant.0 c.requires.lending (c.seek-c.ensures _ c.requires.ready.1) c.requires.has_tally.1 c.loop-c-test.true in
     omega (arith, i.0, i.1)
 
 pub u64_at-address-requires : goal.u64_at-address-requires
 u64_at-address-requires c =
-    let i = loop-inside c.loop-c.invariant c.requires.lending (c.seek-c.ensures _ c.requires.ready.1) c.requires.has_tally.1 c.loop-c-test.true in
+    let i = loop-inside c.loop-c.invariant.0 c.requires.lending (c.seek-c.ensures _ c.requires.ready.1) c.requires.has_tally.1 c.loop-c-test.true in
     omega (arith, i.0, i.1)
 
 pub overflow_add-at-in-loop-c : goal.overflow_add-at-in-loop-c
 overflow_add-at-in-loop-c c =
-    let i = loop-inside c.loop-c.invariant c.requires.lending (c.seek-c.ensures _ c.requires.ready.1) c.requires.has_tally.1 c.loop-c-test.true in
+    let i = loop-inside c.loop-c.invariant.0 c.requires.lending (c.seek-c.ensures _ c.requires.ready.1) c.requires.has_tally.1 c.loop-c-test.true in
     omega (arith, i.0, i.1)
 
 pub u64_at-size-requires : goal.u64_at-size-requires
 u64_at-size-requires c =
-    let i = loop-inside c.loop-c.invariant c.requires.lending (c.seek-c.ensures _ c.requires.ready.1) c.requires.has_tally.1 c.loop-c-test.true in
+    let i = loop-inside c.loop-c.invariant.0 c.requires.lending (c.seek-c.ensures _ c.requires.ready.1) c.requires.has_tally.1 c.loop-c-test.true in
     omega (arith, i.0, i.1)
 
 pub read_block-requires : goal.read_block-requires
 read_block-requires c =
-    let f = loop-now c.loop-c.invariant c.requires.lending (c.seek-c.ensures _ c.requires.ready.1) c.requires.has_tally.1 in
-    record { lent = f.come.lent; most = c.requires.lending.most; file = c.requires.lending.file; counting = c.loop-c.invariant.counting }
+    let f = loop-now c.loop-c.invariant.0 c.requires.lending (c.seek-c.ensures _ c.requires.ready.1) c.requires.has_tally.1 in
+    record { lent = f.come.lent; most = c.requires.lending.most; file = c.requires.lending.file; counting = c.loop-c.invariant.0.counting }
 
-pub returns-in_err-sofar-clause-by_index : goal.returns-in_err-sofar-clause-by_index
-returns-in_err-sofar-clause-by_index c = λ fuel waiting sofar l w t.
+pub returns-in_err-read_block-clause-by_index : goal.returns-in_err-read_block-clause-by_index
+returns-in_err-read_block-clause-by_index c = λ fuel waiting sofar l w t.
     let p = err_from_is_err_and c.from_residual.result c.from_residual.ensures.1 in
-    let f = c.loop-c.invariant.going fuel waiting sofar l c.requires.lending.lent (c.seek-c.ensures waiting w) t in
+    let f = c.loop-c.invariant.0.going fuel waiting sofar l c.requires.lending.lent (c.seek-c.ensures waiting w) t in
     rw (p.1, p.2)
     (not-read _ _ _ _ _ _ _ _ _ _ _ _ c.requires.lending.most f c.loop-c-test.true _ _ c.u64_at-address.ensures c.u64_at-size.ensures _ _
-    c.in_err-sofar.ensures)
+    c.in_err-read_block.ensures.read)
 
 pub overflow_add-next : goal.overflow_add-next
 overflow_add-next c =
-    let i = loop-inside c.loop-c.invariant c.requires.lending (c.seek-c.ensures _ c.requires.ready.1) c.requires.has_tally.1 c.loop-c-test.true in
+    let i = loop-inside c.loop-c.invariant.0 c.requires.lending (c.seek-c.ensures _ c.requires.ready.1) c.requires.has_tally.1 c.loop-c-test.true in
     omega (arith, i.0, i.1)
 
 pub overflow_add-at-in-loop-c-2 : goal.overflow_add-at-in-loop-c-2
 overflow_add-at-in-loop-c-2 c =
-    let i = loop-inside c.loop-c.invariant c.requires.lending (c.seek-c.ensures _ c.requires.ready.1) c.requires.has_tally.1 c.loop-c-test.true in
+    let i = loop-inside c.loop-c.invariant.0 c.requires.lending (c.seek-c.ensures _ c.requires.ready.1) c.requires.has_tally.1 c.loop-c-test.true in
     omega (arith, i.0, i.1)
 
 pub u16_at-requires : goal.u16_at-requires
 u16_at-requires c =
-    let i = loop-inside c.loop-c.invariant c.requires.lending (c.seek-c.ensures _ c.requires.ready.1) c.requires.has_tally.1 c.loop-c-test.true in
+    let i = loop-inside c.loop-c.invariant.0 c.requires.lending (c.seek-c.ensures _ c.requires.ready.1) c.requires.has_tally.1 c.loop-c-test.true in
     omega (arith, i.0, i.1)
 
 pub overflow_add-next-in-loop-c : goal.overflow_add-next-in-loop-c
 overflow_add-next-in-loop-c c =
-    let i = loop-inside c.loop-c.invariant c.requires.lending (c.seek-c.ensures _ c.requires.ready.1) c.requires.has_tally.1 c.loop-c-test.true in
+    let i = loop-inside c.loop-c.invariant.0 c.requires.lending (c.seek-c.ensures _ c.requires.ready.1) c.requires.has_tally.1 c.loop-c-test.true in
     omega (arith, i.0, i.1, c.u16_at.ensures.value)
 
 pub seek-c-requires-in-loop-c-clause-ready : goal.seek-c-requires-in-loop-c-clause-ready
 seek-c-requires-in-loop-c-clause-ready c =
-    let f = loop-now c.loop-c.invariant c.requires.lending (c.seek-c.ensures _ c.requires.ready.1) c.requires.has_tally.1 in
-    let b = c.in_ok-sofar.ensures in
+    let f = loop-now c.loop-c.invariant.0 c.requires.lending (c.seek-c.ensures _ c.requires.ready.1) c.requires.has_tally.1 in
+    let b = c.in_ok-read_block.ensures.read in
     let w = waits _ _ _ _ _ _ _ _ _ _ _ _ c.requires.lending.most f c.loop-c-test.true _ _ c.u64_at-address.ensures
-    c.u64_at-size.ensures _ _ b.new _ _ c.read_block.auto.list b.walked b.block b.tally in
+    c.u64_at-size.ensures _ _ b.new _ _ c.in_ok-read_block.ensures.kept.long b.walked b.block b.tally in
     (_, rw (← c.u16_at.ensures.value) at w)
 
 pub loop-c-smaller : goal.loop-c-smaller
 loop-c-smaller c =
-    let f = loop-now c.loop-c.invariant c.requires.lending (c.seek-c.ensures _ c.requires.ready.1) c.requires.has_tally.1 in
-    let b = c.in_ok-sofar.ensures in
+    let f = loop-now c.loop-c.invariant.0 c.requires.lending (c.seek-c.ensures _ c.requires.ready.1) c.requires.has_tally.1 in
+    let b = c.in_ok-read_block.ensures.read in
     let l = block-lent _ _ _ _ _ _ _ _ _ _ _ _ c.requires.lending.most f c.loop-c-test.true _ _ c.u64_at-address.ensures
-    c.u64_at-size.ensures _ _ b.new _ _ c.read_block.auto.list b.walked b.block b.tally in
+    c.u64_at-size.ensures _ _ b.new _ _ c.in_ok-read_block.ensures.kept.long b.walked b.block b.tally in
     omega (arith, l.counted, b.block.counted)
 
 pub loop-c-preserved : goal.loop-c-preserved
 loop-c-preserved c =
-    let b = c.in_ok-sofar.ensures in
-    record {
-      going = λ fuel waiting sofar l k o t.
-          let f = c.loop-c.invariant.going fuel waiting sofar l k o t in
-          let w = waits _ _ _ _ _ _ _ _ _ _ _ _ c.requires.lending.most f c.loop-c-test.true _ _ c.u64_at-address.ensures
-          c.u64_at-size.ensures _ _ b.new _ _ c.read_block.auto.list b.walked b.block b.tally in
-          followed _ _ _ _ _ _ _ _ _ _ _ _ c.requires.lending.most f c.loop-c-test.true _ _ c.u64_at-address.ensures
-          c.u64_at-size.ensures _ _ b.new _ _ c.read_block.auto.list b.walked b.block b.tally _ (c.seek-c-in-loop-c.ensures _ (rw c.u16_at.ensures.value w));
-      counting = b.counting;
-      addresses_same = omega (arith, c.read_block.auto.addresses, c.loop-c.invariant.addresses_same);
-      counts_same = omega (arith, c.read_block.auto.counts, c.loop-c.invariant.counts_same);
-      marks_same = omega (arith, c.read_block.auto.marks, c.loop-c.invariant.marks_same);
-    }
+    let b = c.in_ok-read_block.ensures.read in (
+      record {
+        going = λ fuel waiting sofar l k o t.
+            let f = c.loop-c.invariant.0.going fuel waiting sofar l k o t in
+            let w = waits _ _ _ _ _ _ _ _ _ _ _ _ c.requires.lending.most f c.loop-c-test.true _ _ c.u64_at-address.ensures
+            c.u64_at-size.ensures _ _ b.new _ _ c.in_ok-read_block.ensures.kept.long b.walked b.block b.tally in
+            followed _ _ _ _ _ _ _ _ _ _ _ _ c.requires.lending.most f c.loop-c-test.true _ _ c.u64_at-address.ensures
+            c.u64_at-size.ensures _ _ b.new _ _ c.in_ok-read_block.ensures.kept.long b.walked b.block b.tally _
+            (c.seek-c-in-loop-c.ensures _ (rw c.u16_at.ensures.value w));
+        counting = b.counting;
+      },
+      same_words-then _ _ _ c.loop-c.invariant.1 c.in_ok-read_block.ensures.kept,
+      same_found-then _ _ _ c.loop-c.invariant.2 c.in_ok-read_block.ensures.kept_found,
+    )
 
 pub returns-clause-by_index : goal.returns-clause-by_index
 returns-clause-by_index c = λ fuel waiting sofar l w t.
-    let f = c.loop-c.invariant.going fuel waiting sofar l c.requires.lending.lent (c.seek-c.ensures waiting w) t in
+    let f = c.loop-c.invariant.0.going fuel waiting sofar l c.requires.lending.lent (c.seek-c.ensures waiting w) t in
     (f.sofar, all_read _ _ _ _ _ _ _ _ _ _ _ _ c.requires.lending.most f c.loop-c-test.false, f.tally)

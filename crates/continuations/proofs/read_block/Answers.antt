@@ -3,50 +3,33 @@ use Prim.Native.Nat.{◌+◌, ◌-◌}
 use mathlib.Core.Path.{◌≡◌}
 use Rattle.format.specs.Walk.{continuation_block}
 use Rattle.std.proofs.lemmas.Result.{err_from_is_err_and}
-use Rattle.continuations.proofs.BlockLaws.{counting-entered, counting-tables, counting_kept, counting-less, not_entered, block_inside, not-scanned}
-use Rattle.continuations.proofs.BlockLaws.{scanned, new-block}
+use Rattle.continuations.proofs.BlockLaws.{counting-entered, counting-tables, counting-less, not_entered, block_inside, block-scanned}
 use native.Mathlib.Omega.{arith}
 use Rattle.continuations.proofs.read_block.Goals as goal
 
-pub returns-in_err-count : goal.returns-in_err-count
-returns-in_err-count c =
+pub returns-in_err-enter-clause-read : goal.returns-in_err-enter-clause-read
+returns-in_err-enter-clause-read c =
     let p = err_from_is_err_and c.from_residual.result c.from_residual.ensures.1 in
-    let e = c.in_err-count.ensures in
-    rw (p.1, p.2) (not_entered _ _ _ _ _ _ _ _ _ c.requires.lent _ e.entered _ e.value)
+    rw (p.1, p.2) (not_entered _ _ _ _ _ _ _ _ _ c.requires.lent _ c.enter.ensures.entered _ c.in_err-enter.ensures.value)
 
 pub overflow_add-end : goal.overflow_add-end
-overflow_add-end c = omega (arith, block_inside _ _ continuation_block _ _ _ _ _ c.in_ok-count.ensures.value, c.requires.file)
+overflow_add-end c = omega (arith, block_inside _ _ continuation_block _ _ _ _ _ c.in_ok-enter.ensures.value, c.requires.file)
 
 pub scan_block-requires-clause-end_in_bounds : goal.scan_block-requires-clause-end_in_bounds
 scan_block-requires-clause-end_in_bounds c =
-    omega (arith, block_inside _ _ continuation_block _ _ _ _ _ c.in_ok-count.ensures.value, c.requires.file)
+    omega (arith, block_inside _ _ continuation_block _ _ _ _ _ c.in_ok-enter.ensures.value, c.requires.file)
 
 pub scan_block-requires-clause-tables_if : goal.scan_block-requires-clause-tables_if
 scan_block-requires-clause-tables_if c =
-    let e = c.in_ok-count.ensures in
-    let size : c.args.address + c.args.size - c.args.address ≡ c.args.size = omega arith in
+    let n = c.args.named in
+    let size : n.address + n.size - n.address ≡ n.size = omega arith in
     rw size
     (counting-tables _ _ _ _ _ _ _ _ _
     (counting-less _ _ _ _ _ _ _ _ _ _ (omega arith)
-    (counting-entered _ _ continuation_block _ _ _ _ _ c.requires.lent e.entered _ e.value _ _ _ _ _ 16 c.requires.counting)))
+    (counting-entered _ _ continuation_block _ _ _ _ _ c.requires.lent c.enter.ensures.entered _ c.in_ok-enter.ensures.value _ _ _ _ _ 16
+    c.requires.counting)))
 
-pub returns-in_err-gathering : goal.returns-in_err-gathering
-returns-in_err-gathering c =
-    let p = err_from_is_err_and c.from_residual-in_err-gathering.result c.from_residual-in_err-gathering.ensures.1 in
-    let e = c.in_ok-count.ensures in
-    rw (p.1, p.2) (not-scanned _ _ _ _ _ _ _ _ _ c.requires.lent _ e.entered _ e.value c.requires.file _ c.in_err-gathering.ensures)
-
-pub returns : goal.returns
-returns c =
-    let r = c.in_ok-gathering.ensures in
-    let e = c.in_ok-count.ensures in
-    let size : c.args.address + c.args.size - c.args.address ≡ c.args.size = omega arith in
-    record {
-      new = r.0;
-      walked = scanned _ _ _ _ _ _ _ _ _ c.requires.lent _ e.entered _ e.value c.requires.file _ r.1;
-      block = new-block _ _ _ _ _ _ _ _ _ c.requires.lent _ e.entered _ e.value c.requires.file _ r.1;
-      tally = r.2;
-      counting =
-          counting_kept _ _ _ _ _ _ _ _ 16 _ _ _ _ _
-          (counting-entered _ _ continuation_block _ _ _ _ _ c.requires.lent e.entered _ e.value _ _ _ _ _ 16 c.requires.counting) (rw size at r.3);
-    }
+pub returns-clause-read : goal.returns-clause-read
+returns-clause-read c =
+    block-scanned _ _ _ _ _ _ _ _ _ _ c.requires.lent c.requires.file _ c.enter.ensures.entered _ c.in_ok-enter.ensures.value c.requires.counting _ _ _
+    _ _ c.scan_block.ensures.scanned

@@ -29,18 +29,24 @@ loop-i-init c =
     (c.if-stored-element_size.false, rw (← w) s.requires.nonzero, rw (← w) (mul_comm _ _))
 
 pub returns-then-stored-size : goal.returns-then-stored-size
-returns-then-stored-size c = (turn _ _ _ c.args.element_size _ c.args.stored _ c.loop-i.invariant.1 c.loop-i.invariant.2 c.loop-i-test.true c.u64_at-size.ensures).above c.if-stored-size.true
+returns-then-stored-size c =
+    let t = turn _ _ _ c.args.element_size _ c.args.stored _ c.loop-i.invariant.1 c.loop-i.invariant.2 c.loop-i-test.true c.u64_at-size.ensures in
+    t.above c.if-stored-size.true
 
 pub nonzero_div-stored : goal.nonzero_div-stored
-nonzero_div-stored c = let t = turn _ _ _ c.args.element_size _ c.args.stored _ c.loop-i.invariant.1 c.loop-i.invariant.2 c.loop-i-test.true c.u64_at-size.ensures in omega (arith, t.least)
+nonzero_div-stored c =
+    let t = turn _ _ _ c.args.element_size _ c.args.stored _ c.loop-i.invariant.1 c.loop-i.invariant.2 c.loop-i-test.true c.u64_at-size.ensures in
+    omega (arith, t.least)
 
 pub overflow_mul-so_far : goal.overflow_mul-so_far
 overflow_mul-so_far c =
-    let start = c in
-    omega (arith, (turn _ _ _ c.args.element_size _ c.args.stored _ c.loop-i.invariant.1 c.loop-i.invariant.2 c.loop-i-test.true c.u64_at-size.ensures).within c.if-stored-size.false, start.ranges.stored)
+    let t = turn _ _ _ c.args.element_size _ c.args.stored _ c.loop-i.invariant.1 c.loop-i.invariant.2 c.loop-i-test.true c.u64_at-size.ensures in
+    omega (arith, t.within c.if-stored-size.false, c.ranges.stored)
 
 pub loop-i-preserved : goal.loop-i-preserved
-loop-i-preserved c = let t = turn _ _ _ c.args.element_size _ c.args.stored _ c.loop-i.invariant.1 c.loop-i.invariant.2 c.loop-i-test.true c.u64_at-size.ensures in (t.within c.if-stored-size.false, t.nonzero, t.next)
+loop-i-preserved c =
+    let t = turn _ _ _ c.args.element_size _ c.args.stored _ c.loop-i.invariant.1 c.loop-i.invariant.2 c.loop-i-test.true c.u64_at-size.ensures in
+    (t.within c.if-stored-size.false, t.nonzero, t.next)
 
 pub returns : goal.returns
 returns c =

@@ -10,5 +10,5 @@ use Rattle.dataspace.proofs.multiplies_to.Given as goal
 
 abbrev pub invariant-loop-i : goal.invariant-loop-i
 invariant-loop-i l =
-    (l.so_far ≤ l.stored) × (contains 0 (words_from l.body 8 l.rank l.i) ≡ false) × (product (to_words l.rank (drop 8 l.body)) * l.element_size ≡ l.so_far * product
-    (words_from l.body 8 l.rank l.i))
+    let left = words_from l.body 8 l.rank l.i in
+    (l.so_far ≤ l.stored) × (contains 0 left ≡ false) × (product (to_words l.rank (drop 8 l.body)) * l.element_size ≡ l.so_far * product left)

@@ -10,7 +10,8 @@ use Rattle.format.specs.Datatype.{Datatype, class_read, extent, read_datatype}
 use Rattle.format.specs.Result.{Result}
 use Rattle.walk.proofs.Tests.{range-below, range-above, range_inside, field-most, field-above, field-least, field_below}
 use Rattle.laws.proofs.Results.{passes, fails}
-use Rattle.datatype.proofs.TypeChecks.{class_of, version_of, after_extent, after_size, after_class, after_version, after_length, first-check, unsound-bits, own_read}
+use Rattle.datatype.proofs.TypeChecks.{class_of, version_of, after_extent, after_size, after_class, after_version, after_length}
+use Rattle.datatype.proofs.TypeChecks.{first-check, unsound-bits, own_read}
 use native.Mathlib.Omega.{arith}
 use Rattle.datatype.proofs.read.Goals as goal
 
@@ -48,21 +49,35 @@ pub returns-then-version-gt3 : goal.returns-then-version-gt3
 returns-then-version-gt3 c = long _ c.if-body-lt8.false (fails _ _ (range-above 1 3 _ c.if-version-gt3.true))
 
 pub returns-then-not-class_read : goal.returns-then-not-class_read
-returns-then-not-class_read c = versioned _ (record { long_enough = c.if-body-lt8.false; version_least = c.if-version-lt1.false; version_most = c.if-version-gt3.false }) (fails _ _ (sym c.class_read.ensures ∙ c.if-not-class_read.true))
+returns-then-not-class_read c =
+    let v : Versioned c.args.body.now =
+    record { long_enough = c.if-body-lt8.false; version_least = c.if-version-lt1.false; version_most = c.if-version-gt3.false } in
+    versioned _ v (fails _ _ (sym c.class_read.ensures ∙ c.if-not-class_read.true))
 
 pub returns-then-size-lt1 : goal.returns-then-size-lt1
-returns-then-size-lt1 c = classed _ (record { long_enough = c.if-body-lt8.false; version_least = c.if-version-lt1.false; version_most = c.if-version-gt3.false }) (sym c.class_read.ensures ∙ c.if-not-class_read.false) (fails _ _ (field_below (sym c.u32_at-size.ensures.value) c.if-size-lt1.true))
+returns-then-size-lt1 c =
+    let v : Versioned c.args.body.now =
+    record { long_enough = c.if-body-lt8.false; version_least = c.if-version-lt1.false; version_most = c.if-version-gt3.false } in
+    classed _ v (sym c.class_read.ensures ∙ c.if-not-class_read.false)
+    (fails _ _ (field_below (sym c.u32_at-size.ensures.value) c.if-size-lt1.true))
 
 pub returns-then-body-needed : goal.returns-then-body-needed
-returns-then-body-needed c = sized _ (record { long_enough = c.if-body-lt8.false; version_least = c.if-version-lt1.false; version_most = c.if-version-gt3.false }) (sym c.class_read.ensures ∙ c.if-not-class_read.false) _ c.u32_at-size.ensures.value (omega arith) (fails _ _ (field-above (sym c.needed.ensures) c.if-body-needed.true))
+returns-then-body-needed c =
+    let v : Versioned c.args.body.now =
+    record { long_enough = c.if-body-lt8.false; version_least = c.if-version-lt1.false; version_most = c.if-version-gt3.false } in
+    sized _ v (sym c.class_read.ensures ∙ c.if-not-class_read.false) _ c.u32_at-size.ensures.value (omega arith)
+    (fails _ _ (field-above (sym c.needed.ensures) c.if-body-needed.true))
 
 pub returns-then-not-sound : goal.returns-then-not-sound
 returns-then-not-sound c =
-    let fifth = c in
-    held _ (record { long_enough = c.if-body-lt8.false; version_least = c.if-version-lt1.false; version_most = c.if-version-gt3.false }) (sym c.class_read.ensures ∙ c.if-not-class_read.false) _ c.u32_at-size.ensures.value (omega arith) _ c.needed.ensures c.if-body-needed.false (unsound-bits _ fifth.u32_at-size.ensures c.sound.ensures c.if-not-sound.true)
+    let v : Versioned c.args.body.now =
+    record { long_enough = c.if-body-lt8.false; version_least = c.if-version-lt1.false; version_most = c.if-version-gt3.false } in
+    held _ v (sym c.class_read.ensures ∙ c.if-not-class_read.false) _ c.u32_at-size.ensures.value (omega arith) _ c.needed.ensures
+    c.if-body-needed.false (unsound-bits _ c.u32_at-size.ensures c.sound.ensures c.if-not-sound.true)
 
 pub returns : goal.returns
 returns c =
-    let fifth = c in
-    held _ (record { long_enough = c.if-body-lt8.false; version_least = c.if-version-lt1.false; version_most = c.if-version-gt3.false }) (sym c.class_read.ensures ∙ c.if-not-class_read.false) _ c.u32_at-size.ensures.value (omega arith) _ c.needed.ensures c.if-body-needed.false
-    (own_read _ fifth.u32_at-size.ensures c.sound.ensures c.class_bits.ensures c.if-not-sound.false)
+    let v : Versioned c.args.body.now =
+    record { long_enough = c.if-body-lt8.false; version_least = c.if-version-lt1.false; version_most = c.if-version-gt3.false } in
+    held _ v (sym c.class_read.ensures ∙ c.if-not-class_read.false) _ c.u32_at-size.ensures.value (omega arith) _ c.needed.ensures
+    c.if-body-needed.false (own_read _ c.u32_at-size.ensures c.sound.ensures c.class_bits.ensures c.if-not-sound.false)

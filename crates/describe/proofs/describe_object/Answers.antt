@@ -1,9 +1,10 @@
 -- The dataset's walk, on a working list, becomes the reply.
 use lib.ListN.{length}
+use Rattle.std.proofs.lemmas.Result.{err_from_is_err_and}
 use Rattle.superblock.specs.Superblock.{superblock_of}
 use Rattle.object.proofs.ObjectLaws.{opened, room-lent}
 use Rattle.dataset_at.specs.Reader.{dataset_at_walk}
-use Rattle.describe.proofs.ReplyLaws.{none_within, object-stopped, object-within, object-described}
+use Rattle.describe.proofs.ReplyLaws.{object-stopped, object-within, object-described}
 use Rattle.describe.proofs.describe_object.Goals as goal
 
 pub dataset_at-requires : goal.dataset_at-requires
@@ -14,24 +15,26 @@ dataset_at-requires c =
     }
 
 pub described-requires : goal.described-requires
-described-requires c = c.in-Ok.ensures.readable
+described-requires c = c.in_ok-read.ensures.readable
 
-pub returns-in-Err : goal.returns-in-Err
-returns-in-Err c =
-    record {
-      block_count_bound = none_within _ c.in-Err.refusal _ c.refused.ensures;
+pub returns-in_err-read : goal.returns-in_err-read
+returns-in_err-read c =
+    let p = err_from_is_err_and c.from_residual.result c.from_residual.ensures.1 in
+    rw (p.1, p.2)
+    (record {
+      block_count_bound = tt;
       by_index = object-stopped c.args.image.now c.args.superblock.end_of_file c.places-room.result
-          (dataset_at_walk (superblock_of c.args.superblock) c.args.at) c.args.list.now c.dataset_at.new.list c.places-room.ensures c.in-Err.refusal
-          c.in-Err.ensures _ c.refused.ensures;
-    }
+          (dataset_at_walk (superblock_of c.args.superblock) c.args.at) c.args.list.now c.dataset_at.new.list c.places-room.ensures _ c.in_err-read.ensures;
+    })
 
-pub returns-in-Ok : goal.returns-in-Ok
-returns-in-Ok c =
+pub returns : goal.returns
+returns c =
+    let read = c.in_ok-read.read in
     record {
       block_count_bound = object-within c.args.image.now c.args.superblock.end_of_file c.places-room.result
           (dataset_at_walk (superblock_of c.args.superblock) c.args.at) c.args.list.now c.dataset_at.new.list c.places-room.ensures
-          c.in-Ok.read.dataset c.in-Ok.read.space c.in-Ok.read.count c.in-Ok.ensures _ c.described.ensures;
+          read.dataset read.space read.count c.in_ok-read.ensures _ c.described.ensures;
       by_index = object-described c.args.image.now c.args.superblock.end_of_file c.places-room.result
           (dataset_at_walk (superblock_of c.args.superblock) c.args.at) c.args.list.now c.dataset_at.new.list c.places-room.ensures
-          c.in-Ok.read.dataset c.in-Ok.read.space c.in-Ok.read.count c.in-Ok.ensures _ c.described.ensures;
+          read.dataset read.space read.count c.in_ok-read.ensures _ c.described.ensures;
     }

@@ -5,10 +5,10 @@ use Rattle.follow.proofs.find_object.Goals as goal
 
 pub follow-requires : goal.follow-requires
 follow-requires c = record {
-  opened = opened c.args.image.now c.args.superblock _ (length c.args.list.now) c.places-room.ensures c.requires.bounded;
-  lent = room-lent c.args.list.now _ c.places-room.ensures;
+  opened = opened c.args.image.now c.args.superblock _ (length c.args.list.now) c.places.ensures c.requires.bounded;
+  lent = room-lent c.args.list.now _ c.places.ensures;
   in_bounds = c.requires.in_bounds;
 }
 
 pub returns : goal.returns
-returns c = rw (← c.places-room.ensures) c.follow.ensures
+returns c = rw (← c.places.ensures) c.follow.ensures

@@ -6,22 +6,22 @@ use native.Mathlib.Omega.{arith}
 use Rattle.free_list.proofs.add_block.Goals as goal
 
 pub returns-then-segment-lt16 : goal.returns-then-segment-lt16
-returns-then-segment-lt16 c = let a = c.args in not-added (fields-outside a.segment.now a.at (omega arith) _)
+returns-then-segment-lt16 c = let a = c.args in not-added (fields-outside a.met.segment.now a.at (omega arith) _)
 
 pub returns-then-last-at : goal.returns-then-last-at
-returns-then-last-at c = let a = c.args in not-added (fields-outside a.segment.now a.at (omega arith) _)
+returns-then-last-at c = let a = c.args in not-added (fields-outside a.met.segment.now a.at (omega arith) _)
 
 pub returns-then-size-lt16 : goal.returns-then-size-lt16
 returns-then-size-lt16 c =
     let u = c.u64_at-size in
     let a = c.args in
-    not-added (too_small a.segment.now a.at u.result (omega arith) u.ensures.value (omega arith) _)
+    not-added (too_small a.met.segment.now a.at u.result (omega arith) u.ensures.value (omega arith) _)
 
 pub returns-then-segment-at : goal.returns-then-segment-at
 returns-then-segment-at c =
     let u = c.u64_at-size in
     let a = c.args in
-    not-added (block-outside a.segment.now a.at u.result (omega arith) u.ensures.value (omega arith) (omega arith) _)
+    not-added (block-outside a.met.segment.now a.at u.result (omega arith) u.ensures.value (omega arith) (omega arith) _)
 
 pub meets_block-requires : goal.meets_block-requires
 meets_block-requires c =
@@ -37,7 +37,7 @@ returns-then-meets_block c =
     let u = c.u64_at-size in
     let a = c.args in
     not-added (sym (ap not c.if-meets_block.true)
-    ∙ overlap-decides a.segment.now a.at u.result (omega arith) u.ensures.value (omega arith) (omega arith) _ c.meets_block.ensures)
+    ∙ overlap-decides a.met.segment.now a.at u.result (omega arith) u.ensures.value (omega arith) (omega arith) _ c.meets_block.ensures)
 
 pub returns-then-map-eq0 : goal.returns-then-map-eq0
 returns-then-map-eq0 c =
@@ -45,7 +45,7 @@ returns-then-map-eq0 c =
     let a = c.args in
     was-added u.result u.ensures.value refl
     (sym (ap not c.if-meets_block.false)
-    ∙ overlap-decides a.segment.now a.at u.result (omega arith) u.ensures.value (omega arith) (omega arith) _ c.meets_block.ensures)
+    ∙ overlap-decides a.met.segment.now a.at u.result (omega arith) u.ensures.value (omega arith) (omega arith) _ c.meets_block.ensures)
     (λ h. absurd (omega arith))
 
 pub add-requires : goal.add-requires
@@ -61,7 +61,7 @@ pub returns : goal.returns
 returns c =
     let u = c.u64_at-size in
     let a = c.args in
-    let seg = a.segment.now in
+    let seg = a.met.segment.now in
     was-added u.result u.ensures.value c.add.ensures.map_len_unchanged
     (sym (ap not c.if-meets_block.false)
     ∙ overlap-decides seg a.at u.result (omega arith) u.ensures.value (omega arith) (omega arith) _ c.meets_block.ensures)

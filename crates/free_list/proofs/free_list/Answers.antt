@@ -22,9 +22,9 @@ returns-then-head-eq1 c =
       long = refl;
     }
 
-pub loop-met-init : goal.loop-met-init
+pub loop-count-init : goal.loop-count-init
 unfolding undefined_address chain
-loop-met-init c =
+loop-count-init c =
     let a = c.args in (
       free-start a.segment.now a.map.now a.head (ne_eqb a.head 1 (λ e. omega arith)) (ne_eqb a.head undefined_address (λ e. omega arith))
           c.requires.zeros,
@@ -34,7 +34,7 @@ loop-met-init c =
 
 pub add_block-requires : goal.add_block-requires
 add_block-requires c =
-    let l = c.loop-met in
+    let l = c.loop-count in
     record {
       segment_len_bound = λ h. omega (arith, l.invariant.1, c.requires.long (omega (arith, l.invariant.1)));
       held = l.invariant.0.held;
@@ -43,31 +43,31 @@ add_block-requires c =
 
 pub returns-then-not-add_block : goal.returns-then-not-add_block
 returns-then-not-add_block c =
-    let l = c.loop-met in
+    let l = c.loop-count in
     let t = c.add_block.ensures in
     record { value = block-unsound l.invariant.0 t (omega arith) c.if-not-add_block.true; held = tt; long = t.long ∙ l.invariant.1 }
 
 -- the block lies in the segment
 pub overflow_add-off : goal.overflow_add-off
-overflow_add-off c = omega (arith, (block_inside c.loop-met.invariant.0 c.add_block.ensures (omega arith) c.if-not-add_block.false).0)
+overflow_add-off c = omega (arith, (block_inside c.loop-count.invariant.0 c.add_block.ensures (omega arith) c.if-not-add_block.false).0)
 
 pub u64_at-requires : goal.u64_at-requires
-u64_at-requires c = omega (arith, (block_inside c.loop-met.invariant.0 c.add_block.ensures (omega arith) c.if-not-add_block.false).0)
+u64_at-requires c = omega (arith, (block_inside c.loop-count.invariant.0 c.add_block.ensures (omega arith) c.if-not-add_block.false).0)
 
 pub widened-span-requires : goal.widened-span-requires
 widened-span-requires c =
     omega (
       arith,
-      (block_inside c.loop-met.invariant.0 c.add_block.ensures (omega arith) c.if-not-add_block.false).1,
+      (block_inside c.loop-count.invariant.0 c.add_block.ensures (omega arith) c.if-not-add_block.false).1,
       c.u64_at.ensures.value,
     )
 
 pub u64_at-next-requires : goal.u64_at-next-requires
-u64_at-next-requires c = omega (arith, (block_inside c.loop-met.invariant.0 c.add_block.ensures (omega arith) c.if-not-add_block.false).0)
+u64_at-next-requires c = omega (arith, (block_inside c.loop-count.invariant.0 c.add_block.ensures (omega arith) c.if-not-add_block.false).0)
 
 pub returns-then-next-eq1 : goal.returns-then-next-eq1
 returns-then-next-eq1 c =
-    let l = c.loop-met in
+    let l = c.loop-count in
     let t = c.add_block.ensures in
     let s = c.if-not-add_block.false in record {
       value = block_last l.invariant.0 t (omega arith) s (sym c.u64_at-next.ensures.value ∙ c.if-next-eq1.true);
@@ -75,9 +75,9 @@ returns-then-next-eq1 c =
       long = t.long ∙ l.invariant.1;
     }
 
-pub loop-met-preserved : goal.loop-met-preserved
-loop-met-preserved c =
-    let l = c.loop-met in
+pub loop-count-preserved : goal.loop-count-preserved
+loop-count-preserved c =
+    let l = c.loop-count in
     let t = c.add_block.ensures in (
       block_more l.invariant.0 t (omega arith) c.if-not-add_block.false c.u64_at-next.ensures.value c.if-next-eq1.false,
       t.long ∙ l.invariant.1,
@@ -85,4 +85,4 @@ loop-met-preserved c =
     )
 
 pub returns : goal.returns
-returns c = record { value = free-long c.loop-met.invariant.0 (omega arith); held = tt; long = c.loop-met.invariant.1 }
+returns c = record { value = free-long c.loop-count.invariant.0 (omega arith); held = tt; long = c.loop-count.invariant.1 }

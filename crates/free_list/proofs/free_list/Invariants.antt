@@ -6,8 +6,8 @@ use Rattle.free_list.specs.Spanned.{Spanned}
 use Rattle.free_list.proofs.FreeLaws.{Following}
 use Rattle.free_list.proofs.free_list.Given as goal
 
-abbrev pub invariant-loop-met : goal.invariant-loop-met
-invariant-loop-met l =
-    Following l.segment l.map l.head l.at l.met
+abbrev pub invariant-loop-count : goal.invariant-loop-count
+invariant-loop-count l =
+    Following l.segment l.map l.head l.at l.count
     × (length l.map ≡ length l.initial.map)
-    × Spanned l.span.low l.span.high (chain l.met l.segment l.head)
+    × Spanned l.span.low l.span.high (chain l.count l.segment l.head)

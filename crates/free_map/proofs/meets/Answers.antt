@@ -12,7 +12,8 @@ loop-c-init c =
 pub returns-then-cell_meets : goal.returns-then-cell_meets
 returns-then-cell_meets c =
     let a = c.args in
-    turn-hit a.map.now a.off a.size c.loop-c.c c.loop-c.from c.loop-c.invariant.2 (omega arith) (omega arith) (sym (rw c.cell.ensures at c.cell_meets.ensures) ∙ c.if-cell_meets.true)
+    turn-hit a.map.now a.off a.size c.loop-c.c c.loop-c.from c.loop-c.invariant.2 (omega arith) (omega arith)
+    (sym (rw c.cell.ensures at c.cell_meets.ensures) ∙ c.if-cell_meets.true)
 
 pub loop-c-preserved : goal.loop-c-preserved
 loop-c-preserved c =

@@ -15,58 +15,63 @@ slice_bounds-audit_into-end c = (working c.args.room _ c.args.list.now c.work_wo
 pub slice_bounds-audit_into-end-2 : goal.slice_bounds-audit_into-end-2
 slice_bounds-audit_into-end-2 c = (working c.args.room _ c.args.list.now c.work_words-n.ensures c.requires.room_in_bounds).long
 
-pub audit_into-r-requires : goal.audit_into-r-requires
+pub audit_into-requires : goal.audit_into-requires
 unfolding objects_most
-audit_into-r-requires c = record { addresses_empty = c.requires.empty_table; stored_empty = refl; counts_empty = refl }
+audit_into-requires c = record { addresses_empty = c.requires.empty_table; stored_empty = refl; counts_empty = refl }
 
-pub returns-then-r-ne-DONE : goal.returns-then-r-ne-DONE
-returns-then-r-ne-DONE c =
+pub returns-in-Err : goal.returns-in-Err
+returns-in-Err c =
     let a = c.args in
-    let lends = working c.args.room _ c.args.list.now c.work_words-n.ensures c.requires.room_in_bounds in
+    let lends = working a.room _ a.list.now c.work_words-n.ensures c.requires.room_in_bounds in
     rw c.refuse.ensures.value
-    (refused-reply a.image.now (length a.blocks.now) (length a.reply.now) (4 * a.room) c.requires.room_in_bounds_2 _ _ _ _ _
-    (c.audit_into-r.ensures.by_index (4 * c.args.room) lends.fit) _ _ c.if-r-ne-DONE.true c.refuse.ensures.blocks_after c.refuse.ensures.reply_after)
+    (refused-reply a.image.now (length a.blocks.now) (length a.reply.now) (4 * a.room) c.requires.room_in_bounds_2 c.audit_into.new.list _ _ _
+    c.requires.objects_most_in_bounds c.in-Err.refusal (c.in-Err.ensures.by_index (4 * a.room) lends.fit) _ _ c.refuse.ensures.blocks_after c.refuse.ensures.reply_after)
 
 pub overflow_mul-used : goal.overflow_mul-used
 overflow_mul-used c =
-    let lends = working c.args.room _ c.args.list.now c.work_words-n.ensures c.requires.room_in_bounds in
-    let came = worked c.args.room _ c.args.list.now c.audit_into-r.new.list c.audit_into-r.result.block_count lends c.audit_into-r.auto.list c.audit_into-r.ensures.block_count_bound in
+    let a = c.args in
+    let came = worked a.room _ a.list.now c.audit_into.new.list c.in-Ok.r.block_count c.work_words-n.ensures c.requires.room_in_bounds c.audit_into.auto.list
+    c.in-Ok.ensures.block_count_bound in
     record { fits = omega (arith, came.counted, c.requires.room_in_bounds) }
 
 pub slice_bounds-spill-end : goal.slice_bounds-spill-end
 slice_bounds-spill-end c =
-    let lends = working c.args.room _ c.args.list.now c.work_words-n.ensures c.requires.room_in_bounds in
-    let came = worked c.args.room _ c.args.list.now c.audit_into-r.new.list c.audit_into-r.result.block_count lends c.audit_into-r.auto.list c.audit_into-r.ensures.block_count_bound in
+    let a = c.args in
+    let came = worked a.room _ a.list.now c.audit_into.new.list c.in-Ok.r.block_count c.work_words-n.ensures c.requires.room_in_bounds c.audit_into.auto.list
+    c.in-Ok.ensures.block_count_bound in
     came.fits
 
-pub slice_bounds-spill-end-2 : goal.slice_bounds-spill-end-2
-slice_bounds-spill-end-2 c =
-    let lends = working c.args.room _ c.args.list.now c.work_words-n.ensures c.requires.room_in_bounds in
-    let came = worked c.args.room _ c.args.list.now c.audit_into-r.new.list c.audit_into-r.result.block_count lends c.audit_into-r.auto.list c.audit_into-r.ensures.block_count_bound in
+pub slice_bounds-spill-end-in-Ok : goal.slice_bounds-spill-end-in-Ok
+slice_bounds-spill-end-in-Ok c =
+    let a = c.args in
+    let came = worked a.room _ a.list.now c.audit_into.new.list c.in-Ok.r.block_count c.work_words-n.ensures c.requires.room_in_bounds c.audit_into.auto.list
+    c.in-Ok.ensures.block_count_bound in
     came.long
 
 pub spill-requires : goal.spill-requires
 spill-requires c =
-    let lends = working c.args.room _ c.args.list.now c.work_words-n.ensures c.requires.room_in_bounds in
-    let came = worked c.args.room _ c.args.list.now c.audit_into-r.new.list c.audit_into-r.result.block_count lends c.audit_into-r.auto.list c.audit_into-r.ensures.block_count_bound in
+    let a = c.args in
+    let came = worked a.room _ a.list.now c.audit_into.new.list c.in-Ok.r.block_count c.work_words-n.ensures c.requires.room_in_bounds c.audit_into.auto.list
+    c.in-Ok.ensures.block_count_bound in
     omega (arith, came.long, came.counted, c.requires.room_in_bounds_2)
 
 pub write_reply-requires : goal.write_reply-requires
 unfolding objects_most
 write_reply-requires c =
     let lends = working c.args.room _ c.args.list.now c.work_words-n.ensures c.requires.room_in_bounds in
-    let audited = c.audit_into-r.ensures.by_index (4 * c.args.room) lends.fit in
+    let placed = (c.in-Ok.ensures.by_index (4 * c.args.room) lends.fit).placed in
     record {
-      room = omega (arith, c.requires.objects_most_in_bounds, audited.fits);
-      addresses_long = audited.readable.listed;
-      stored_long = omega (arith, audited.fits, c.audit_into-r.auto.stored);
-      counts_long = omega (arith, audited.fits, c.audit_into-r.auto.true_counts);
+      room = omega (arith, c.requires.objects_most_in_bounds, placed.fits);
+      addresses_long = placed.readable.listed;
+      stored_long = omega (arith, placed.fits, c.audit_into.auto.stored);
+      counts_long = omega (arith, placed.fits, c.audit_into.auto.true_counts);
     }
 
-pub returns : goal.returns
-returns c =
+pub returns-in-Ok : goal.returns-in-Ok
+returns-in-Ok c =
     let a = c.args in
-    let lends = working c.args.room _ c.args.list.now c.work_words-n.ensures c.requires.room_in_bounds in
-    let came = worked c.args.room _ c.args.list.now c.audit_into-r.new.list c.audit_into-r.result.block_count lends c.audit_into-r.auto.list c.audit_into-r.ensures.block_count_bound in
-    done-reply a.image.now (length a.blocks.now) (length a.reply.now) (4 * a.room) c.requires.room_in_bounds_2 _ _ _ _ _
-    (c.audit_into-r.ensures.by_index (4 * c.args.room) lends.fit) _ _ c.if-r-ne-DONE.false (c.spill.ensures ∙ ap (padded_bytes (length a.blocks.now)) came.words) c.write_reply.ensures
+    let came = worked a.room _ a.list.now c.audit_into.new.list c.in-Ok.r.block_count c.work_words-n.ensures c.requires.room_in_bounds c.audit_into.auto.list
+    c.in-Ok.ensures.block_count_bound in
+    let lends = working a.room _ a.list.now c.work_words-n.ensures c.requires.room_in_bounds in
+    done-reply a.image.now (length a.blocks.now) (length a.reply.now) (4 * a.room) c.requires.room_in_bounds_2 _ _ _ _ c.in-Ok.r
+    (c.in-Ok.ensures.by_index (4 * a.room) lends.fit) _ _ (c.spill.ensures ∙ ap (padded_bytes (length a.blocks.now)) came.words) c.write_reply.ensures

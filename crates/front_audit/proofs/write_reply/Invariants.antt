@@ -1,5 +1,4 @@
 -- The reply begins with the counts and the first i objects; each turn writes one more.
-use Prim.Native.Nat.{◌-◌}
 use mathlib.Core.Path.{◌≡◌}
 use lib.ListN.{length}
 use Rattle.words.proofs.Words.{Begins}

@@ -15,46 +15,52 @@ slice_bounds-describe_in-end c = (working c.args.room _ c.args.list.now c.work_w
 pub slice_bounds-describe_in-end-2 : goal.slice_bounds-describe_in-end-2
 slice_bounds-describe_in-end-2 c = (working c.args.room _ c.args.list.now c.work_words-n.ensures c.requires.room_in_bounds).long
 
-pub returns-then-r-ne-DONE : goal.returns-then-r-ne-DONE
-returns-then-r-ne-DONE c =
+pub returns-in-Err : goal.returns-in-Err
+returns-in-Err c =
     let a = c.args in
-    let lends = working c.args.room _ c.args.list.now c.work_words-n.ensures c.requires.room_in_bounds in
+    let lends = working a.room _ a.list.now c.work_words-n.ensures c.requires.room_in_bounds in
     rw c.refuse.ensures.value
-    (refused-reply a.image.now a.path.now (length a.blocks.now) (length a.reply.now) (4 * a.room) c.requires.room_in_bounds_2 _ _
-    (c.describe_in-r.ensures.by_index (4 * c.args.room) lends.fit) _ _ c.if-r-ne-DONE.true c.refuse.ensures.blocks_after c.refuse.ensures.reply_after)
+    (refused-reply a.image.now a.path.now (length a.blocks.now) (length a.reply.now) (4 * a.room) c.requires.room_in_bounds_2 c.describe_in.new.list
+    c.requires.rank_most_in_bounds c.in-Err.refusal (c.in-Err.ensures.by_index (4 * a.room) lends.fit) _ _ c.refuse.ensures.blocks_after c.refuse.ensures.reply_after)
 
 pub overflow_mul-used : goal.overflow_mul-used
 overflow_mul-used c =
-    let lends = working c.args.room _ c.args.list.now c.work_words-n.ensures c.requires.room_in_bounds in
-    let came = worked c.args.room _ c.args.list.now c.describe_in-r.new.list c.describe_in-r.result.block_count lends c.describe_in-r.auto.list c.describe_in-r.ensures.block_count_bound in
+    let a = c.args in
+    let came = worked a.room _ a.list.now c.describe_in.new.list c.in-Ok.r.block_count c.work_words-n.ensures c.requires.room_in_bounds c.describe_in.auto.list
+    c.in-Ok.ensures.block_count_bound in
     record { fits = omega (arith, came.counted, c.requires.room_in_bounds) }
 
 pub slice_bounds-spill-end : goal.slice_bounds-spill-end
 slice_bounds-spill-end c =
-    let lends = working c.args.room _ c.args.list.now c.work_words-n.ensures c.requires.room_in_bounds in
-    let came = worked c.args.room _ c.args.list.now c.describe_in-r.new.list c.describe_in-r.result.block_count lends c.describe_in-r.auto.list c.describe_in-r.ensures.block_count_bound in
+    let a = c.args in
+    let came = worked a.room _ a.list.now c.describe_in.new.list c.in-Ok.r.block_count c.work_words-n.ensures c.requires.room_in_bounds c.describe_in.auto.list
+    c.in-Ok.ensures.block_count_bound in
     came.fits
 
-pub slice_bounds-spill-end-2 : goal.slice_bounds-spill-end-2
-slice_bounds-spill-end-2 c =
-    let lends = working c.args.room _ c.args.list.now c.work_words-n.ensures c.requires.room_in_bounds in
-    let came = worked c.args.room _ c.args.list.now c.describe_in-r.new.list c.describe_in-r.result.block_count lends c.describe_in-r.auto.list c.describe_in-r.ensures.block_count_bound in
+pub slice_bounds-spill-end-in-Ok : goal.slice_bounds-spill-end-in-Ok
+slice_bounds-spill-end-in-Ok c =
+    let a = c.args in
+    let came = worked a.room _ a.list.now c.describe_in.new.list c.in-Ok.r.block_count c.work_words-n.ensures c.requires.room_in_bounds c.describe_in.auto.list
+    c.in-Ok.ensures.block_count_bound in
     came.long
 
 pub spill-requires : goal.spill-requires
 spill-requires c =
-    let lends = working c.args.room _ c.args.list.now c.work_words-n.ensures c.requires.room_in_bounds in
-    let came = worked c.args.room _ c.args.list.now c.describe_in-r.new.list c.describe_in-r.result.block_count lends c.describe_in-r.auto.list c.describe_in-r.ensures.block_count_bound in
+    let a = c.args in
+    let came = worked a.room _ a.list.now c.describe_in.new.list c.in-Ok.r.block_count c.work_words-n.ensures c.requires.room_in_bounds c.describe_in.auto.list
+    c.in-Ok.ensures.block_count_bound in
     omega (arith, came.long, came.counted, c.requires.room_in_bounds_2)
 
 pub write_description-requires : goal.write_description-requires
 unfolding rank_most
 write_description-requires c = omega (arith, c.requires.rank_most_in_bounds)
 
-pub returns : goal.returns
-returns c =
+pub returns-in-Ok : goal.returns-in-Ok
+returns-in-Ok c =
     let a = c.args in
-    let lends = working c.args.room _ c.args.list.now c.work_words-n.ensures c.requires.room_in_bounds in
-    let came = worked c.args.room _ c.args.list.now c.describe_in-r.new.list c.describe_in-r.result.block_count lends c.describe_in-r.auto.list c.describe_in-r.ensures.block_count_bound in
-    done-reply a.image.now a.path.now (length a.blocks.now) (length a.reply.now) (4 * a.room) c.requires.room_in_bounds_2 _ _
-    (c.describe_in-r.ensures.by_index (4 * c.args.room) lends.fit) _ _ c.if-r-ne-DONE.false (c.spill.ensures ∙ ap (padded_bytes (length a.blocks.now)) came.words) c.write_description.ensures
+    let came = worked a.room _ a.list.now c.describe_in.new.list c.in-Ok.r.block_count c.work_words-n.ensures c.requires.room_in_bounds c.describe_in.auto.list
+    c.in-Ok.ensures.block_count_bound in
+    let lends = working a.room _ a.list.now c.work_words-n.ensures c.requires.room_in_bounds in
+    done-reply a.image.now a.path.now (length a.blocks.now) (length a.reply.now) (4 * a.room) c.requires.room_in_bounds_2 _ c.in-Ok.r
+    (c.in-Ok.ensures.by_index (4 * a.room) lends.fit) _ _ (c.spill.ensures ∙ ap (padded_bytes (length a.blocks.now)) came.words)
+    c.write_description.ensures

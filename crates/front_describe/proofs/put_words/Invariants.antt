@@ -1,5 +1,4 @@
 -- The first i words are written; each turn writes one more.
-use Prim.Native.Nat.{◌-◌}
 use mathlib.Core.Path.{◌≡◌}
 use lib.ListN.{length, take}
 use Rattle.format.specs.Bytes.{overwrite}

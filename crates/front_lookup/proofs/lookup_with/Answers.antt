@@ -12,17 +12,17 @@ slice_bounds-lookup_in-end c = (working c.args.room _ c.args.list.now c.work_wor
 pub slice_bounds-lookup_in-end-2 : goal.slice_bounds-lookup_in-end-2
 slice_bounds-lookup_in-end-2 c = (working c.args.room _ c.args.list.now c.work_words-n.ensures c.requires.room_in_bounds).long
 
-pub returns-then-r-ne-DONE : goal.returns-then-r-ne-DONE
-returns-then-r-ne-DONE c =
+pub returns-in-Err : goal.returns-in-Err
+returns-in-Err c =
     let a = c.args in
     let lends = working c.args.room _ c.args.list.now c.work_words-n.ensures c.requires.room_in_bounds in
     rw c.refuse.ensures.value
-    (refused-reply a.image.now a.path.now (length a.blocks.now) (length a.reply.now) (4 * a.room) c.requires.room_in_bounds_2 _ _
-    (c.lookup_in-r.ensures (4 * a.room) lends.fit) _ _ c.if-r-ne-DONE.true c.refuse.ensures.blocks_after c.refuse.ensures.reply_after)
+    (refused-reply a.image.now a.path.now (length a.blocks.now) (length a.reply.now) (4 * a.room) c.requires.room_in_bounds_2 c.requires.in_bounds c.in-Err.refusal
+    (c.in-Err.ensures (4 * a.room) lends.fit) _ _ c.refuse.ensures.blocks_after c.refuse.ensures.reply_after)
 
-pub returns : goal.returns
-returns c =
+pub returns-in-Ok : goal.returns-in-Ok
+returns-in-Ok c =
     let a = c.args in
     let lends = working c.args.room _ c.args.list.now c.work_words-n.ensures c.requires.room_in_bounds in
-    done-reply a.image.now a.path.now (length a.blocks.now) (length a.reply.now) (4 * a.room) c.requires.room_in_bounds_2 _ _
-    (c.lookup_in-r.ensures (4 * a.room) lends.fit) _ _ c.if-r-ne-DONE.false (all-zero a.blocks.now _ c.clear_from.ensures) c.spill.ensures
+    done-reply a.image.now a.path.now (length a.blocks.now) (length a.reply.now) (4 * a.room) c.requires.room_in_bounds_2 c.in-Ok.r
+    (c.in-Ok.ensures (4 * a.room) lends.fit) _ _ (all-zero a.blocks.now _ c.clear_from.ensures) c.spill.ensures

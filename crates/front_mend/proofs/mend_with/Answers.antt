@@ -31,25 +31,24 @@ pub slice_bounds-mend_in-end-3 : goal.slice_bounds-mend_in-end-3
 unfolding objects_most
 slice_bounds-mend_in-end-3 c = sym (length-take-le c.log_room-m.result _ (omega (arith, c.log_room-m.ensures)))
 
-pub returns-then-r-ne-DONE : goal.returns-then-r-ne-DONE
+pub returns-in-Err : goal.returns-in-Err
 unfolding objects_most
-returns-then-r-ne-DONE c =
+returns-in-Err c =
     let a = c.args in
     let lends = working a.room _ a.list.now c.work_words-n.ensures c.requires.room_in_bounds in
-    let is = c.mend_in-r.ensures.by_index (4 * a.room) lends.fit in
+    let is = c.in-Err.ensures.by_index (4 * a.room) lends.fit in
     let mended = taken a.image.now (length a.blocks.now) (length a.log.now) (length a.reply.now) a.limit _ _ _
     c.requires.room_in_bounds_2 (log-words _ _ _ c.log_room-m.ensures log-most) is.reply is.most in
     let t = c.refuse.ensures in
     rw t.value
-    (refused-reply a.image.now (length a.blocks.now) (length a.log.now) (length a.reply.now) a.limit (4 * a.room) _ mended _ _ _
-    c.if-r-ne-DONE.true t.blocks_after t.log_after t.reply_after)
+    (refused-reply a.image.now (length a.blocks.now) (length a.log.now) (length a.reply.now) a.limit (4 * a.room) _ _ _ c.requires.in_bounds c.in-Err.refusal mended _ _ _
+    t.blocks_after t.log_after t.reply_after)
 
 pub overflow_mul-used : goal.overflow_mul-used
 overflow_mul-used c =
     let a = c.args in
-    let lends = working a.room _ a.list.now c.work_words-n.ensures c.requires.room_in_bounds in
-    let came = worked a.room _ a.list.now c.mend_in-r.new.list c.mend_in-r.result.block_count lends c.mend_in-r.auto.list
-    c.mend_in-r.ensures.block_count_bound in
+    let came = worked a.room _ a.list.now c.mend_in.new.list c.in-Ok.r.block_count c.work_words-n.ensures c.requires.room_in_bounds c.mend_in.auto.list
+    c.in-Ok.ensures.block_count_bound in
     record { fits = omega (arith, came.counted, c.requires.room_in_bounds) }
 
 pub overflow_mul-logged : goal.overflow_mul-logged
@@ -57,7 +56,7 @@ unfolding objects_most
 overflow_mul-logged c =
     let a = c.args in
     let lends = working a.room _ a.list.now c.work_words-n.ensures c.requires.room_in_bounds in
-    let is = c.mend_in-r.ensures.by_index (4 * a.room) lends.fit in
+    let is = c.in-Ok.ensures.by_index (4 * a.room) lends.fit in
     let mended = taken a.image.now (length a.blocks.now) (length a.log.now) (length a.reply.now) a.limit _ _ _
     c.requires.room_in_bounds_2 (log-words _ _ _ c.log_room-m.ensures log-most) is.reply is.most in
     record { fits = omega (arith, mended.entries_fit, log-most) }
@@ -65,80 +64,76 @@ overflow_mul-logged c =
 pub slice_bounds-spill-end : goal.slice_bounds-spill-end
 slice_bounds-spill-end c =
     let a = c.args in
-    let lends = working a.room _ a.list.now c.work_words-n.ensures c.requires.room_in_bounds in
-    let came = worked a.room _ a.list.now c.mend_in-r.new.list c.mend_in-r.result.block_count lends c.mend_in-r.auto.list
-    c.mend_in-r.ensures.block_count_bound in
+    let came = worked a.room _ a.list.now c.mend_in.new.list c.in-Ok.r.block_count c.work_words-n.ensures c.requires.room_in_bounds c.mend_in.auto.list
+    c.in-Ok.ensures.block_count_bound in
     came.fits
 
-pub slice_bounds-spill-end-2 : goal.slice_bounds-spill-end-2
-slice_bounds-spill-end-2 c =
+pub slice_bounds-spill-end-in-Ok : goal.slice_bounds-spill-end-in-Ok
+slice_bounds-spill-end-in-Ok c =
     let a = c.args in
-    let lends = working a.room _ a.list.now c.work_words-n.ensures c.requires.room_in_bounds in
-    let came = worked a.room _ a.list.now c.mend_in-r.new.list c.mend_in-r.result.block_count lends c.mend_in-r.auto.list
-    c.mend_in-r.ensures.block_count_bound in
+    let came = worked a.room _ a.list.now c.mend_in.new.list c.in-Ok.r.block_count c.work_words-n.ensures c.requires.room_in_bounds c.mend_in.auto.list
+    c.in-Ok.ensures.block_count_bound in
     came.long
 
 pub spill-requires : goal.spill-requires
 spill-requires c =
     let a = c.args in
-    let lends = working a.room _ a.list.now c.work_words-n.ensures c.requires.room_in_bounds in
-    let came = worked a.room _ a.list.now c.mend_in-r.new.list c.mend_in-r.result.block_count lends c.mend_in-r.auto.list
-    c.mend_in-r.ensures.block_count_bound in
+    let came = worked a.room _ a.list.now c.mend_in.new.list c.in-Ok.r.block_count c.work_words-n.ensures c.requires.room_in_bounds c.mend_in.auto.list
+    c.in-Ok.ensures.block_count_bound in
     omega (arith, came.long, came.counted, c.requires.room_in_bounds_2)
 
-pub slice_bounds-entries-end-2 : goal.slice_bounds-entries-end-2
+pub slice_bounds-entries-end-in-Ok : goal.slice_bounds-entries-end-in-Ok
 unfolding objects_most
-slice_bounds-entries-end-2 c =
+slice_bounds-entries-end-in-Ok c =
     let a = c.args in
     let lends = working a.room _ a.list.now c.work_words-n.ensures c.requires.room_in_bounds in
-    let is = c.mend_in-r.ensures.by_index (4 * a.room) lends.fit in
+    let is = c.in-Ok.ensures.by_index (4 * a.room) lends.fit in
     let mended = taken a.image.now (length a.blocks.now) (length a.log.now) (length a.reply.now) a.limit _ _ _
     c.requires.room_in_bounds_2 (log-words _ _ _ c.log_room-m.ensures log-most) is.reply is.most in
-    let fits = within _ _ _ _ c.mend_in-r.auto.log (log-words _ _ _ c.log_room-m.ensures log-most) mended.entries_fit in
-    let logged = came-back c.mend_in-r.new.log _ c.log_room-m.result _ c.mend_in-r.auto.log fits in
+    let fits = within _ _ _ _ c.mend_in.auto.log (log-words _ _ _ c.log_room-m.ensures log-most) mended.entries_fit in
+    let logged = came-back c.mend_in.new.log _ c.log_room-m.result _ c.mend_in.auto.log fits in
     logged.fits
 
-pub slice_bounds-spill-end-3 : goal.slice_bounds-spill-end-3
+pub slice_bounds-spill-end-in-Ok-2 : goal.slice_bounds-spill-end-in-Ok-2
 unfolding objects_most
-slice_bounds-spill-end-3 c =
+slice_bounds-spill-end-in-Ok-2 c =
     let a = c.args in
     let lends = working a.room _ a.list.now c.work_words-n.ensures c.requires.room_in_bounds in
-    let is = c.mend_in-r.ensures.by_index (4 * a.room) lends.fit in
+    let is = c.in-Ok.ensures.by_index (4 * a.room) lends.fit in
     let mended = taken a.image.now (length a.blocks.now) (length a.log.now) (length a.reply.now) a.limit _ _ _
     c.requires.room_in_bounds_2 (log-words _ _ _ c.log_room-m.ensures log-most) is.reply is.most in
-    let fits = within _ _ _ _ c.mend_in-r.auto.log (log-words _ _ _ c.log_room-m.ensures log-most) mended.entries_fit in
-    let logged = came-back c.mend_in-r.new.log _ c.log_room-m.result _ c.mend_in-r.auto.log fits in
+    let fits = within _ _ _ _ c.mend_in.auto.log (log-words _ _ _ c.log_room-m.ensures log-most) mended.entries_fit in
+    let logged = came-back c.mend_in.new.log _ c.log_room-m.result _ c.mend_in.auto.log fits in
     logged.long
 
-pub spill-requires-2 : goal.spill-requires-2
+pub spill-requires-in-Ok : goal.spill-requires-in-Ok
 unfolding objects_most
-spill-requires-2 c =
+spill-requires-in-Ok c =
     let a = c.args in
     let lends = working a.room _ a.list.now c.work_words-n.ensures c.requires.room_in_bounds in
-    let is = c.mend_in-r.ensures.by_index (4 * a.room) lends.fit in
+    let is = c.in-Ok.ensures.by_index (4 * a.room) lends.fit in
     let mended = taken a.image.now (length a.blocks.now) (length a.log.now) (length a.reply.now) a.limit _ _ _
     c.requires.room_in_bounds_2 (log-words _ _ _ c.log_room-m.ensures log-most) is.reply is.most in
-    let fits = within _ _ _ _ c.mend_in-r.auto.log (log-words _ _ _ c.log_room-m.ensures log-most) mended.entries_fit in
-    let logged = came-back c.mend_in-r.new.log _ c.log_room-m.result _ c.mend_in-r.auto.log fits in
+    let fits = within _ _ _ _ c.mend_in.auto.log (log-words _ _ _ c.log_room-m.ensures log-most) mended.entries_fit in
+    let logged = came-back c.mend_in.new.log _ c.log_room-m.result _ c.mend_in.auto.log fits in
     omega (arith, logged.long, mended.entries_fit)
 
-pub spill-requires-3 : goal.spill-requires-3
-spill-requires-3 c = omega (arith, c.requires.in_bounds)
+pub spill-requires-in-Ok-2 : goal.spill-requires-in-Ok-2
+spill-requires-in-Ok-2 c = omega (arith, c.requires.in_bounds)
 
-pub returns : goal.returns
+pub returns-in-Ok : goal.returns-in-Ok
 unfolding objects_most
-returns c =
+returns-in-Ok c =
     let a = c.args in
+    let came = worked a.room _ a.list.now c.mend_in.new.list c.in-Ok.r.block_count c.work_words-n.ensures c.requires.room_in_bounds c.mend_in.auto.list
+    c.in-Ok.ensures.block_count_bound in
     let lends = working a.room _ a.list.now c.work_words-n.ensures c.requires.room_in_bounds in
-    let came = worked a.room _ a.list.now c.mend_in-r.new.list c.mend_in-r.result.block_count lends c.mend_in-r.auto.list
-    c.mend_in-r.ensures.block_count_bound in
-    let is = c.mend_in-r.ensures.by_index (4 * a.room) lends.fit in
+    let is = c.in-Ok.ensures.by_index (4 * a.room) lends.fit in
     let mended = taken a.image.now (length a.blocks.now) (length a.log.now) (length a.reply.now) a.limit _ _ _
     c.requires.room_in_bounds_2 (log-words _ _ _ c.log_room-m.ensures log-most) is.reply is.most in
-    let fits = within _ _ _ _ c.mend_in-r.auto.log (log-words _ _ _ c.log_room-m.ensures log-most) mended.entries_fit in
-    let logged = came-back c.mend_in-r.new.log _ c.log_room-m.result _ c.mend_in-r.auto.log fits in
-    done-reply a.image.now (length a.blocks.now) (length a.log.now) (length a.reply.now) a.limit (4 * a.room) _ mended _ _ _
-    c.if-r-ne-DONE.false
+    let fits = within _ _ _ _ c.mend_in.auto.log (log-words _ _ _ c.log_room-m.ensures log-most) mended.entries_fit in
+    let logged = came-back c.mend_in.new.log _ c.log_room-m.result _ c.mend_in.auto.log fits in
+    done-reply a.image.now (length a.blocks.now) (length a.log.now) (length a.reply.now) a.limit (4 * a.room) _ _ _ c.in-Ok.r mended _ _ _
     (c.spill.ensures ∙ ap (padded_bytes (length a.blocks.now)) came.words)
-    (c.spill-2.ensures ∙ ap (padded_bytes (length a.log.now)) logged.words)
-    c.spill-3.ensures
+    (c.spill-in-Ok.ensures ∙ ap (padded_bytes (length a.log.now)) logged.words)
+    c.spill-in-Ok-2.ensures

@@ -14,42 +14,43 @@ pub scan_block-requires-clause-tables_if : goal.scan_block-requires-clause-table
 scan_block-requires-clause-tables_if c =
     counting-tables _ _ _ _ _ _ _ _ _ (counting-less _ _ _ _ _ _ _ _ _ _ (omega arith) c.requires.lending.counting)
 
-pub returns-in_err-first-clause-gathered_is : goal.returns-in_err-first-clause-gathered_is
-returns-in_err-first-clause-gathered_is c =
+pub returns-in_err-scan_block-clause-gathered_is : goal.returns-in_err-scan_block-clause-gathered_is
+returns-in_err-scan_block-clause-gathered_is c =
     let p = err_from_is_err_and c.from_residual.result c.from_residual.ensures.1 in
-    rw (p.1, p.2) (block-stopped _ _ _ _ _ _ _ _ _ c.requires.lending.lent c.requires.size_in_bounds c.if-image-at-ne1.false _ c.in_err-first.ensures)
+    rw (p.1, p.2)
+    (block-stopped _ _ _ _ _ _ _ _ _ c.requires.lending.lent c.requires.size_in_bounds c.if-image-at-ne1.false _ c.in_err-scan_block.ensures.scanned)
 
 pub follow-requires-clause-ready : goal.follow-requires-clause-ready
 follow-requires-clause-ready c =
-    let f = c.in_ok-first.ensures in
+    let f = c.in_ok-scan_block.ensures.scanned in
     (_, first-waits _ _ _ _ _ _ _ _ c.requires.count_nonzero c.requires.size_in_bounds f.1)
 
 pub follow-requires-clause-has_tally : goal.follow-requires-clause-has_tally
-follow-requires-clause-has_tally c = (_, c.in_ok-first.ensures.2 [] (c.empty.ensures _))
+follow-requires-clause-has_tally c = (_, c.in_ok-scan_block.ensures.scanned.2 [] (c.empty-tally.ensures _))
 
-pub returns-in_err-gathering-clause-gathered_is : goal.returns-in_err-gathering-clause-gathered_is
-returns-in_err-gathering-clause-gathered_is c =
-    let p = err_from_is_err_and c.from_residual-in_err-gathering.result c.from_residual-in_err-gathering.ensures.1 in
-    let f = c.in_ok-first.ensures in
+pub returns-in_err-follow-clause-gathered_is : goal.returns-in_err-follow-clause-gathered_is
+returns-in_err-follow-clause-gathered_is c =
+    let p = err_from_is_err_and c.from_residual-in_err-follow.result c.from_residual-in_err-follow.ensures.1 in
+    let f = c.in_ok-scan_block.ensures.scanned in
     let w = first-waits _ _ _ _ _ _ _ _ c.requires.count_nonzero c.requires.size_in_bounds f.1 in
-    let h = c.in_err-gathering.ensures.by_index blocks_most _ _ (omega (arith, c.requires.count_nonzero)) w (f.2 [] (c.empty.ensures _)) in
+    let h = c.in_err-follow.ensures.by_index blocks_most _ _ (omega (arith, c.requires.count_nonzero)) w (f.2 [] (c.empty-tally.ensures _)) in
     rw (p.1, p.2) (follow-stopped _ _ _ _ _ _ _ _ _ c.requires.lending.lent c.requires.size_in_bounds c.if-image-at-ne1.false _ f.1 _ _ h)
 
 pub returns-then-u16_at-tally-clause-gathered_is : goal.returns-then-u16_at-tally-clause-gathered_is
 returns-then-u16_at-tally-clause-gathered_is c =
-    let f = c.in_ok-first.ensures in
+    let f = c.in_ok-scan_block.ensures.scanned in
     let w = first-waits _ _ _ _ _ _ _ _ c.requires.count_nonzero c.requires.size_in_bounds f.1 in
-    let h = c.in_ok-gathering.ensures.by_index blocks_most _ _ (omega (arith, c.requires.count_nonzero)) w (f.2 [] (c.empty.ensures _)) in
-    total-wrong _ _ _ _ _ _ _ _ _ c.requires.lending.lent c.requires.size_in_bounds c.if-image-at-ne1.false _ f.1 _ _ _ c.follow.auto.list h.1 _ h.2 _
+    let h = c.in_ok-follow.ensures.by_index blocks_most _ _ (omega (arith, c.requires.count_nonzero)) w (f.2 [] (c.empty-tally.ensures _)) in
+    total-wrong _ _ _ _ _ _ _ _ _ c.requires.lending.lent c.requires.size_in_bounds c.if-image-at-ne1.false _ f.1 _ _ _ c.follow.ensures.kept.long h.1 _ h.2 _
     c.u16_at.ensures c.if-u16_at-tally.true
 
 pub returns-clause-gathered_is : goal.returns-clause-gathered_is
 returns-clause-gathered_is c =
-    let f = c.in_ok-first.ensures in
+    let f = c.in_ok-scan_block.ensures.scanned in
     let w = first-waits _ _ _ _ _ _ _ _ c.requires.count_nonzero c.requires.size_in_bounds f.1 in
-    let h = c.in_ok-gathering.ensures.by_index blocks_most _ _ (omega (arith, c.requires.count_nonzero)) w (f.2 [] (c.empty.ensures _)) in (
+    let h = c.in_ok-follow.ensures.by_index blocks_most _ _ (omega (arith, c.requires.count_nonzero)) w (f.2 [] (c.empty-tally.ensures _)) in (
       h.0,
-      total_right _ _ _ _ _ _ _ _ _ c.requires.lending.lent c.requires.size_in_bounds c.if-image-at-ne1.false _ f.1 _ _ _ c.follow.auto.list h.1 _ h.2 _
-          c.u16_at.ensures c.if-u16_at-tally.false,
+      total_right _ _ _ _ _ _ _ _ _ c.requires.lending.lent c.requires.size_in_bounds c.if-image-at-ne1.false _ f.1 _ _ _ c.follow.ensures.kept.long h.1 _
+          h.2 _ c.u16_at.ensures c.if-u16_at-tally.false,
       h.2,
     )

@@ -1,13 +1,14 @@
 -- The working list has the caller's room, and its blocks are handed over.
 use Prim.Native.Nat.{ℕ, ◌≤◌}
 use mathlib.Core.List.{List}
-use mathlib.Core.Path.{◌≡◌, sym, ◌∙◌}
+use mathlib.Core.Path.{◌≡◌, sym}
 use lib.ListN.{length, take}
 use Rattle.format.specs.Limits.{blocks_most}
 use Rattle.format.specs.Blocks.{room_of}
 use Rattle.walk.specs.Lent.{places_of, work_words}
-use Rattle.walk.proofs.BlockList.{room_most}
-use Rattle.walk.proofs.Handed.{work, working, HandedOver, handed-over}
+use Rattle.std.proofs.lemmas.Result.{err_from_is_err_and}
+use Rattle.walk.proofs.BlockList.{room_most, all-cleared}
+use Rattle.walk.proofs.Handed.{work, working, handed-none, HandedOver, handed-over}
 use native.Mathlib.Omega.{arith}
 use Rattle.mend.proofs.mend.Goals as goal
 
@@ -31,17 +32,26 @@ slice_bounds-mend_in-end c = sym (working (length c.args.list.now) _ _ c.room.en
 pub slice_bounds-hand_over-end : goal.slice_bounds-hand_over-end
 unfolding blocks_most
 slice_bounds-hand_over-end c =
-    sym (over (length c.args.list.now) _ _ _ _ c.room.ensures c.work_words-n.ensures c.mend_in-r.auto.list c.mend_in-r.ensures.block_count_bound).whole
+    sym (over (length c.args.list.now) _ _ _ _ c.room.ensures c.work_words-n.ensures c.mend_in.auto.list c.in_ok-mended.ensures.block_count_bound).whole
 
 pub hand_over-requires : goal.hand_over-requires
 unfolding blocks_most
 hand_over-requires c =
-    let o = over (length c.args.list.now) _ _ _ _ c.room.ensures c.work_words-n.ensures c.mend_in-r.auto.list c.mend_in-r.ensures.block_count_bound in
-    record { count_in_bounds = o.fits; count_in_bounds_2 = o.there }
+    let o = over (length c.args.list.now) _ _ _ _ c.room.ensures c.work_words-n.ensures c.mend_in.auto.list c.in_ok-mended.ensures.block_count_bound in
+    record { count_in_bounds = omega (arith, o.fits, c.clear_from.auto.words); count_in_bounds_2 = o.there }
+
+pub returns-in_err-mended : goal.returns-in_err-mended
+unfolding blocks_most
+returns-in_err-mended c =
+    let n = length c.args.list.now in
+    let p = err_from_is_err_and c.from_residual.result c.from_residual.ensures.1 in
+    let none = c.in_err-mended.ensures.by_index n (working n _ _ c.room.ensures c.work_words-n.ensures).fit in
+    rw (p.1, p.2, all-cleared c.args.list.now _ c.clear_from.ensures) (rw handed-none at none)
 
 pub returns : goal.returns
 unfolding blocks_most
 returns c =
-    let o = over (length c.args.list.now) _ _ _ _ c.room.ensures c.work_words-n.ensures c.mend_in-r.auto.list c.mend_in-r.ensures.block_count_bound in
-    rw (c.hand_over.ensures ∙ o.same)
-    (c.mend_in-r.ensures.by_index (length c.args.list.now) (working (length c.args.list.now) _ _ c.room.ensures c.work_words-n.ensures).fit)
+    let n = length c.args.list.now in
+    let o = over n _ _ _ _ c.room.ensures c.work_words-n.ensures c.mend_in.auto.list c.in_ok-mended.ensures.block_count_bound in
+    rw (c.hand_over.ensures, c.clear_from.auto.words, o.same)
+    (c.in_ok-mended.ensures.by_index n (working n _ _ c.room.ensures c.work_words-n.ensures).fit)

@@ -21,4 +21,4 @@ overlaps_free-requires-clause-size_in_bounds c = omega (arith, nul-found c.requi
 pub returns : goal.returns
 returns c =
     let e = nul-found c.requires.segment_in_bounds c.nul_within-end.ensures in
-    ap not c.overlaps_free.ensures ∙ free-decides c.args.segment.now _ c.args.off _ c.requires.segment_in_bounds (omega arith)
+    ap not c.overlaps_free.ensures ∙ free-decides c.args.strings.segment.now _ c.args.off _ c.requires.segment_in_bounds (omega arith)

@@ -7,7 +7,7 @@ use Rattle.names.proofs.ValueLaws.{value-alone, none-followed, value-sound, valu
 use native.Mathlib.Omega.{arith}
 use Rattle.std.proofs.lemmas.Result.{err_from_is_err_and}
 use Rattle.names.proofs.value.Goals as goal
-use Rattle.names.proofs.value.Goals.{else-free-ne0-via-then-free-ne0+else-not-outside_free, else-free-ne0-via-else-free-ne0}
+use Rattle.names.proofs.value.Goals.{else-strings-ne0-via-then-strings-ne0+else-not-outside_free, else-strings-ne0-via-else-strings-ne0}
 
 pub returns-in_err-key : goal.returns-in_err-key
 returns-in_err-key c =
@@ -26,9 +26,9 @@ pub returns : goal.returns
 returns c =
     let l = c.requires.last_nul in
     let k = key-checked _ l c.in_ok-key.ensures in (
-      string_at c.args.segment.now c.args.off,
-      elim c.else-free-ne0.branch [
-        | else-free-ne0-via-then-free-ne0+else-not-outside_free w ↦ value-sound _ _ _ _ l k (sym w.outside_free.ensures ∙ w.if-not-outside_free.false)
-        | else-free-ne0-via-else-free-ne0 w ↦ value-alone _ _ _ _ l k (none-followed _ _ (omega arith))
+      string_at c.args.strings.segment.now c.args.off,
+      elim c.else-strings-ne0.branch [
+        | else-strings-ne0-via-then-strings-ne0+else-not-outside_free w ↦ value-sound _ _ _ _ l k (sym w.outside_free.ensures ∙ w.if-not-outside_free.false)
+        | else-strings-ne0-via-else-strings-ne0 w ↦ value-alone _ _ _ _ l k (none-followed _ _ (omega arith))
       ],
     )

@@ -13,102 +13,103 @@ signed : (n : ℕ) → n ≡ 0x45455254 → n ≡ TREE
 unfolding TREE little_endian
 signed n e = e
 
-pub returns-in_err-with_node : goal.returns-in_err-with_node
-returns-in_err-with_node c =
+pub returns-in_err-enter-clause-read : goal.returns-in_err-enter-clause-read
+returns-in_err-enter-clause-read c =
     let p = err_from_is_err_and c.from_residual.result c.from_residual.ensures.1 in
     rw (p.1, p.2) (record {
-      walked = node-refused c.args.image.now _ _ _ _ _ _ c.requires.lent _ c.enter.ensures.entered _ c.in_err-with_node.ensures.value;
+      walked = node-refused c.args.group.now.image.now _ _ _ _ _ _ c.requires.lent _ c.enter.ensures.entered _ c.in_err-enter.ensures.value;
       fields = tt;
     })
 
 pub u32_at-requires : goal.u32_at-requires
 u32_at-requires c = omega (
   arith,
-  node-there c.args.image.now _ _ _ _ _ _ c.requires.lent _ c.enter.ensures.entered _ c.in_ok-with_node.ensures.value c.requires.end_of_file_in_bounds,
+  node-there c.args.group.now.image.now _ _ _ _ _ _ c.requires.lent _ c.enter.ensures.entered _ c.in_ok-enter.ensures.value c.requires.end_of_file_in_bounds,
 )
 
 pub overflow_add-start : goal.overflow_add-start
 overflow_add-start c = omega (
   arith,
-  node-there c.args.image.now _ _ _ _ _ _ c.requires.lent _ c.enter.ensures.entered _ c.in_ok-with_node.ensures.value c.requires.end_of_file_in_bounds,
+  node-there c.args.group.now.image.now _ _ _ _ _ _ c.requires.lent _ c.enter.ensures.entered _ c.in_ok-enter.ensures.value c.requires.end_of_file_in_bounds,
 )
 
 pub bounds-image-start : goal.bounds-image-start
 bounds-image-start c = omega (
   arith,
-  node-there c.args.image.now _ _ _ _ _ _ c.requires.lent _ c.enter.ensures.entered _ c.in_ok-with_node.ensures.value c.requires.end_of_file_in_bounds,
+  node-there c.args.group.now.image.now _ _ _ _ _ _ c.requires.lent _ c.enter.ensures.entered _ c.in_ok-enter.ensures.value c.requires.end_of_file_in_bounds,
 )
 
 pub overflow_add-level : goal.overflow_add-level
 overflow_add-level c = omega (
   arith,
-  node-there c.args.image.now _ _ _ _ _ _ c.requires.lent _ c.enter.ensures.entered _ c.in_ok-with_node.ensures.value c.requires.end_of_file_in_bounds,
+  node-there c.args.group.now.image.now _ _ _ _ _ _ c.requires.lent _ c.enter.ensures.entered _ c.in_ok-enter.ensures.value c.requires.end_of_file_in_bounds,
 )
 
 pub bounds-image-start-2 : goal.bounds-image-start-2
 bounds-image-start-2 c = omega (
   arith,
-  node-there c.args.image.now _ _ _ _ _ _ c.requires.lent _ c.enter.ensures.entered _ c.in_ok-with_node.ensures.value c.requires.end_of_file_in_bounds,
+  node-there c.args.group.now.image.now _ _ _ _ _ _ c.requires.lent _ c.enter.ensures.entered _ c.in_ok-enter.ensures.value c.requires.end_of_file_in_bounds,
 )
 
 pub overflow_add-start-2 : goal.overflow_add-start-2
 overflow_add-start-2 c = omega (
   arith,
-  node-there c.args.image.now _ _ _ _ _ _ c.requires.lent _ c.enter.ensures.entered _ c.in_ok-with_node.ensures.value c.requires.end_of_file_in_bounds,
+  node-there c.args.group.now.image.now _ _ _ _ _ _ c.requires.lent _ c.enter.ensures.entered _ c.in_ok-enter.ensures.value c.requires.end_of_file_in_bounds,
 )
 
 pub u16_at-entries-requires : goal.u16_at-entries-requires
 u16_at-entries-requires c = omega (
   arith,
-  node-there c.args.image.now _ _ _ _ _ _ c.requires.lent _ c.enter.ensures.entered _ c.in_ok-with_node.ensures.value c.requires.end_of_file_in_bounds,
+  node-there c.args.group.now.image.now _ _ _ _ _ _ c.requires.lent _ c.enter.ensures.entered _ c.in_ok-enter.ensures.value c.requires.end_of_file_in_bounds,
 )
 
-pub returns-then-u32_at-ne-TREE : goal.returns-then-u32_at-ne-TREE
+pub returns-then-u32_at-ne-TREE-clause-read : goal.returns-then-u32_at-ne-TREE-clause-read
 unfolding TREE little_endian
-returns-then-u32_at-ne-TREE c =
+returns-then-u32_at-ne-TREE-clause-read c =
     record {
-      walked = signature-wrong c.args.image.now _ _ _ _ _ _ c.requires.lent _ c.enter.ensures.entered _ c.in_ok-with_node.ensures.value _
+      walked = signature-wrong c.args.group.now.image.now _ _ _ _ _ _ c.requires.lent _ c.enter.ensures.entered _ c.in_ok-enter.ensures.value _
           c.u32_at.ensures c.if-u32_at-ne-TREE.true;
       fields = tt;
     }
 
-pub returns-then-image-start-ne-GROUP : goal.returns-then-image-start-ne-GROUP
-returns-then-image-start-ne-GROUP c =
+pub returns-then-image-start-ne-GROUP-clause-read : goal.returns-then-image-start-ne-GROUP-clause-read
+returns-then-image-start-ne-GROUP-clause-read c =
     record {
-      walked = type-wrong c.args.image.now _ _ _ _ _ _ c.requires.lent _ c.enter.ensures.entered _ c.in_ok-with_node.ensures.value _
+      walked = type-wrong c.args.group.now.image.now _ _ _ _ _ _ c.requires.lent _ c.enter.ensures.entered _ c.in_ok-enter.ensures.value _
           c.u32_at.ensures (signed _ c.if-u32_at-ne-TREE.false) c.if-image-start-ne-GROUP.true;
       fields = tt;
     }
 
-pub returns-then-limits-level : goal.returns-then-limits-level
-returns-then-limits-level c =
+pub returns-then-limits-level-clause-read : goal.returns-then-limits-level-clause-read
+returns-then-limits-level-clause-read c =
     record {
-      walked = level-wrong c.args.image.now _ _ _ _ _ _ c.requires.lent _ c.enter.ensures.entered _ c.in_ok-with_node.ensures.value _
+      walked = level-wrong c.args.group.now.image.now _ _ _ _ _ _ c.requires.lent _ c.enter.ensures.entered _ c.in_ok-enter.ensures.value _
           c.u32_at.ensures (signed _ c.if-u32_at-ne-TREE.false) c.if-image-start-ne-GROUP.false
           (omega (arith, c.if-limits-level.true, c.the_limits-limits.ensures.level_most_equal));
       fields = tt;
     }
 
-pub returns-then-k-entries : goal.returns-then-k-entries
-returns-then-k-entries c =
+pub returns-then-k-entries-clause-read : goal.returns-then-k-entries-clause-read
+returns-then-k-entries-clause-read c =
     record {
-      walked = entries-wrong c.args.image.now _ _ _ _ _ _ c.requires.lent _ c.enter.ensures.entered _ c.in_ok-with_node.ensures.value _
+      walked = entries-wrong c.args.group.now.image.now _ _ _ _ _ _ c.requires.lent _ c.enter.ensures.entered _ c.in_ok-enter.ensures.value _
           c.u32_at.ensures (signed _ c.if-u32_at-ne-TREE.false) c.if-image-start-ne-GROUP.false
           (omega (arith, c.if-limits-level.false, c.the_limits-limits.ensures.level_most_equal)) _ c.u16_at-entries.ensures c.if-k-entries.true;
       fields = tt;
     }
 
-pub returns : goal.returns
-returns c =
+pub returns-clause-read : goal.returns-clause-read
+returns-clause-read c =
     record {
-      walked = node-read c.args.image.now _ _ _ _ _ _ c.requires.lent _ c.enter.ensures.entered _ c.in_ok-with_node.ensures.value _
+      walked = node-read c.args.group.now.image.now _ _ _ _ _ _ c.requires.lent _ c.enter.ensures.entered _ c.in_ok-enter.ensures.value _
           c.u32_at.ensures (signed _ c.if-u32_at-ne-TREE.false) c.if-image-start-ne-GROUP.false
           (omega (arith, c.if-limits-level.false, c.the_limits-limits.ensures.level_most_equal)) _ c.u16_at-entries.ensures c.if-k-entries.false;
       fields = (
-        node-there c.args.image.now _ _ _ _ _ _ c.requires.lent _ c.enter.ensures.entered _ c.in_ok-with_node.ensures.value c.requires.end_of_file_in_bounds,
+        node-there c.args.group.now.image.now _ _ _ _ _ _ c.requires.lent _ c.enter.ensures.entered _ c.in_ok-enter.ensures.value
+            c.requires.end_of_file_in_bounds,
         refl,
         c.u16_at-entries.ensures.value,
         c.if-k-entries.false,
-        node-counted c.args.image.now _ _ _ _ _ _ c.requires.lent _ c.enter.ensures.entered _ c.in_ok-with_node.ensures.value,
+        node-counted c.args.group.now.image.now _ _ _ _ _ _ c.requires.lent _ c.enter.ensures.entered _ c.in_ok-enter.ensures.value,
       );
     }

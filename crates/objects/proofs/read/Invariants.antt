@@ -5,8 +5,7 @@ use Rattle.objects.proofs.ObjectsLaws.{Loop}
 use Rattle.objects.proofs.read.Given as goal
 
 abbrev pub invariant-loop-i : goal.invariant-loop-i
-invariant-loop-i l = Loop l.image l.initial.list
-    l.initial.addresses l.initial.counts l.initial.marks l.superblock l.room l.count l.objects l.list l.addresses l.counts l.marks l.entered l.found l.i
+invariant-loop-i l = Loop l.file l.fn.blocks l.fn.found l.blocks l.found l.i
 
 abbrev pub decreases-loop-i : goal.decreases-loop-i
 decreases-loop-i l = objects_most - l.i

@@ -38,12 +38,12 @@ loop-i-preserved c =
 pub returns-then-last_a-last_b : goal.returns-then-last_a-last_b
 returns-then-last_a-last_b c =
     window-differ
-    (window-at 8 (same-fewer _ (omega arith) c.loop-i.invariant) c.eight_at-last_a.ensures c.eight_at-last_b.ensures (λ k. (c.type_inv.a k).fits) (λ k. (c.type_inv.b k).fits)
-    (omega arith) (omega arith))
+    (window-at 8 (same-fewer _ (omega arith) c.loop-i.invariant) c.eight_at-last_a.ensures c.eight_at-last_b.ensures
+    (λ k. (c.type_inv.a k).fits) (λ k. (c.type_inv.b k).fits) (omega arith) (omega arith))
     c.if-last_a-last_b.true
 
 pub shorter-requires : goal.shorter-requires
 shorter-requires c = same-fewer _ (omega arith) (window_same
-    (window-at 8 (same-fewer _ (omega arith) c.loop-i.invariant) c.eight_at-last_a.ensures c.eight_at-last_b.ensures (λ k. (c.type_inv.a k).fits) (λ k. (c.type_inv.b k).fits)
-    (omega arith) (omega arith))
+    (window-at 8 (same-fewer _ (omega arith) c.loop-i.invariant) c.eight_at-last_a.ensures c.eight_at-last_b.ensures
+    (λ k. (c.type_inv.a k).fits) (λ k. (c.type_inv.b k).fits) (omega arith) (omega arith))
     c.if-last_a-last_b.false)

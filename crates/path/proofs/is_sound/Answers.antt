@@ -23,4 +23,5 @@ pub returns-then-path-eq1 : goal.returns-then-path-eq1
 returns-then-path-eq1 c = path-root _ (omega arith) (short _ _ c.the_limits-limits.ensures.path_most_equal (omega arith)) (omega arith) (omega arith)
 
 pub returns : goal.returns
-returns c = path-rest _ (omega arith) (short _ _ c.the_limits-limits.ensures.path_most_equal (omega arith)) (omega arith) _ (λ e. omega arith) c.all_components.ensures
+returns c =
+    path-rest _ (omega arith) (short _ _ c.the_limits-limits.ensures.path_most_equal (omega arith)) (omega arith) _ (λ e. omega arith) c.all_components.ensures

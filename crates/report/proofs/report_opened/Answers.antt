@@ -27,7 +27,7 @@ refused-requires c =
 
 pub read_stored-requires : goal.read_stored-requires
 read_stored-requires c = record {
-  readable = readable c.args.image.now c.fill_undefined.new.list c.args.superblock c.in-Ok.read.count c.in-Ok.read.objects c.walk_image.new.list
+  readable = readable c.args.image.now c.fill_undefined.new.list c.args.superblock c.in-Ok.read.block_count c.in-Ok.read.objects c.walk_image.new.list
       c.walk_image.new.addresses c.walk_image.new.true_counts c.in-Ok.ensures c.requires.bounded;
   objects_in_bounds = stored-room _ _ _ _ c.requires.lists (c.in-Ok.ensures.ready.table refl).fits;
 }
@@ -44,7 +44,7 @@ returns-in-Err c =
 pub returns-in-Ok : goal.returns-in-Ok
 returns-in-Ok c =
     let p = same-long _ _ _ _ _ _ _ _ _ c.fill_undefined.auto.list
-    (done-is c.args.image.now c.fill_undefined.new.list c.args.superblock c.requires.bounded c.in-Ok.read.count c.in-Ok.read.objects
+    (done-is c.args.image.now c.fill_undefined.new.list c.args.superblock c.requires.bounded c.in-Ok.read.block_count c.in-Ok.read.objects
     c.walk_image.new.list c.walk_image.new.addresses c.walk_image.new.true_counts c.in-Ok.ensures c.args.stored.now c.read_stored.new.stored
     c.requires.lists.stored_empty c.read_stored.ensures c.no_block.result c.no_block.ensures) in
     record { block_count_bound = p.0; by_index = p.1 }

@@ -29,7 +29,7 @@ pub loop-at-preserved : goal.loop-at-preserved
 loop-at-preserved c =
     let at = c.loop-at.at in
     let p = holds-step _ _ _ _ c.loop-at.invariant.0.1 c.loop-at-test.true in
-    subst (λ (size : ℕ). Readable c.args.image.now (at + 8 + size) c.args.end × Seeking c.args.image.now c.args.from c.args.end (at + 8 + size))
+    subst (λ (size : ℕ). Readable c.args.image.now (at + 8 + size) c.args.span.end × Seeking c.args.image.now c.args.span.from c.args.span.end (at + 8 + size))
     (sym c.u16_at-in-loop-at.ensures.value) (
       (p.rest, p.holds),
       seek-skip _ _ _ _ c.loop-at.invariant.1 c.loop-at-test.true
@@ -39,5 +39,5 @@ loop-at-preserved c =
 pub returns : goal.returns
 returns c =
     let o = c.loop-at.invariant.0.1.ordered in
-    let e : c.loop-at.at ≡ c.args.end = omega arith in
+    let e : c.loop-at.at ≡ c.args.span.end = omega arith in
     λ ms h. inl (e, seek-end _ _ _ _ c.loop-at.invariant.1 e ms h)

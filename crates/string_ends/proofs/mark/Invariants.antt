@@ -10,4 +10,5 @@ use Rattle.string_ends.proofs.mark.Given as goal
 
 abbrev pub invariant-loop-c : goal.invariant-loop-c
 invariant-loop-c l =
-    (length l.map ≡ length l.initial.map) × (l.c ≤ length l.map) × (l.v ≡ get_or l.map l.c 0) × ((bs : List Block) → MapOf l.initial.map l.segment bs → MarkedFrom l.map l.segment bs l.c)
+    (length l.map ≡ length l.initial.map) × (l.c ≤ length l.map) × (l.v ≡ get_or l.map l.c 0) ×
+    ((bs : List Block) → MapOf l.initial.map l.segment bs → MarkedFrom l.map l.segment bs l.c)

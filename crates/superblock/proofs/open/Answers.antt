@@ -51,7 +51,8 @@ u64_at-requires c = let h = holds _ _ c.the_limits-limits.ensures c.if-image-lim
 pub returns-then-u64_at-ne-SIGNATURE : goal.returns-then-u64_at-ne-SIGNATURE
 unfolding signature little_endian
 returns-then-u64_at-ne-SIGNATURE c = record {
-  result_value = opening-2 _ (in-range _ _ c.the_limits-limits.ensures c.if-image-limits.false c.if-limits-image.false) (field-unequal (sym c.u64_at.ensures.value) c.if-u64_at-ne-SIGNATURE.true);
+  result_value = opening-2 _ (in-range _ _ c.the_limits-limits.ensures c.if-image-limits.false c.if-limits-image.false)
+      (field-unequal (sym c.u64_at.ensures.value) c.if-u64_at-ne-SIGNATURE.true);
   fields_bounded = tt;
 }
 
@@ -60,38 +61,39 @@ version_shift-shift-requires c = holds _ _ c.the_limits-limits.ensures c.if-imag
 
 pub returns-then-not-superblock_read : goal.returns-then-not-superblock_read
 returns-then-not-superblock_read c =
-    let third = c in
     record {
-      result_value = opening-3 _ (in-range _ _ third.the_limits-limits.ensures third.if-image-limits.false third.if-limits-image.false) (signed _ _ third.u64_at.ensures.value third.if-u64_at-ne-SIGNATURE.false) (sym c.superblock_read.ensures ∙ c.if-not-superblock_read.true);
+      result_value = opening-3 _ (in-range _ _ c.the_limits-limits.ensures c.if-image-limits.false c.if-limits-image.false)
+          (signed _ _ c.u64_at.ensures.value c.if-u64_at-ne-SIGNATURE.false)
+          (sym c.superblock_read.ensures ∙ c.if-not-superblock_read.true);
       fields_bounded = tt;
     }
 
 pub returns-then-not-superblock_sound : goal.returns-then-not-superblock_sound
 returns-then-not-superblock_sound c =
-    let fourth = c in
-    let third = fourth in record {
-      result_value = opening-4 _ (in-range _ _ third.the_limits-limits.ensures third.if-image-limits.false third.if-limits-image.false) (signed _ _ third.u64_at.ensures.value third.if-u64_at-ne-SIGNATURE.false) (sym fourth.superblock_read.ensures ∙ fourth.if-not-superblock_read.false)
+    record {
+      result_value = opening-4 _ (in-range _ _ c.the_limits-limits.ensures c.if-image-limits.false c.if-limits-image.false)
+          (signed _ _ c.u64_at.ensures.value c.if-u64_at-ne-SIGNATURE.false)
+          (sym c.superblock_read.ensures ∙ c.if-not-superblock_read.false)
           (sym c.superblock_sound.ensures ∙ c.if-not-superblock_sound.true);
       fields_bounded = tt;
     }
 
 pub returns : goal.returns
 returns c =
-    let fifth = c in
-    let fourth = fifth in
-    let third = fourth in
-    let image = third.args.image.now in
-    let sound : superblock_sound image ≡ true = sym fifth.superblock_sound.ensures ∙ fifth.if-not-superblock_sound.false in
+    let image = c.args.image.now in
+    let sound : superblock_sound image ≡ true = sym c.superblock_sound.ensures ∙ c.if-not-superblock_sound.false in
     let f = c.superblock_fields.ensures in
     let inside = end-inside image _ f.result_value sound in record {
-      result_value = ap opened f.result_value ∙ opening-done _ (in-range _ _ third.the_limits-limits.ensures third.if-image-limits.false third.if-limits-image.false) (signed _ _ third.u64_at.ensures.value third.if-u64_at-ne-SIGNATURE.false)
-          (sym fourth.superblock_read.ensures ∙ fourth.if-not-superblock_read.false) sound;
+      result_value = ap opened f.result_value ∙ opening-done _
+          (in-range _ _ c.the_limits-limits.ensures c.if-image-limits.false c.if-limits-image.false)
+          (signed _ _ c.u64_at.ensures.value c.if-u64_at-ne-SIGNATURE.false)
+          (sym c.superblock_read.ensures ∙ c.if-not-superblock_read.false) sound;
       fields_bounded = (
         f.leaf_k_bound.0,
         f.leaf_k_bound.1,
         inside,
-        end-small image _ inside (in-range _ _ third.the_limits-limits.ensures third.if-image-limits.false third.if-limits-image.false),
+        end-small image _ inside (in-range _ _ c.the_limits-limits.ensures c.if-image-limits.false c.if-limits-image.false),
         size-least image _ f.result_value,
-        end-most image _ inside (in-range _ _ third.the_limits-limits.ensures third.if-image-limits.false third.if-limits-image.false),
+        end-most image _ inside (in-range _ _ c.the_limits-limits.ensures c.if-image-limits.false c.if-limits-image.false),
       );
     }

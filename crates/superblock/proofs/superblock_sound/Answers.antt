@@ -23,7 +23,9 @@ returns-then-image-shift c =
 
 pub returns-then-u16_at-lt1 : goal.returns-then-u16_at-lt1
 unfolding superblock_sound
-returns-then-u16_at-lt1 c = all-passes _ (size-passed _ _ c.requires c.if-image-shift.false) (all-fails _ (field_below (sym c.u16_at.ensures.value) c.if-u16_at-lt1.true))
+returns-then-u16_at-lt1 c =
+    all-passes _ (size-passed _ _ c.requires c.if-image-shift.false)
+    (all-fails _ (field_below (sym c.u16_at.ensures.value) c.if-u16_at-lt1.true))
 
 pub returns-then-u16_at-lt1-2 : goal.returns-then-u16_at-lt1-2
 unfolding superblock_sound

@@ -13,7 +13,7 @@ use Rattle.undo_log.proofs.write_log.Goals.{After-loop-i}
 pub loop-i-init : goal.loop-i-init
 unfolding log_words
 loop-i-init c =
-    let a = c.args.ledger in
+    let a = c.args.ledger.now in
     let z = wrong-none a.addresses a.stored a.true_counts in
     (refl, rw z, rw z, rw z tt)
 
@@ -44,7 +44,7 @@ bounds-ledger-i-in-loop-i-2 c = search rules
 pub put_entry-n-requires : goal.put_entry-n-requires
 put_entry-n-requires c =
     let l = c.loop-i in
-    let a = c.args.ledger in
+    let a = c.args.ledger.now in
     let p = c.requires in
     let h : l.i < a.objects = c.loop-i-test.true in
     record {
@@ -55,7 +55,7 @@ put_entry-n-requires c =
 pub loop-i-preserved : goal.loop-i-preserved
 loop-i-preserved c =
     let l = c.loop-i in
-    let a = c.args.ledger in
+    let a = c.args.ledger.now in
     let p = c.put_entry-n in
     let e = p.ensures in
     let w = words_more a.addresses a.stored a.true_counts l.i l.n p.result l.log p.new.log l.invariant.1 l.invariant.2 e.value e.log_after
@@ -66,7 +66,7 @@ loop-i-preserved c =
 behind : (c : After-loop-i) → c.loop-i.n + c.loop-i.n ≤ length c.args.log.now
 behind c =
     let l = c.loop-i in
-    let a = c.args.ledger in
+    let a = c.args.ledger.now in
     omega (arith, wrong-within a.addresses a.stored a.true_counts l.i a.objects (omega arith))
 
 pub overflow_add-used : goal.overflow_add-used
@@ -78,7 +78,7 @@ clear_from-requires c = omega (arith, behind c.before)
 pub returns : goal.returns
 returns c =
     let l = c.loop-i in
-    let a = c.args.ledger in
+    let a = c.args.ledger.now in
     let e : l.i ≡ a.objects = omega arith in
     let n = rw e at l.invariant.1 in
     let words = rw e at l.invariant.2 in

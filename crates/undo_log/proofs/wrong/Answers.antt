@@ -9,7 +9,7 @@ use Rattle.undo_log.proofs.wrong.Goals as goal
 use Rattle.undo_log.proofs.wrong.Goals.{then-ledger-i, else-ledger-i}
 
 pub loop-i-init : goal.loop-i-init
-loop-i-init c = (omega arith, rw (wrong-none c.args.ledger.addresses))
+loop-i-init c = (omega arith, rw (wrong-none c.args.ledger.now.addresses))
 
 pub offset_bounds-ledger-i : goal.offset_bounds-ledger-i
 unfolding objects_most
@@ -30,7 +30,7 @@ bounds-ledger-i-in-loop-i c = search rules
 pub loop-i-preserved : goal.loop-i-preserved
 loop-i-preserved c =
     let l = c.loop-i in
-    let a = c.args.ledger in
+    let a = c.args.ledger.now in
     let m = length_more a.addresses a.stored a.true_counts l.i in
     elim c.if-ledger-i.branch [
       | then-ledger-i w ↦ (omega arith, omega (arith, m, ap length (correction-wrong (get_or a.addresses l.i 0) _ _ w.if-ledger-i.true)))
@@ -40,5 +40,5 @@ loop-i-preserved c =
 pub returns : goal.returns
 returns c =
     let l = c.loop-i in
-    let e : l.i ≡ c.args.ledger.objects = omega arith in
+    let e : l.i ≡ c.args.ledger.now.objects = omega arith in
     record { wrong = l.invariant.1 ∙ rw e; most = omega arith }

@@ -8,7 +8,7 @@ use Rattle.block_orders.proofs.compared.compare.Given as goal
 abbrev pub invariant-loop-at : goal.invariant-loop-at
 invariant-loop-at l =
     record {
-      lent : Lent l.work l.entered l.room;
-      room_is : l.room ≡ places_of (length l.initial.work);
-      few : Few l.room l.most;
+      lent : Lent l.blocks.words.now l.blocks.count l.bounds.room;
+      room_is : l.bounds.room ≡ places_of (length l.fn.work);
+      few : Few l.bounds.room l.most;
     }

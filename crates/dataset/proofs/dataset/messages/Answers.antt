@@ -12,31 +12,31 @@ use Rattle.dataset.proofs.dataset.messages.Goals as goal
 pub filled-requires : goal.filled-requires
 filled-requires c = record { space_inside = c.requires.space_inside; sizes_inside = c.requires.shaped.1 }
 
-pub returns-in_err-stored : goal.returns-in_err-stored
+pub returns-in_err-layout : goal.returns-in_err-layout
 unfolding layout_walk
-returns-in_err-stored c =
+returns-in_err-layout c =
     let p = err_from_is_err_and c.from_residual.result c.from_residual.ensures.1 in
-    let f : (n : ℕ) × (c.read_layout.result ≡ Err n) × (c.in_err-stored.field-0.0 ≡ fault n (c.args.layout.place - 8)) = grind arith in
+    let f : (n : ℕ) × (c.read_layout.result ≡ Err n) × (c.in_err-layout.field-0.0 ≡ fault n (c.args.bodies.layout.place - 8)) = grind arith in
     rw (p.1, p.2, f.2) (record {
       result_value = refuses _ (ap (located _) (rw f.1 at c.read_layout.ensures));
-      messages_shaped = tt;
+      dataset_shaped = tt;
     })
 
 pub returns-then-not-filled : goal.returns-then-not-filled
 unfolding layout_walk
 returns-then-not-filled c =
-    let f : c.read_layout.result ≡ Ok c.in_ok-stored.stored = grind arith in
+    let f : c.read_layout.result ≡ Ok c.in_ok-layout.layout = grind arith in
     record {
       result_value = rw c.head_of.ensures
           (gives _ (ap (located _) (rw f at c.read_layout.ensures)) (fails _ _ (sym c.filled.ensures ∙ c.if-not-filled.true)));
-      messages_shaped = tt;
+      dataset_shaped = tt;
     }
 
 pub returns : goal.returns
 unfolding layout_walk
 returns c =
-    let f : c.read_layout.result ≡ Ok c.in_ok-stored.stored = grind arith in
+    let f : c.read_layout.result ≡ Ok c.in_ok-layout.layout = grind arith in
     record {
       result_value = gives _ (ap (located _) (rw f at c.read_layout.ensures)) (passes _ _ (sym c.filled.ensures ∙ c.if-not-filled.false) refl);
-      messages_shaped = c.requires.shaped;
+      dataset_shaped = c.requires.shaped;
     }

@@ -13,18 +13,18 @@ pub returns-in_err-dimensions : goal.returns-in_err-dimensions
 unfolding parts_walk
 returns-in_err-dimensions c =
     let p = err_from_is_err_and c.from_residual.result c.from_residual.ensures.1 in
-    let f : (n : ℕ) × (c.read_space.result ≡ Err n) × (c.in_err-dimensions.field-0.0 ≡ fault n (c.args.space.place - 8)) = grind arith in
+    let f : (n : ℕ) × (c.read_space.result ≡ Err n) × (c.in_err-dimensions.field-0.0 ≡ fault n (c.args.bodies.space.place - 8)) = grind arith in
     rw (p.1, p.2, f.2) (record {
       result_value = refuses _ (ap (located _) (rw f.1 at c.read_space.ensures.walk));
       parts_shaped = tt;
     })
 
-pub returns-in_err-element : goal.returns-in_err-element
+pub returns-in_err-datatype : goal.returns-in_err-datatype
 unfolding parts_walk
-returns-in_err-element c =
-    let p = err_from_is_err_and c.from_residual-in_err-element.result c.from_residual-in_err-element.ensures.1 in
+returns-in_err-datatype c =
+    let p = err_from_is_err_and c.from_residual-in_err-datatype.result c.from_residual-in_err-datatype.ensures.1 in
     let d : c.read_space.result ≡ Ok c.in_ok-dimensions.dimensions = grind arith in
-    let f : (n : ℕ) × (c.read_type.result ≡ Err n) × (c.in_err-element.field-0.0 ≡ fault n (c.args.datatype.place - 8)) = grind arith in
+    let f : (n : ℕ) × (c.read_type.result ≡ Err n) × (c.in_err-datatype.field-0.0 ≡ fault n (c.args.bodies.datatype.place - 8)) = grind arith in
     rw (p.1, p.2, f.2) (record {
       result_value = gives _ (ap (located _) (rw d at c.read_space.ensures.walk)) (refuses _ (ap (located _) (rw f.1 at c.read_type.ensures)));
       parts_shaped = tt;
@@ -34,7 +34,7 @@ pub returns : goal.returns
 unfolding parts_walk
 returns c =
     let d : c.read_space.result ≡ Ok c.in_ok-dimensions.dimensions = grind arith in
-    let t : c.read_type.result ≡ Ok c.in_ok-element.element = grind arith in
+    let t : c.read_type.result ≡ Ok c.in_ok-datatype.datatype = grind arith in
     let s = rw d at c.read_space.ensures in
     record {
       result_value = gives _ (ap (located _) s.walk) (gives _ (ap (located _) (rw t at c.read_type.ensures)) refl);

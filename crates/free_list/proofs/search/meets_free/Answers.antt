@@ -4,4 +4,4 @@ use Rattle.free_list.proofs.search.meets_free.Goals as goal
 
 pub returns : goal.returns
 returns c =
-    c.meets.ensures c.args.segment.now _ (c.requires.held.mapped (omega arith)) c.requires.size_in_bounds
+    c.meets.ensures c.args.free.segment.now _ (c.requires.held.mapped (omega arith)) c.requires.size_in_bounds

@@ -8,16 +8,18 @@ pub returns-then-off-at-2 : goal.returns-then-off-at-2
 returns-then-off-at-2 c =
     let l = c.loop-i in
     let a = c.args in
+    let f = a.free in
     search-hit _ _ _ _ _ _
-    (search-turn a.segment.now a.count l._i l.at c.u64_at-own.result a.off a.size _ (omega arith) c.u64_at-own.ensures.value l.invariant.1) (omega arith)
+    (search-turn f.segment.now f.count l._i l.at c.u64_at-own.result a.off a.size _ (omega arith) c.u64_at-own.ensures.value l.invariant.1) (omega arith)
     (grind arith)
 
 pub loop-i-preserved : goal.loop-i-preserved
 loop-i-preserved c =
     let l = c.loop-i in
     let a = c.args in
-    let t = search-turn a.segment.now a.count l._i l.at c.u64_at-own.result a.off a.size _ (omega arith) c.u64_at-own.ensures.value l.invariant.1 in (
-      rw c.u64_at-at.ensures.value (chained-next a.segment.now a.count l._i l.at (omega arith) l.invariant.0),
+    let f = a.free in
+    let t = search-turn f.segment.now f.count l._i l.at c.u64_at-own.result a.off a.size _ (omega arith) c.u64_at-own.ensures.value l.invariant.1 in (
+      rw c.u64_at-at.ensures.value (chained-next f.segment.now f.count l._i l.at (omega arith) l.invariant.0),
       rw c.u64_at-at.ensures.value
           (elim c.else-at-end.branch [
             | else-at-end-via-then-at-end+else-off-at-2 w ↦
@@ -30,4 +32,5 @@ pub returns : goal.returns
 returns c =
     let l = c.loop-i in
     let a = c.args in
-    search-end a.segment.now a.count l._i l.at a.off a.size _ (omega arith) l.invariant.1
+    let f = a.free in
+    search-end f.segment.now f.count l._i l.at a.off a.size _ (omega arith) l.invariant.1

@@ -7,5 +7,5 @@ use Rattle.free_list.proofs.search.overlaps_free.Given as goal
 
 abbrev pub invariant-loop-i : goal.invariant-loop-i
 invariant-loop-i l =
-    Chained (l.count - l._i) l.segment l.at
-    × (overlaps_any (chain l.count l.segment l.head) l.off l.size ≡ overlaps_any (chain (l.count - l._i) l.segment l.at) l.off l.size)
+    Chained (l.free.count - l._i) l.segment l.at
+    × (overlaps_any (chain l.free.count l.segment l.free.head) l.off l.size ≡ overlaps_any (chain (l.free.count - l._i) l.segment l.at) l.off l.size)

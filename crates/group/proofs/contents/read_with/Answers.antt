@@ -10,14 +10,15 @@ use Rattle.std.specs.Prelude.{Some, None}
 use Rattle.std.proofs.lemmas.Result.{err_from_is_err_and}
 use Rattle.group.proofs.contents.read_with.Goals as goal
 
-pub returns-in_err-known : goal.returns-in_err-known
-returns-in_err-known c =
+pub returns-in_err-known-clause-read : goal.returns-in_err-known-clause-read
+returns-in_err-known-clause-read c =
+    let im = c.args.reading.now.image.now in
+    let heap = c.args.heap in
     let p = err_from_is_err_and c.from_residual.result c.from_residual.ensures.1 in
-    let f : (c.read.result ≡ None) × (c.in_err-known.field-0.0 ≡ fault 9 c.args.heap.segment) = grind arith in
+    let f : (c.read.result ≡ None) × (c.in_err-known.field-0.0 ≡ fault 9 heap.segment) = grind arith in
     rw (p.1, p.2, f.1) (record {
-      walked =
-          list-refused c.args.image.now _ _ c.args.list.now _ c.requires.ready.lent _ _ _ (open_heap c.args.image.now c.args.heap) _ _
-          (same-segment (part-between c.args.image.now c.args.heap.segment c.args.heap.size) f.0 c.read.ensures).value;
+      walked = list-refused im _ _ _ _ c.requires.ready.lent _ _ _ (open_heap im heap) _ _
+          (same-segment (part-between im heap.segment heap.size) f.0 c.read.ensures).value;
       ready = tt;
     })
 
@@ -32,15 +33,15 @@ tree-requires-clause-sound c =
       links = ready.links;
     }
 
-pub returns : goal.returns
-returns c =
-    let slice = part-between c.args.image.now c.args.heap.segment c.args.heap.size in
+pub returns-clause-read : goal.returns-clause-read
+returns-clause-read c =
+    let im = c.args.reading.now.image.now in
+    let heap = c.args.heap in
+    let slice = part-between im heap.segment heap.size in
     let f : c.read.result ≡ Some c.in_ok-known.known = grind arith in
     record {
       walked =
-          tree-ended c.args.image.now _ _ c.args.list.now _ c.requires.ready.lent _ _ _ _ c.args.wanted.now
-          c.args.addresses.now c.args.counts.now _ c.args.heap c.in_ok-known.known.free c.in_ok-known.known.ended
-          (same-segment slice f c.read.ensures).value _ _ _ c.tree.result c.tree.auto.list
-          (rw slice at c.tree.ensures.walked);
-      ready = sound-ready _ _ _ _ _ c.tree.result c.tree.ensures.sound;
+          tree-ended im _ _ _ c.requires.ready.lent _ c.args.reading.now.wanted.now _ _ _ heap.segment _
+          (same-segment slice f c.read.ensures).value _ _ _ _ c.tree.ensures.kept.long (rw slice at c.tree.ensures.read);
+      ready = sound-ready _ _ _ _ _ _ c.tree.ensures.read.sound;
     }

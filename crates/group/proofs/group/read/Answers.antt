@@ -9,22 +9,23 @@ use native.Mathlib.Omega.{arith}
 use Rattle.std.proofs.lemmas.Result.{err_from_is_err_and}
 use Rattle.group.proofs.group.read.Goals as goal
 
-pub returns-in_err-heap : goal.returns-in_err-heap
-returns-in_err-heap c =
+pub returns-in_err-heap-clause-read : goal.returns-in_err-heap-clause-read
+returns-in_err-heap-clause-read c =
     let p = err_from_is_err_and c.from_residual.result c.from_residual.ensures.1 in
     rw (p.1, p.2) (record {
-      walked = heap-stopped c.args.image.now _ _ c.args.list.now _ c.requires.ready.lent _ _ _ _ _ _ c.«open».new.blocks _ c.in_err-heap.ensures.walked;
+      walked = heap-stopped c.args.reading.now.image.now _ _ _ _ c.requires.ready.lent _ _ _ _ _ _ _ _ c.in_err-heap.ensures.walked;
       ready = tt;
     })
 
 pub read_in-requires-clause-ready : goal.read_in-requires-clause-ready
 read_in-requires-clause-ready c =
+    let reading = c.args.reading.now in
+    let table = c.args.objects.now in
     let ready = c.requires.ready in
     let a =
-    at-contents c.args.image.now _ _ c.args.list.now _ ready.lent c.args.reading.leaf_k c.args.reading.internal_k c.args.tree
-    c.args.heap (visit_both c.args.reading.auditing c.args.wanted.now)
-    (both_of c.args.addresses.now c.args.counts.now c.args.objects no_link) c.«open».new.blocks
-    (open_heap c.args.image.now c.in_ok-heap.heap) _ c.«open».auto.blocks c.in_ok-heap.ensures.walked in record {
+    at-contents reading.image.now _ _ _ _ ready.lent reading.leaf_k reading.internal_k c.args.tree c.args.heap
+    (visit_both reading.auditing reading.wanted.now) (both_of table.addresses.now table.counts.now table.count no_link) _
+    (open_heap reading.image.now c.in_ok-heap.heap) _ c.in_ok-heap.ensures.kept.long c.in_ok-heap.ensures.walked in record {
       lent = a.lent;
       table = ready.table;
       apart = grown-apart a.blocks ready.apart;
@@ -32,12 +33,12 @@ read_in-requires-clause-ready c =
       links = omega (arith, ready.links, grown-lengths a.blocks);
     }
 
-pub returns : goal.returns
-returns c =
+pub returns-clause-read : goal.returns-clause-read
+returns-clause-read c =
     record {
       walked =
-          contents-ended c.args.image.now _ _ c.args.list.now _ c.requires.ready.lent _ _ _ _ _ _ c.«open».new.blocks
-          (open_heap c.args.image.now c.in_ok-heap.heap) _ c.«open».auto.blocks c.in_ok-heap.ensures.walked (group_end _ _) _ c.read_in.result
-          (λ t. (_, refl)) (λ x. refl) c.read_in.auto.list c.read_in.ensures.walked;
-      ready = c.read_in.ensures.ready;
+          contents-ended c.args.reading.now.image.now _ _ _ _ c.requires.ready.lent _ _ _ _ _ _ _
+          (open_heap c.args.reading.now.image.now c.in_ok-heap.heap) _ c.in_ok-heap.ensures.kept.long c.in_ok-heap.ensures.walked (group_end _ _) _ _
+          (λ t. (_, refl)) (λ x. refl) c.read_in.ensures.kept.long c.read_in.ensures.read.walked;
+      ready = c.read_in.ensures.read.ready;
     }

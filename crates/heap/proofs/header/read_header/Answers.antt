@@ -19,7 +19,10 @@ signed b e f = field-equal (sym e) (omega arith)
 
 pub returns-then-u32_at-ne-HEAP : goal.returns-then-u32_at-ne-HEAP
 unfolding HEAP little_endian
-returns-then-u32_at-ne-HEAP c = record { tested = λ at rest. header-unsigned at _ rest (field-unequal (sym c.u32_at.ensures.value) (λ e. omega arith)); fields = tt }
+returns-then-u32_at-ne-HEAP c = record {
+  tested = λ at rest. header-unsigned at _ rest (field-unequal (sym c.u32_at.ensures.value) (λ e. omega arith));
+  fields = tt;
+}
 
 pub returns-then-bytes-ne0 : goal.returns-then-bytes-ne0
 returns-then-bytes-ne0 c = record {

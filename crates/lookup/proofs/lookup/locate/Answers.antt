@@ -1,5 +1,6 @@
 -- Where the path leads, then the kind of the object found there.
 use mathlib.Core.Path.{ap, ◌∙◌}
+use Rattle.std.proofs.lemmas.Result.{err_from_is_err_and}
 use Rattle.walk.specs.Lent.{places_of}
 use Rattle.object.proofs.ObjectLaws.{opened, room-lent}
 use Rattle.lookup.proofs.LookupLaws.{stopped-is, symbolic-is, last-stopped, last-known}
@@ -12,20 +13,22 @@ kind_at-requires c =
       lent = room-lent _ _ c.places-room.ensures;
     }
 
-pub returns-in-Err : goal.returns-in-Err
-returns-in-Err c = rw c.refused.ensures (stopped-is c.args.image.now c.args.path.now _ c.args.superblock _ c.in-Err.ensures)
+pub returns-in_err-find_object : goal.returns-in_err-find_object
+returns-in_err-find_object c =
+    let p = err_from_is_err_and c.from_residual.result c.from_residual.ensures.1 in
+    rw (p.1, p.2) (stopped-is c.args.image.now c.args.path.now _ c.args.superblock _ c.in_err-find_object.ensures)
 
-pub returns-in-Ok-Symbolic : goal.returns-in-Ok-Symbolic
-returns-in-Ok-Symbolic c =
-    symbolic-is c.args.image.now c.args.path.now _ c.args.superblock (rw c.in-Ok-Symbolic.field-0-is at c.in-Ok-Symbolic.ensures)
+pub returns-in-Symbolic : goal.returns-in-Symbolic
+returns-in-Symbolic c = symbolic-is c.args.image.now c.args.path.now _ c.args.superblock (rw c.in-Symbolic.is at c.in_ok-find_object.ensures)
 
-pub returns-in-Err-kind_at : goal.returns-in-Err-kind_at
-returns-in-Err-kind_at c =
-    rw c.refused-in-Err-kind_at.ensures
-    (last-stopped c.args.image.now c.args.path.now _ c.args.superblock _ (rw c.in-Ok-Object.field-0-is at c.in-Ok-Object.ensures) _
-    (rw (c.places-room.ensures ∙ ap places_of c.find_object.auto.list) at c.in-Err-kind_at.ensures))
+pub returns-in_err-kind-in-Object : goal.returns-in_err-kind-in-Object
+returns-in_err-kind-in-Object c =
+    let p = err_from_is_err_and c.from_residual-in_err-kind-in-Object.result c.from_residual-in_err-kind-in-Object.ensures.1 in
+    rw (p.1, p.2)
+    (last-stopped c.args.image.now c.args.path.now _ c.args.superblock _ (rw c.in-Object.is at c.in_ok-find_object.ensures) _
+    (rw (c.places-room.ensures ∙ ap places_of c.find_object.auto.list) at c.in_err-kind-in-Object.ensures))
 
-pub returns-in-Ok : goal.returns-in-Ok
-returns-in-Ok c =
-    last-known c.args.image.now c.args.path.now _ c.args.superblock _ (rw c.in-Ok-Object.field-0-is at c.in-Ok-Object.ensures) _
-    (rw (c.places-room.ensures ∙ ap places_of c.find_object.auto.list) at c.in-Ok.ensures)
+pub returns-in_ok-kind-in-Object : goal.returns-in_ok-kind-in-Object
+returns-in_ok-kind-in-Object c =
+    last-known c.args.image.now c.args.path.now _ c.args.superblock _ (rw c.in-Object.is at c.in_ok-find_object.ensures) _
+    (rw (c.places-room.ensures ∙ ap places_of c.find_object.auto.list) at c.in_ok-kind-in-Object.ensures)

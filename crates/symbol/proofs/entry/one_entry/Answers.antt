@@ -10,8 +10,8 @@ use Rattle.std.specs.Prelude.{Ok, Err}
 use Rattle.std.proofs.lemmas.Result.{err_from_is_err_and}
 use Rattle.symbol.proofs.entry.one_entry.Goals as goal
 
-pub returns-in_err-size : goal.returns-in_err-size
-returns-in_err-size c =
+pub returns-in_err-size-clause-read : goal.returns-in_err-size-clause-read
+returns-in_err-size-clause-read c = λ count.
     let p = err_from_is_err_and c.from_residual.result c.from_residual.ensures.1 in
     let f : (x : NameFault) × (c.name.result ≡ Err x) × (c.in_err-size.field-0.0 ≡ fault (fault_number (fault_of x)) c.args.at) = grind arith in
     rw (p.1, p.2, f.2) (name-refused _ _ _ _ _ _ _ _ _ _ _ c.u64_at-off.ensures.value f.1 c.name.ensures)
