@@ -27,8 +27,8 @@
 extern "C" {
 #endif
 
-/* The version of this header. It is raised with every change of a word, an answer, a limit or the stack, and not with a new
- * call; ebikwotula_version gives that of the library. */
+/* The version of this header. It is raised with every change of a word, an answer or a limit and with every larger figure of the
+ * stack, and not with a smaller one or a new call; ebikwotula_version gives that of the library. */
 #define EBIKWOTULA_VERSION 6
 
 /* The limits: the length of an image, in bytes; the objects that are counted; the blocks that one walk enters; the length of

@@ -90,10 +90,13 @@ module _ (im ws : List ℕ) (s : Superblock) (count objects : ℕ) (ws₁ addres
   pub ran : run im s.end_of_file (places_of (length ws)) (audit_walk (superblock_of s)) [] ≡ done os (blocks_of count ws₁)
   ran = walked-done ws ws₁ os count _ w.walked
 
+  pub listed : objects ≤ length addresses
+  listed = omega (arith, table.fits, table.addresses_long)
+
   -- the stored counts lie inside the image
   pub readable : Bounded im s → Readable im addresses objects
   readable b = record {
-    listed = omega (arith, table.fits, table.addresses_long);
+    listed = listed;
     inside = λ k h.
         let i = headers-inside im (places_of (length ws)) (superblock_of s) os (blocks_of count ws₁) ran k (rw length-linked_of h) in
         omega (arith, rw (get_d-addresses objects k addresses counts h) at i, b.2);

@@ -5,7 +5,7 @@ ghost use Rattle.std.specs.Prelude.{◌≡◌, ℕ, ◌≤◌, length, replicate
 ghost use Rattle.format.specs.Limits.{objects_most};
 ghost use Rattle.format.specs.Blocks.{room_of};
 ghost use Rattle.walk.specs.Lent.{places_of, handed};
-ghost use Rattle.ledger.specs.Report.{Copied};
+ghost use Rattle.ledger.specs.Report.{Copied, Empty};
 ghost use Rattle.ledger.specs.Table.{Table};
 ghost use Rattle.object.specs.Object.{Bounded};
 ghost use Rattle.audit.specs.Audit.{blocks_audited, blocks_replied, replied, ImageWalked, Lists, AuditedIs, AuditIs};
@@ -85,7 +85,7 @@ pub fn audit_into(
 {
     let superblock = superblock::open(image).map_err(|answer| Refusal::Fault(answer, 0))?;
     let audited = walk_image(image, list, addresses, true_counts, superblock)?;
-    report::read_stored(image, addresses, stored, audited.objects);
+    report::read_stored(image, &addresses[..audited.objects], stored);
     Ok(audited)
 }
 
@@ -96,56 +96,66 @@ pub struct Reply {
     pub ledger: Ledger,
 }
 
-// Fills a ledger with the objects at the head of a table. Kept out of line, so that its list of addresses isn't on the stack while an audit walks.
+// Fills a ledger with objects, of which the table has the addresses. Kept out of line, so that its list of addresses isn't on the stack while an audit walks.
 #[inline(never)]
 fn fill(
     ledger: &mut Ledger,
     table: &[u64],
     stored: &[u32; OBJECTS_MOST],
     true_counts: &[u32; OBJECTS_MOST],
-    objects: usize,
 )
-    requires objects_in_bounds { objects ≤ length table.now }
-    requires objects_le_objects_most { objects ≤ objects_most }
-    ensures copied { Copied table.now (replicate objects_most 0) objects ledger.new.addresses }
-    ensures whole { ledger.new ≡ record { objects = objects; addresses = ledger.new.addresses; stored = stored.now; true_counts = true_counts.now } }
+    requires { length table.now ≤ objects_most }
+    ensures copied { Copied table.now (replicate objects_most 0) (length table.now) ledger.new.addresses }
+    ensures whole { ledger.new ≡ record { objects = length table.now; addresses = ledger.new.addresses; stored = stored.now; true_counts = true_counts.now } }
 {
     let mut addresses = [0u64; OBJECTS_MOST];
-    report::copy_addresses(table, &mut addresses, objects);
+    report::copy_addresses(table, &mut addresses);
     *ledger = Ledger {
-        objects,
+        objects: table.len(),
         addresses,
         stored: *stored,
         true_counts: *true_counts,
     };
 }
 
+// Makes a ledger one of no object. Each list is cleared where it lies, so that no empty ledger is on the stack beside it.
+fn clear(ledger: &mut Ledger)
+    ensures { Empty ledger.new }
+{
+    ledger.objects = 0;
+    ledger.addresses.fill(0);
+    ledger.stored.fill(0);
+    ledger.true_counts.fill(0);
+}
+
 // The audit of an image in a working list, which has its blocks at its head: their number. The ledger is lent, since a Result that holds it is
-// copied, and a mending has no stack for two; a refusal leaves it as it was. It has the addresses alone, without what stands behind them in the table.
+// copied, and a mending has no stack for two; it is empty with a refusal. It has the addresses alone, without what stands behind them in the table.
 pub fn audit_in(image: &[u8], list: &mut [u64], ledger: &mut Ledger) -> Result<usize, Refusal>
     ensures block_count_bound { IfOk result (λ n. n ≤ places_of (length list.old)) }
     ensures by_index { (lent : ℕ) → room_of lent ≡ places_of (length list.old) → AuditIs image.now lent
         (handed lent (blocks_replied (replied ledger.new result)) list.new) (replied ledger.new result) }
-    ensures refused { OnErr result (ledger.new ≡ ledger.old) }
+    ensures refused { OnErr result (Empty ledger.new) }
 {
     let mut objects_table = [0u64; TABLE_WORDS];
     let mut stored = [0u32; OBJECTS_MOST];
     let mut true_counts = [0u32; OBJECTS_MOST];
-    let audited = audit_into(
+    match audit_into(
         image,
         list,
         &mut objects_table,
         &mut stored,
         &mut true_counts,
-    )?;
-    fill(
-        ledger,
-        &objects_table,
-        &stored,
-        &true_counts,
-        audited.objects,
-    );
-    Ok(audited.block_count)
+    ) {
+        Ok(audited) => {
+            let table = &objects_table[..audited.objects];
+            fill(ledger, table, &stored, &true_counts);
+            Ok(audited.block_count)
+        }
+        Err(refusal) => {
+            clear(ledger);
+            Err(refusal)
+        }
+    }
 }
 
 // The audit of an image. The list is lent for the blocks, four words a block, and is all zeros with a refusal.
@@ -155,12 +165,18 @@ pub fn audit(image: &[u8], list: &mut [u64]) -> Result<Reply, Refusal>
 {
     let mut work = [0u64; WORK_WORDS];
     let n = blocks::work_words(blocks::room(list.len()));
-    blocks::clear_from(list, 0);
     let mut ledger = report::empty();
-    let block_count = audit_in(image, &mut work[..n], &mut ledger)?;
-    blocks::hand_over(list, &work, block_count);
-    Ok(Reply {
-        block_count,
-        ledger,
-    })
+    match audit_in(image, &mut work[..n], &mut ledger) {
+        Ok(block_count) => {
+            blocks::hand_over(list, &work, block_count);
+            Ok(Reply {
+                block_count,
+                ledger,
+            })
+        }
+        Err(refusal) => {
+            blocks::clear_from(list, 0);
+            Err(refusal)
+        }
+    }
 }

@@ -128,8 +128,14 @@ pub fn describe(image: &[u8], path: &[u8], list: &mut [u64]) -> Result<Descripti
 {
     let mut work = [0u64; WORK_WORDS];
     let n = blocks::work_words(blocks::room(list.len()));
-    blocks::clear_from(list, 0);
-    let description = describe_in(image, path, &mut work[..n])?;
-    blocks::hand_over(list, &work, description.block_count);
-    Ok(description)
+    match describe_in(image, path, &mut work[..n]) {
+        Ok(description) => {
+            blocks::hand_over(list, &work, description.block_count);
+            Ok(description)
+        }
+        Err(refusal) => {
+            blocks::clear_from(list, 0);
+            Err(refusal)
+        }
+    }
 }

@@ -31,15 +31,15 @@ fn put_object(reply: &mut [u8], at: usize, address: u64, stored: u32, true_count
 fn write_reply(
     reply: &mut [u8],
     block_count: usize,
-    objects: usize,
     addresses: &[u64],
     stored: &[u32],
     true_counts: &[u32],
 )
-    requires { Roomy (length reply.old) objects addresses.now stored.now true_counts.now }
+    requires { Roomy (length reply.old) (length addresses.now) addresses.now stored.now true_counts.now }
     ensures { reply.new ≡ padded_bytes (length reply.old)
-        (block_count ∷ objects ∷ object_words (counted_places objects addresses.now stored.now true_counts.now)) }
+        (block_count ∷ length addresses.now ∷ object_words (counted_places (length addresses.now) addresses.now stored.now true_counts.now)) }
 {
+    let objects = addresses.len();
     words::put_word(reply, 0, block_count as u64);
     words::put_word(reply, 8, objects as u64);
     for i in 0..objects {
@@ -77,14 +77,8 @@ fn audit_with(
         Ok(r) => {
             let used = 4 * r.block_count;
             words::spill(&list[..used], blocks);
-            write_reply(
-                reply,
-                r.block_count,
-                r.objects,
-                addresses,
-                &stored,
-                &true_counts,
-            );
+            let found = &addresses[..r.objects];
+            write_reply(reply, r.block_count, found, &stored, &true_counts);
             0
         }
         Err(refusal) => front::refuse(blocks, reply, refusal),

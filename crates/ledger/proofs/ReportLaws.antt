@@ -4,8 +4,8 @@ use mathlib.Core.List.{List, []}
 use mathlib.Core.Path.{◌≡◌, refl, ap, sym, subst, ◌∙◌}
 use native.Mathlib.Omega.{arith}
 use borrow.Author.Count.{below_more}
-use lib.ListN.{length, get_or, set, drop, length-set}
-use lib.Seq.{get_or-set_same, get_or-set_other}
+use lib.ListN.{length, get_or, set, take, drop, length-set}
+use lib.Seq.{get_or-set_same, get_or-set_other, get_or-take, length-take-le}
 use Rattle.format.specs.Bytes.{u32}
 use Rattle.format.specs.Audit.{counted_in}
 use Rattle.walk.specs.Numbers.{Number}
@@ -61,3 +61,27 @@ counted-copied xs ss ts ys ys' n c = counted_same n xs ys' ss ts c.copied
 
 pub readable-copied : (im xs ys ys' : List ℕ) (n : ℕ) → Copied xs ys n ys' → n ≤ length ys → Readable im xs n → Readable im ys' n
 readable-copied im xs ys ys' n c h r = record { listed = rw c.long h; inside = λ k l. rw (c.copied k l) (r.inside k l) }
+
+-- What is read or copied of the first n addresses, as a list of their own, is read or copied of the whole list.
+module _ (xs : List ℕ) (n : ℕ) (fits : n ≤ length xs) where
+  taken : length (take n xs) ≡ n
+  taken = length-take-le n xs fits
+
+  pub readable-taken : (im : List ℕ) → Readable im xs n → Readable im (take n xs) (length (take n xs))
+  readable-taken im r =
+      let first : Readable im (take n xs) n = record { listed = omega (arith, taken); inside = λ k h. rw (get_or-take n xs k 0 h) (r.inside k h) } in
+      rw taken first
+
+  pub stored-taken : (im ss ss' : List ℕ) → StoredRead im (take n xs) (length (take n xs)) ss ss' → StoredRead im xs n ss ss'
+  stored-taken im ss ss' r =
+      let s : StoredRead im (take n xs) n ss ss' = rw taken at r in
+      record { read = λ k h. s.read k h ∙ ap (λ (a : ℕ). u32 im (a + 4)) (get_or-take n xs k 0 h); rest = s.rest; long = s.long }
+
+  pub copied-taken : (ys ys' : List ℕ) → Copied (take n xs) ys (length (take n xs)) ys' → Copied xs ys n ys'
+  copied-taken ys ys' c =
+      let s : Copied (take n xs) ys n ys' = rw taken at c in
+      record { copied = λ k h. s.copied k h ∙ get_or-take n xs k 0 h; rest = s.rest; long = s.long }
+
+  pub counted-taken : (ss ts : List ℕ) → counted_places (length (take n xs)) (take n xs) ss ts ≡ counted_places n xs ss ts
+  counted-taken ss ts =
+      ap (λ (m : ℕ). counted_places m (take n xs) ss ts) taken ∙ counted_same n xs (take n xs) ss ts (λ k h. get_or-take n xs k 0 h)

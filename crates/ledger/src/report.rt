@@ -29,22 +29,22 @@ pub fn empty() -> Ledger
     }
 }
 
-// Copies the addresses of so many objects out of the table.
-pub fn copy_addresses(table: &[u64], addresses: &mut [u64], objects: usize)
-    requires objects_in_bounds { objects ≤ length table.now }
-    requires objects_in_bounds_2 { objects ≤ length addresses.old }
-    ensures { Copied table.now addresses.old objects addresses.new }
+// Copies the addresses of objects, which stand at the head of the table, to the head of a list.
+pub fn copy_addresses(table: &[u64], addresses: &mut [u64])
+    requires { length table.now ≤ length addresses.old }
+    ensures { Copied table.now addresses.old (length table.now) addresses.new }
 {
-    addresses[..objects].copy_from_slice(&table[..objects]);
+    let objects = table.len();
+    addresses[..objects].copy_from_slice(table);
 }
 
 // Reads the stored count of each object, 4 bytes behind its address.
-pub fn read_stored(image: &[u8], addresses: &[u64], stored: &mut [u32], objects: usize)
-    requires readable { Readable image.now addresses.now objects }
-    requires objects_in_bounds { objects ≤ length stored.old }
-    ensures { StoredRead image.now addresses.now objects stored.old stored.new }
+pub fn read_stored(image: &[u8], addresses: &[u64], stored: &mut [u32])
+    requires readable { Readable image.now addresses.now (length addresses.now) }
+    requires stored_fit { length addresses.now ≤ length stored.old }
+    ensures { StoredRead image.now addresses.now (length addresses.now) stored.old stored.new }
 {
-    for i in 0..objects {
+    for i in 0..addresses.len() {
         let at = addresses[i] as usize;
         stored[i] = u32_at(image, at + 4) as u32;
     }

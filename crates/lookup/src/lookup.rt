@@ -68,7 +68,7 @@ pub fn lookup(image: &[u8], path: &[u8], list: &mut [u64]) -> Result<Located, Re
 {
     let mut work = [0u64; WORK_WORDS];
     let n = blocks::work_words(blocks::room(list.len()));
-    let r = lookup_in(image, path, &mut work[..n]);
+    let found = lookup_in(image, path, &mut work[..n]);
     blocks::clear_from(list, 0);
-    r
+    found
 }

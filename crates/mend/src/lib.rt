@@ -46,7 +46,7 @@ pub fn mend_in(
     }
     undo_log::write_log(log, &ledger);
     let writes = least(limit, entries);
-    undo_log::perform(image, log, writes);
+    undo_log::perform(image, &log[..writes + writes]);
     Ok(Mended {
         block_count,
         entries,
@@ -67,8 +67,14 @@ pub fn mend(
 {
     let mut work = [0u64; WORK_WORDS];
     let n = blocks::work_words(blocks::room(list.len()));
-    blocks::clear_from(list, 0);
-    let mended = mend_in(image, &mut work[..n], log, limit)?;
-    blocks::hand_over(list, &work, mended.block_count);
-    Ok(mended)
+    match mend_in(image, &mut work[..n], log, limit) {
+        Ok(mended) => {
+            blocks::hand_over(list, &work, mended.block_count);
+            Ok(mended)
+        }
+        Err(refusal) => {
+            blocks::clear_from(list, 0);
+            Err(refusal)
+        }
+    }
 }

@@ -3,7 +3,9 @@ use Prim.Native.Nat.{ℕ, ◌*◌, ◌≤◌}
 use mathlib.Core.List.{List, []}
 use mathlib.Core.Path.{◌≡◌, refl, ap, sym, ◌∙◌}
 use native.Mathlib.Omega.{arith}
-use lib.ListN.{length, take, replicate}
+use lib.ListN.{length, take, replicate, length-replicate}
+use lib.Seq.{length-take-le}
+use Rattle.std.proofs.lemmas.List.{take-replicate}
 use Rattle.format.specs.Limits.{objects_most}
 use Rattle.format.specs.Bytes.{undefined_address, padded}
 use Rattle.format.specs.Blocks.{Block, no_object, block_words, block_list, room_of}
@@ -65,6 +67,16 @@ opened-is im room lent s r ws addresses stored counts o e h = rw (← o, e) h
 abbrev Reports : List ℕ → ℕ → Superblock → List ℕ → List ℕ → List ℕ → List ℕ → Reported → Type 0
 Reports im room s ws addresses stored counts r =
     (r.block_count ≤ room) × ((lent : ℕ) → ReportedOpened im room lent s (handed lent r.block_count ws) addresses stored counts r)
+
+-- a list that is all filled, by the length that it had before, and the first words of one
+pub all-filled : (ws : List ℕ) (n : ℕ) → ws ≡ replicate n undefined_address → length ws ≡ n → ws ≡ replicate (length ws) undefined_address
+all-filled ws n e l = e ∙ ap (λ (m : ℕ). replicate m undefined_address) (sym l)
+
+pub filled-part : (n m word : ℕ) → n ≤ length (replicate {A = ℕ} m word) → take n (replicate m word) ≡ replicate (length (take n (replicate {A = ℕ} m word))) word
+filled-part n m word h =
+    let e = take-replicate n m word (rw length-replicate at h) in
+    let l : length (take n (replicate {A = ℕ} m word)) ≡ n = length-take-le n (replicate m word) h in
+    e ∙ ap (λ (k : ℕ). replicate k word) (sym l)
 
 -- the list was as long before it was filled
 pub same-long : (im : List ℕ) (m n : ℕ) (s : Superblock) (ws addresses stored counts : List ℕ) (r : Reported) → m ≡ n →

@@ -1,7 +1,8 @@
 // The damage report: the audit's answer and, of a file that it refuses, the damaged block.
 #![tactic(auto)]
 
-ghost use Rattle.std.specs.Prelude.{◌≡◌, ℕ, ◌*◌, ◌≤◌, length, take};
+ghost use Rattle.std.specs.Prelude.{◌≡◌, ℕ, ◌*◌, ◌≤◌, length, take, replicate};
+ghost use Rattle.format.specs.Bytes.{undefined_address};
 ghost use Rattle.format.specs.Blocks.{no_object, block_words, room_of};
 ghost use Rattle.walk.specs.Lent.{blocks_of, places_of, handed};
 ghost use Rattle.object.specs.Object.{Bounded};
@@ -16,6 +17,7 @@ use ledger::search::TABLE_WORDS;
 use superblock::Superblock;
 use walk::blocks;
 use walk::blocks::WORK_WORDS;
+use walk::numbers::UNDEFINED_ADDRESS;
 
 // The audit's answer; how many blocks were entered; the place of the fault and the damaged block, zeros of a sound file; with 6
 // the first block met; and the number of objects, 0 where the answer isn't 0. No Result: the blocks entered are left with either, and C's reply, which
@@ -60,7 +62,7 @@ fn refused(list: &[u64], entered: usize, refusal: Refusal) -> Reported
     }
 }
 
-// The report of an image that can be opened. How many blocks were entered before a refusal is found in the list.
+// The report of an image that can be opened, in a list filled with the undefined address: so how many blocks were entered before a refusal is found in it.
 fn report_opened(
     image: &[u8],
     list: &mut [u64],
@@ -71,15 +73,15 @@ fn report_opened(
 ) -> Reported
     requires bounded { Bounded image.now superblock }
     requires lists { Lists addresses.old stored.old true_counts.old }
+    requires filled { list.old ≡ replicate (length list.old) undefined_address }
     ensures block_count_bound { result.block_count ≤ places_of (length list.old) }
     ensures by_index { (lent : ℕ) → ReportedOpened image.now (places_of (length list.old)) lent superblock
         (handed lent result.block_count list.new) addresses.new stored.new true_counts.new result }
 {
-    fill_undefined(list);
     match audit::walk_image(image, list, addresses, true_counts, superblock) {
         Err(refusal) => refused(list, count_entered(list), refusal),
         Ok(read) => {
-            read_stored(image, addresses, stored, read.objects);
+            read_stored(image, &addresses[..read.objects], stored);
             Reported {
                 answer: answers::DONE,
                 block_count: read.block_count,
@@ -102,6 +104,29 @@ pub fn report_into(
     true_counts: &mut [u32],
 ) -> Reported
     requires { Lists addresses.old stored.old true_counts.old }
+    ensures block_count_bound { result.block_count ≤ places_of (length list.old) }
+    ensures by_index { (lent : ℕ) → room_of lent ≡ places_of (length list.old) → ReportedIs image.now lent
+        (handed lent result.block_count list.new) addresses.new stored.new true_counts.new result }
+{
+    match superblock::open(image) {
+        Err(answer) => unopened(answer),
+        Ok(superblock) => {
+            fill_undefined(list);
+            report_opened(image, list, addresses, stored, true_counts, superblock)
+        }
+    }
+}
+
+// The same in a list that is filled already.
+fn report_filled(
+    image: &[u8],
+    list: &mut [u64],
+    addresses: &mut [u64],
+    stored: &mut [u32],
+    true_counts: &mut [u32],
+) -> Reported
+    requires lists { Lists addresses.old stored.old true_counts.old }
+    requires filled { list.old ≡ replicate (length list.old) undefined_address }
     ensures block_count_bound { result.block_count ≤ places_of (length list.old) }
     ensures by_index { (lent : ℕ) → room_of lent ≡ places_of (length list.old) → ReportedIs image.now lent
         (handed lent result.block_count list.new) addresses.new stored.new true_counts.new result }
@@ -131,9 +156,9 @@ pub fn report(image: &[u8], list: &mut [u64]) -> Reply
     let mut objects_table = [0u64; TABLE_WORDS];
     let mut stored = [0u32; OBJECTS_MOST];
     let mut true_counts = [0u32; OBJECTS_MOST];
-    let mut work = [0u64; WORK_WORDS];
+    let mut work = [UNDEFINED_ADDRESS; WORK_WORDS];
     let n = blocks::work_words(blocks::room(list.len()));
-    let r = report_into(
+    let r = report_filled(
         image,
         &mut work[..n],
         &mut objects_table,
@@ -158,7 +183,7 @@ pub fn report(image: &[u8], list: &mut [u64]) -> Reply
         };
     }
     let mut addresses = [0u64; OBJECTS_MOST];
-    copy_addresses(&objects_table, &mut addresses, objects);
+    copy_addresses(&objects_table[..objects], &mut addresses);
     Reply {
         answer,
         block_count,

@@ -7,6 +7,7 @@ ghost use Rattle.io.specs.Counts.{IsPrefixLen};
 
 use format::{COMMAND_BLOCKS, OBJECTS_MOST, answers};
 use refused_text::{Answer, Damage, Refused};
+use report::Reply;
 use sound::Sound;
 use text_line::put;
 
@@ -19,21 +20,11 @@ pub const TEXT_MOST: usize = FIRST_MOST + OBJECT_MOST * OBJECTS_MOST;
 
 const LIST_WORDS: usize = 4 * COMMAND_BLOCKS;
 
-// Writes the report of an input, and returns how many bytes that is.
-pub fn text(input: &[u8], out: &mut [u8]) -> usize
+// Writes a report that was made of an image. Kept out of line, so that what formatting needs isn't on the stack beside the audit's lists.
+#[inline(never)]
+fn put_reply(out: &mut [u8], image: &[u8], reply: &Reply) -> usize
     ensures { IsPrefixLen result out.new }
 {
-    let limits = format::the_limits();
-    if limits.input_most < input.len() {
-        return put(
-            out,
-            Answer {
-                number: answers::LENGTH_OUT_OF_RANGE,
-            },
-        );
-    }
-    let mut list = [0u64; LIST_WORDS];
-    let reply = report::report(input, &mut list);
     if reply.answer == answers::DONE {
         let sound = Sound {
             block_count: reply.block_count,
@@ -50,9 +41,26 @@ pub fn text(input: &[u8], out: &mut [u8]) -> usize
     put(
         out,
         Refused {
-            image: input,
+            image,
             answer: reply.answer,
             damage,
         },
     )
+}
+
+// Writes the report of an input, and returns how many bytes that is.
+pub fn text(input: &[u8], out: &mut [u8]) -> usize
+    ensures { IsPrefixLen result out.new }
+{
+    let limits = format::the_limits();
+    if limits.input_most < input.len() {
+        return put(
+            out,
+            Answer {
+                number: answers::LENGTH_OUT_OF_RANGE,
+            },
+        );
+    }
+    let mut list = [0u64; LIST_WORDS];
+    put_reply(out, input, &report::report(input, &mut list))
 }

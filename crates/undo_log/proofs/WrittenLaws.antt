@@ -7,7 +7,7 @@ use native.Mathlib.Omega.{arith}
 use native.Mathlib.Nat.{add-zero}
 use lib.Dec.{eqb}
 use lib.ListN.{length, get_or, take, drop}
-use lib.Seq.{drop-drop, get_or-drop}
+use lib.Seq.{drop-drop, get_or-drop, get_or-take, length-take-le}
 use Rattle.std.specs.Prelude.{if◌then◌else◌}
 use Rattle.format.specs.Bytes.{to_bytes, overwrite}
 use Rattle.undo_log.specs.Entries.{NewsFit, FieldsInside}
@@ -87,3 +87,21 @@ places-below end (suc n) xs ss ts h =
         FieldsBelow end cs → FieldsBelow end (if t then cs else record { field = get_or xs 0 0 + 4; old = get_or ss 0 0; new = get_or ts 0 0 } ∷ cs)
     go true f = f
     go false f = (omega (arith, h 0 (omega arith)), f)
+
+-- the first m entries of a log, as a log of their own
+changes-part : (m : ℕ) (log : List ℕ) → changes m (take (m + m) log) ≡ changes m log
+unfolding changes
+changes-part zero log = refl
+changes-part (suc m) [] = let z : suc m + suc m ≡ suc (suc (m + m)) = omega arith in rw z
+changes-part (suc m) (x ∷ []) = let z : suc m + suc m ≡ suc (suc (m + m)) = omega arith in rw z
+changes-part (suc m) (x ∷ y ∷ log) = let z : suc m + suc m ≡ suc (suc (m + m)) = omega arith in rw (z, changes-part m log)
+
+module _ (m : ℕ) (log : List ℕ) (fits : m + m ≤ length log) where
+  entries-taken : length (take (m + m) log) / 2 ≡ m
+  entries-taken = omega (arith, length-take-le (m + m) log fits)
+
+  pub fields-taken : (end : ℕ) → FieldsInside end m log → FieldsInside end (length (take (m + m) log) / 2) (take (m + m) log)
+  fields-taken end h = λ k l. rw (get_or-take (m + m) log (k + k) 0 (omega (arith, l, entries-taken))) (h k (omega (arith, l, entries-taken)))
+
+  pub changes-taken : changes (length (take (m + m) log) / 2) (take (m + m) log) ≡ changes m log
+  changes-taken = rw entries-taken (changes-part m log)

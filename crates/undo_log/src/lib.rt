@@ -1,7 +1,7 @@
 // The undo log of a mending: the wrong counts of a ledger as entries of two words, and the writing of the first of them.
 #![tactic(auto)]
 
-ghost use Rattle.std.specs.Prelude.{◌≡◌, ◌++◌, ◌+◌, ◌*◌, ◌^◌, ◌≤◌, length, take};
+ghost use Rattle.std.specs.Prelude.{◌≡◌, ◌++◌, ◌+◌, ◌*◌, ◌/◌, ◌^◌, ◌≤◌, length, take};
 ghost use Rattle.format.specs.Limits.{objects_most};
 ghost use Rattle.format.specs.Bytes.{padded};
 ghost use Rattle.format.specs.Log.{log_words, changes, written};
@@ -64,13 +64,12 @@ pub fn write_log(log: &mut [u64], ledger: &Ledger)
     blocks::clear_from(log, used);
 }
 
-// Performs the first entries of a log: the new count of each is written into its field.
-pub fn perform(image: &mut [u8], log: &[u64], entries: usize)
-    requires entries_in_bounds { 2 * entries ≤ length log.now }
-    requires fields_inside { FieldsInside (length image.old) entries log.now }
-    ensures { image.new ≡ written image.old (changes entries log.now) }
+// Performs the entries of a log: the new count of each is written into its field.
+pub fn perform(image: &mut [u8], log: &[u64])
+    requires { FieldsInside (length image.old) (length log.now / 2) log.now }
+    ensures { image.new ≡ written image.old (changes (length log.now / 2) log.now) }
 {
-    for i in 0..entries {
+    for i in 0..log.len() / 2 {
         let field = log[i + i] as usize;
         let counts = log[i + i + 1];
         numbers::put_u32(image, field, (counts % 4294967296) as u32);

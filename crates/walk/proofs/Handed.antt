@@ -15,9 +15,9 @@ use Rattle.walk.proofs.BlockList.{room-is, room_most, places_is, places-work}
 pub handed-none : (lent : ℕ) (ws : List ℕ) → handed lent 0 ws ≡ replicate lent 0
 handed-none lent ws = let z : lent - 0 ≡ lent = omega arith in rw z
 
--- a working list for all blocks, before its use
-abbrev pub work : List ℕ
-work = replicate (work_words blocks_most) 0
+-- a working list for all blocks, before its use: one word throughout
+abbrev pub work : (word : ℕ) → List ℕ
+work word = replicate (work_words blocks_most) word
 
 -- The first n words of a list zs have the room of a caller's list of so many words.
 pub record Working (lent n : ℕ) (zs : List ℕ) : Type 0 where
@@ -25,11 +25,11 @@ pub record Working (lent n : ℕ) (zs : List ℕ) : Type 0 where
   pub long : length (take n zs) ≡ n
   pub fit : room_of lent ≡ places_of (length (take n zs))
 
-pub working : (lent room n : ℕ) → room ≡ room_of lent → n ≡ work_words room → Working lent n work
-working lent room n is words =
-    let there : n ≤ length work = omega (arith, is, words, room_most lent, length-replicate {A = ℕ} (work_words blocks_most) 0) in
-    let long = length-take-le n work there in
-    let same : length (take n work) ≡ work_words (room_of lent) = long ∙ words ∙ ap work_words is in
+pub working : (lent room n word : ℕ) → room ≡ room_of lent → n ≡ work_words room → Working lent n (work word)
+working lent room n word is words =
+    let there : n ≤ length (work word) = omega (arith, is, words, room_most lent, length-replicate {A = ℕ} (work_words blocks_most) word) in
+    let long = length-take-le n (work word) there in
+    let same : length (take n (work word)) ≡ work_words (room_of lent) = long ∙ words ∙ ap work_words is in
     record { there = there; long = long; fit = rw same (sym (places-work (room_of lent) (room_most lent))) }
 
 -- They came back as ys with so many blocks, which fit the caller's list; the words behind them are not handed over.
@@ -51,3 +51,8 @@ handed-over lent n zs ys count w back counted =
       there = omega (arith, held, split);
       same = ap (padded lent) (take-append-le (4 * count) ys (drop n zs) held);
     }
+
+-- So it is of a working list with the caller's room.
+pub working-over : (lent room n word : ℕ) (ys : List ℕ) (count : ℕ) → room ≡ room_of lent → n ≡ work_words room → length ys ≡ length (take n (work word)) →
+    count ≤ places_of (length (take n (work word))) → HandedOver lent n (work word) ys count
+working-over lent room n word ys count is words back counted = handed-over lent n (work word) ys count (working lent room n word is words) back counted

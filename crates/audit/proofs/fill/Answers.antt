@@ -6,8 +6,7 @@ use Rattle.audit.proofs.fill.Goals as goal
 
 pub copy_addresses-requires : goal.copy_addresses-requires
 unfolding objects_most
-copy_addresses-requires c =
-    record { objects_in_bounds = c.requires.objects_in_bounds; objects_in_bounds_2 = omega (arith, c.requires.objects_le_objects_most) }
+copy_addresses-requires c = omega (arith, c.requires)
 
 pub returns : goal.returns
 unfolding objects_most

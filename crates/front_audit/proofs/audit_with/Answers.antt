@@ -1,9 +1,11 @@
 -- The laws of Audited.antt, at the two ends of the code.
 use Prim.Native.Nat.{◌*◌}
-use mathlib.Core.Path.{refl, ap, ◌∙◌}
+use mathlib.Core.Path.{refl, ap, sym, ◌∙◌}
 use lib.ListN.{length}
 use Rattle.format.specs.Limits.{objects_most}
 use Rattle.format.specs.Front.{padded_bytes}
+use lib.Seq.{length-take-le}
+use Rattle.ledger.proofs.ReportLaws.{counted-taken}
 use Rattle.front.proofs.Working.{working, worked}
 use Rattle.front_audit.proofs.Audited.{done-reply, refused-reply}
 use native.Mathlib.Omega.{arith}
@@ -55,16 +57,28 @@ spill-requires c =
     c.in-Ok.ensures.block_count_bound in
     omega (arith, came.long, came.counted, c.requires.room_in_bounds_2)
 
+pub slice_bounds-found-end : goal.slice_bounds-found-end
+slice_bounds-found-end c =
+    let lends = working c.args.room _ c.args.list.now c.work_words-n.ensures c.requires.room_in_bounds in
+    (c.in-Ok.ensures.by_index (4 * c.args.room) lends.fit).placed.readable.listed
+
+pub slice_bounds-found-end-in-Ok : goal.slice_bounds-found-end-in-Ok
+slice_bounds-found-end-in-Ok c =
+    let lends = working c.args.room _ c.args.list.now c.work_words-n.ensures c.requires.room_in_bounds in
+    let placed = (c.in-Ok.ensures.by_index (4 * c.args.room) lends.fit).placed in
+    sym (length-take-le c.in-Ok.r.objects c.audit_into.new.addresses placed.readable.listed)
+
 pub write_reply-requires : goal.write_reply-requires
 unfolding objects_most
 write_reply-requires c =
     let lends = working c.args.room _ c.args.list.now c.work_words-n.ensures c.requires.room_in_bounds in
     let placed = (c.in-Ok.ensures.by_index (4 * c.args.room) lends.fit).placed in
+    let taken = length-take-le c.in-Ok.r.objects c.audit_into.new.addresses placed.readable.listed in
     record {
-      room = omega (arith, c.requires.objects_most_in_bounds, placed.fits);
-      addresses_long = placed.readable.listed;
-      stored_long = omega (arith, placed.fits, c.audit_into.auto.stored);
-      counts_long = omega (arith, placed.fits, c.audit_into.auto.true_counts);
+      room = omega (arith, c.requires.objects_most_in_bounds, placed.fits, taken);
+      addresses_long = omega arith;
+      stored_long = omega (arith, placed.fits, c.audit_into.auto.stored, taken);
+      counts_long = omega (arith, placed.fits, c.audit_into.auto.true_counts, taken);
     }
 
 pub returns-in-Ok : goal.returns-in-Ok
@@ -73,5 +87,9 @@ returns-in-Ok c =
     let came = worked a.room _ a.list.now c.audit_into.new.list c.in-Ok.r.block_count c.work_words-n.ensures c.requires.room_in_bounds c.audit_into.auto.list
     c.in-Ok.ensures.block_count_bound in
     let lends = working a.room _ a.list.now c.work_words-n.ensures c.requires.room_in_bounds in
-    done-reply a.image.now (length a.blocks.now) (length a.reply.now) (4 * a.room) c.requires.room_in_bounds_2 _ _ _ _ c.in-Ok.r
-    (c.in-Ok.ensures.by_index (4 * a.room) lends.fit) _ _ (c.spill.ensures ∙ ap (padded_bytes (length a.blocks.now)) came.words) c.write_reply.ensures
+    let h = c.in-Ok.ensures.by_index (4 * a.room) lends.fit in
+    let l = h.placed.readable.listed in
+    let taken = length-take-le c.in-Ok.r.objects c.audit_into.new.addresses l in
+    let found = counted-taken c.audit_into.new.addresses c.in-Ok.r.objects l c.audit_into.new.stored c.audit_into.new.true_counts in
+    done-reply a.image.now (length a.blocks.now) (length a.reply.now) (4 * a.room) c.requires.room_in_bounds_2 _ _ _ _ c.in-Ok.r h _ _
+    (c.spill.ensures ∙ ap (padded_bytes (length a.blocks.now)) came.words) (rw (found, taken) at c.write_reply.ensures)

@@ -1,5 +1,6 @@
 -- Where the loop begins, at each turn, and behind it.
 use mathlib.Core.Path.{◌≡◌, refl, ◌∙◌}
+use lib.ListN.{length}
 use Rattle.front.proofs.Reply.{reply-start, reply-more, reply-end}
 use native.Mathlib.Omega.{arith}
 use Rattle.front_audit.proofs.write_reply.Goals as goal
@@ -21,5 +22,6 @@ loop-i-preserved c =
 pub returns : goal.returns
 returns c =
     let l = c.loop-i in
-    let all : l.i ≡ c.args.objects = omega arith in
-    reply-end _ _ _ _ _ l.reply _ c.args.objects _ (rw all at l.invariant.1) refl l.invariant.0 c.clear_from.ensures
+    let objects = length c.args.addresses.now in
+    let all : l.i ≡ objects = omega arith in
+    reply-end _ _ _ _ _ l.reply _ objects _ (rw all at l.invariant.1) refl l.invariant.0 c.clear_from.ensures

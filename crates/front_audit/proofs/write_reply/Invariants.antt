@@ -7,4 +7,4 @@ use Rattle.front_audit.proofs.write_reply.Given as goal
 
 abbrev pub invariant-loop-i : goal.invariant-loop-i
 invariant-loop-i l =
-    (length l.reply ≡ length l.fn.reply) × Begins l.reply (reply_words l.block_count l.objects l.addresses l.stored l.true_counts l.i)
+    (length l.reply ≡ length l.fn.reply) × Begins l.reply (reply_words l.block_count (length l.addresses) l.addresses l.stored l.true_counts l.i)

@@ -1,84 +1,111 @@
 -- Arrays of zeros are empty lists; the blocks are handed over; a file without objects is given an empty ledger, and else the addresses are copied.
-use Prim.Native.Nat.{ℕ, ◌≤◌}
+use Prim.Native.Nat.{ℕ, ◌≤◌, ◌<◌}
 use mathlib.Core.List.{List}
 use mathlib.Core.Path.{◌≡◌, refl, sym, ◌∙◌}
 use lib.ListN.{length, take}
+use Rattle.format.specs.Bytes.{undefined_address}
 use Rattle.format.specs.Limits.{objects_most, blocks_most}
 use Rattle.format.specs.Blocks.{room_of}
 use Rattle.walk.specs.Lent.{places_of, handed, work_words}
 use Rattle.walk.proofs.BlockList.{room_most}
-use Rattle.walk.proofs.Handed.{work, working, HandedOver, handed-over}
+use Rattle.walk.proofs.Handed.{work, working, working-over}
 use Rattle.ledger.specs.Index.{table_words}
+use lib.Seq.{length-take-le}
+use Rattle.ledger.proofs.ReportLaws.{copied-taken}
 use Rattle.audit.proofs.ReplyLaws.{empty-table}
 use Rattle.report.specs.Report.{ReportedIs}
 use Rattle.report.specs.declared.Reported.{Reported}
+use Rattle.report.proofs.Replied.{filled-part}
 use Rattle.report.proofs.Ledgers.{same-list, empty-reply, full-reply}
 use native.Mathlib.Omega.{arith}
 use Rattle.report.proofs.report.Goals as goal
 
--- what came back of a working list with the caller's room
-over : (lent room n : ℕ) (ys : List ℕ) (count : ℕ) → room ≡ room_of lent → n ≡ work_words room → length ys ≡ length (take n work) →
-    count ≤ places_of (length (take n work)) → HandedOver lent n work ys count
-over lent room n ys count is words back counted = handed-over lent n work ys count (working lent room n is words) back counted
-
 -- what is reported of the blocks handed over
 reported : (im : List ℕ) (lent room n : ℕ) (ys zs addresses stored counts : List ℕ) (r : Reported) → room ≡ room_of lent → n ≡ work_words room →
     zs ≡ handed lent r.block_count ys →
-    ((m : ℕ) → room_of m ≡ places_of (length (take n work)) → ReportedIs im m (handed m r.block_count ys) addresses stored counts r) →
+    ((m : ℕ) → room_of m ≡ places_of (length (take n (work undefined_address))) → ReportedIs im m (handed m r.block_count ys) addresses stored counts r) →
     ReportedIs im lent zs addresses stored counts r
 reported im lent room n ys zs addresses stored counts r is words same h =
-    same-list im lent _ zs addresses stored counts r same (h lent (working lent room n is words).fit)
+    same-list im lent _ zs addresses stored counts r same (h lent (working lent room n undefined_address is words).fit)
 
 pub work_words-n-requires : goal.work_words-n-requires
-unfolding blocks_most
+unfolding blocks_most undefined_address
 work_words-n-requires c = omega (arith, c.room.ensures, room_most (length c.args.list.now))
 
 pub slice_bounds-work-end : goal.slice_bounds-work-end
-unfolding blocks_most
-slice_bounds-work-end c = (working (length c.args.list.now) _ _ c.room.ensures c.work_words-n.ensures).there
+unfolding blocks_most undefined_address
+slice_bounds-work-end c = (working (length c.args.list.now) _ _ undefined_address c.room.ensures c.work_words-n.ensures).there
 
-pub slice_bounds-report_into-end : goal.slice_bounds-report_into-end
-unfolding blocks_most
-slice_bounds-report_into-end c = sym (working (length c.args.list.now) _ _ c.room.ensures c.work_words-n.ensures).long
+pub slice_bounds-report_filled-end : goal.slice_bounds-report_filled-end
+unfolding blocks_most undefined_address
+slice_bounds-report_filled-end c = sym (working (length c.args.list.now) _ _ undefined_address c.room.ensures c.work_words-n.ensures).long
 
-pub report_into-r-requires : goal.report_into-r-requires
-unfolding objects_most
-report_into-r-requires c = record { addresses_empty = empty-table table_words (omega arith); stored_empty = refl; counts_empty = refl }
+pub report_filled-r-requires : goal.report_filled-r-requires
+unfolding objects_most blocks_most undefined_address
+report_filled-r-requires c =
+    let w = working (length c.args.list.now) _ _ undefined_address c.room.ensures c.work_words-n.ensures in
+    record {
+      lists = record { addresses_empty = empty-table table_words (omega arith); stored_empty = refl; counts_empty = refl };
+      filled = filled-part c.work_words-n.result (work_words blocks_most) undefined_address w.there;
+    }
 
 pub slice_bounds-hand_over-end : goal.slice_bounds-hand_over-end
-unfolding blocks_most
+unfolding blocks_most undefined_address
 slice_bounds-hand_over-end c =
     sym
-    (over (length c.args.list.now) _ _ _ _ c.room.ensures c.work_words-n.ensures c.report_into-r.auto.list c.report_into-r.ensures.block_count_bound).whole
+    (working-over (length c.args.list.now) _ _ undefined_address _ _ c.room.ensures c.work_words-n.ensures c.report_filled-r.auto.list c.report_filled-r.ensures.block_count_bound).whole
 
 pub hand_over-requires : goal.hand_over-requires
-unfolding blocks_most
+unfolding blocks_most undefined_address
 hand_over-requires c =
-    let o = over (length c.args.list.now) _ _ _ _ c.room.ensures c.work_words-n.ensures c.report_into-r.auto.list c.report_into-r.ensures.block_count_bound in
+    let o = working-over (length c.args.list.now) _ _ undefined_address _ _ c.room.ensures c.work_words-n.ensures c.report_filled-r.auto.list c.report_filled-r.ensures.block_count_bound in
     record { count_in_bounds = o.fits; count_in_bounds_2 = o.there }
 
 pub returns-then-objects-eq0 : goal.returns-then-objects-eq0
-unfolding blocks_most
+unfolding blocks_most undefined_address
 returns-then-objects-eq0 c =
-    let o = over (length c.args.list.now) _ _ _ _ c.room.ensures c.work_words-n.ensures c.report_into-r.auto.list c.report_into-r.ensures.block_count_bound in
-    empty-reply c.args.image.now _ _ _ _ _ c.report_into-r.result
-    (reported _ (length c.args.list.now) _ _ _ _ _ _ _ c.report_into-r.result c.room.ensures c.work_words-n.ensures (c.hand_over.ensures ∙ o.same)
-    c.report_into-r.ensures.by_index) c.empty.result c.if-objects-eq0.true c.empty.ensures
+    let o = working-over (length c.args.list.now) _ _ undefined_address _ _ c.room.ensures c.work_words-n.ensures c.report_filled-r.auto.list c.report_filled-r.ensures.block_count_bound in
+    empty-reply c.args.image.now _ _ _ _ _ c.report_filled-r.result
+    (reported _ (length c.args.list.now) _ _ _ _ _ _ _ c.report_filled-r.result c.room.ensures c.work_words-n.ensures (c.hand_over.ensures ∙ o.same)
+    c.report_filled-r.ensures.by_index) c.empty.result c.if-objects-eq0.true c.empty.ensures
+
+-- the objects have places
+placed : (im : List ℕ) (lent room n : ℕ) (ys addresses stored counts : List ℕ) (r : Reported) → room ≡ room_of lent → n ≡ work_words room →
+    ((m : ℕ) → room_of m ≡ places_of (length (take n (work undefined_address))) → ReportedIs im m (handed m r.block_count ys) addresses stored counts r) →
+    r.objects ≤ objects_most
+placed im lent room n ys addresses stored counts r is words h = (h lent (working lent room n undefined_address is words).fit).fits
+
+pub slice_bounds-objects_table-end : goal.slice_bounds-objects_table-end
+unfolding objects_most blocks_most undefined_address
+slice_bounds-objects_table-end c =
+    let fits = placed c.args.image.now (length c.args.list.now) _ _ _ _ _ _ _ c.room.ensures c.work_words-n.ensures c.report_filled-r.ensures.by_index in
+    omega (arith, fits, c.report_filled-r.auto.addresses)
+
+pub slice_bounds-copy_addresses-end : goal.slice_bounds-copy_addresses-end
+unfolding objects_most blocks_most undefined_address
+slice_bounds-copy_addresses-end c =
+    let r = c.report_filled-r in
+    let fits = placed c.args.image.now (length c.args.list.now) _ _ _ _ _ _ _ c.room.ensures c.work_words-n.ensures r.ensures.by_index in
+    sym (length-take-le r.result.objects r.new.addresses (omega (arith, fits, r.auto.addresses)))
 
 pub copy_addresses-requires : goal.copy_addresses-requires
-unfolding objects_most blocks_most
+unfolding objects_most blocks_most undefined_address
 copy_addresses-requires c =
-    let w = working (length c.args.list.now) _ _ c.room.ensures c.work_words-n.ensures in
-    let fits = (c.report_into-r.ensures.by_index (length c.args.list.now) w.fit).fits in
-    record {
-      objects_in_bounds = omega (arith, fits, c.report_into-r.auto.addresses);
-      objects_in_bounds_2 = omega (arith, fits);
-    }
+    let r = c.report_filled-r in
+    let fits = placed c.args.image.now (length c.args.list.now) _ _ _ _ _ _ _ c.room.ensures c.work_words-n.ensures r.ensures.by_index in
+    let all : length (take r.result.objects r.new.addresses) ≡ r.result.objects =
+    length-take-le r.result.objects r.new.addresses (omega (arith, fits, r.auto.addresses)) in
+    omega (arith, all, fits)
 
 pub returns : goal.returns
-unfolding objects_most blocks_most
+unfolding objects_most blocks_most undefined_address
 returns c =
-    let o = over (length c.args.list.now) _ _ _ _ c.room.ensures c.work_words-n.ensures c.report_into-r.auto.list c.report_into-r.ensures.block_count_bound in
-    full-reply c.args.image.now _ _ _ _ _ c.report_into-r.result
-    (reported _ (length c.args.list.now) _ _ _ _ _ _ _ c.report_into-r.result c.room.ensures c.work_words-n.ensures (c.hand_over.ensures ∙ o.same)
-    c.report_into-r.ensures.by_index) (omega (arith, c.if-objects-eq0.false)) _ _ refl c.copy_addresses.ensures
+    let n = length c.args.list.now in
+    let r = c.report_filled-r in
+    let o = working-over n _ _ undefined_address _ _ c.room.ensures c.work_words-n.ensures r.auto.list r.ensures.block_count_bound in
+    let fits = placed c.args.image.now n _ _ _ _ _ _ _ c.room.ensures c.work_words-n.ensures r.ensures.by_index in
+    let held : r.result.objects ≤ length r.new.addresses = omega (arith, fits, r.auto.addresses) in
+    let copied = copied-taken r.new.addresses r.result.objects held _ _ c.copy_addresses.ensures in
+    let some : 0 < r.result.objects = omega (arith, c.if-objects-eq0.false) in
+    full-reply c.args.image.now _ _ _ _ _ r.result
+    (reported _ n _ _ _ _ _ _ _ r.result c.room.ensures c.work_words-n.ensures (c.hand_over.ensures ∙ o.same) r.ensures.by_index) some _ _ refl copied

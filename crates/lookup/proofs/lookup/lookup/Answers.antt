@@ -13,14 +13,15 @@ work_words-n-requires c = omega (arith, c.room.ensures, room_most (length c.args
 
 pub slice_bounds-work-end : goal.slice_bounds-work-end
 unfolding blocks_most
-slice_bounds-work-end c = (working (length c.args.list.now) _ _ c.room.ensures c.work_words-n.ensures).there
+slice_bounds-work-end c = (working (length c.args.list.now) _ _ 0 c.room.ensures c.work_words-n.ensures).there
 
 pub slice_bounds-lookup_in-end : goal.slice_bounds-lookup_in-end
 unfolding blocks_most
-slice_bounds-lookup_in-end c = sym (working (length c.args.list.now) _ _ c.room.ensures c.work_words-n.ensures).long
+slice_bounds-lookup_in-end c = sym (working (length c.args.list.now) _ _ 0 c.room.ensures c.work_words-n.ensures).long
 
 pub returns : goal.returns
 unfolding blocks_most
 returns c =
-    rw (all-cleared c.args.list.now _ c.clear_from.ensures)
-    (c.lookup_in-r.ensures (length c.args.list.now) (working (length c.args.list.now) _ _ c.room.ensures c.work_words-n.ensures).fit)
+    let n = length c.args.list.now in
+    let w = working n _ _ 0 c.room.ensures c.work_words-n.ensures in
+    rw (all-cleared c.args.list.now _ c.clear_from.ensures) (c.lookup_in-found.ensures n w.fit)
