@@ -1,7 +1,7 @@
 -- The report with its ledger: an empty one where there are no objects, else the lists, with the addresses copied.
-use Prim.Native.Nat.{ℕ, ◌<◌}
+use Prim.Native.Nat.{ℕ, zero, suc, ◌<◌}
 use mathlib.Core.List.{List}
-use mathlib.Core.Path.{◌≡◌, ◌∙◌}
+use mathlib.Core.Path.{◌≡◌, refl, sym, subst, ◌∙◌}
 use native.Mathlib.Omega.{arith}
 use lib.ListN.{replicate}
 use Rattle.format.specs.Limits.{objects_most}
@@ -9,12 +9,9 @@ use Rattle.ledger.specs.Report.{counted_places, Empty, Copied}
 use Rattle.ledger.specs.declared.report.Ledger.{Ledger}
 use Rattle.ledger.proofs.ReportLaws.{empty-law, counted-copied}
 use Rattle.audit.proofs.ReplyLaws.{get_d-zeros}
-use Rattle.report.specs.Report.{ReportedIs, ReportIs}
+use Rattle.report.specs.Report.{ReportedIs, ReportIs, reply_with, LedgerOf}
 use Rattle.report.specs.declared.Reported.{Reported}
 use Rattle.report.specs.declared.Reply.{Reply}
-
-abbrev with_ledger : Reported → Ledger → Reply
-with_ledger r l = record { answer = r.answer; block_count = r.block_count; place = r.place; block = r.block; met = r.met; ledger = l }
 
 -- the list handed over is the one of which the report is known
 pub same-list : (im : List ℕ) (lent : ℕ) (ws ws' addresses stored counts : List ℕ) (r : Reported) → ws' ≡ ws →
@@ -22,7 +19,7 @@ pub same-list : (im : List ℕ) (lent : ℕ) (ws ws' addresses stored counts : L
 same-list im lent ws ws' addresses stored counts r e h = rw e h
 
 module _ (im : List ℕ) (lent : ℕ) (ws addresses stored counts : List ℕ) (r : Reported) (h : ReportedIs im lent ws addresses stored counts r) where
-  pub empty-reply : (l : Ledger) → r.objects ≡ 0 → Empty l → ReportIs im lent ws (with_ledger r l)
+  empty-reply : (l : Ledger) → r.objects ≡ 0 → Empty l → ReportIs im lent ws (reply_with r l)
   unfolding counted_places
   empty-reply l z e =
       let p = h.reply in
@@ -35,8 +32,8 @@ module _ (im : List ℕ) (lent : ℕ) (ws addresses stored counts : List ℕ) (r
       }
 
   -- the addresses are copied out of the table
-  pub full-reply : 0 < r.objects → (zeros copy : List ℕ) → zeros ≡ replicate objects_most 0 → Copied addresses zeros r.objects copy →
-      ReportIs im lent ws (with_ledger r (record { objects = r.objects; addresses = copy; stored = stored; true_counts = counts }))
+  full-reply : 0 < r.objects → (zeros copy : List ℕ) → zeros ≡ replicate objects_most 0 → Copied addresses zeros r.objects copy →
+      ReportIs im lent ws (reply_with r (record { objects = r.objects; addresses = copy; stored = stored; true_counts = counts }))
   full-reply z zeros copy e c = record {
     reply = rw (counted-copied addresses stored counts zeros copy r.objects c) h.reply;
     fits = h.fits;
@@ -44,3 +41,14 @@ module _ (im : List ℕ) (lent : ℕ) (ws addresses stored counts : List ℕ) (r
     stored_rest = h.stored_rest z;
     counts_rest = h.counts_rest z;
   }
+
+  -- one or the other
+  either : (n : ℕ) (l : Ledger) → r.objects ≡ n → LedgerOf r.objects addresses stored counts l → ReportIs im lent ws (reply_with r l)
+  either zero l e k = empty-reply l e (k.none e)
+  either (suc n) l e k =
+      let some : 0 < r.objects = omega (arith, e) in
+      let full = full-reply some (replicate objects_most 0) l.addresses refl (k.copied some) in
+      subst (λ (m : Ledger). ReportIs im lent ws (reply_with r m)) (sym (k.filled some)) full
+
+  pub reply-is : (x : Reply) → x ≡ reply_with r x.ledger → LedgerOf r.objects addresses stored counts x.ledger → ReportIs im lent ws x
+  reply-is x e k = subst (λ (y : Reply). ReportIs im lent ws y) (sym e) (either r.objects x.ledger refl k)

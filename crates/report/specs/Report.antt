@@ -1,5 +1,5 @@
 -- What the report returns and leaves, as the definition's reply.
-use Rattle.std.specs.Prelude.{ℕ, ◌≤◌, ◌<◌, List, [], ◌≡◌}
+use Rattle.std.specs.Prelude.{ℕ, ◌≤◌, ◌<◌, List, [], ◌≡◌, replicate}
 use Rattle.format.specs.Limits.{objects_most}
 use Rattle.format.specs.Blocks.{Block}
 use Rattle.format.specs.declared.Refusal.{Refusal}
@@ -8,7 +8,8 @@ use Rattle.format.specs.Audit.{audit_walk}
 use Rattle.format.specs.Report.{ListedBlock, damaged, damage_place, unopened_block, ReportReply, report_end, report}
 use Rattle.superblock.specs.Superblock.{superblock_of}
 use Rattle.superblock.specs.declared.Superblock.{Superblock}
-use Rattle.ledger.specs.Report.{counted_places, counted_of}
+use Rattle.ledger.specs.Report.{counted_places, counted_of, Empty, Copied}
+use Rattle.ledger.specs.declared.report.Ledger.{Ledger}
 use Rattle.audit.specs.Audit.{ZerosFrom}
 use Rattle.damaged_block.specs.Block.{listed_of}
 use Rattle.report.specs.declared.Reported.{Reported}
@@ -87,3 +88,13 @@ pub record ReportIs (im : List ℕ) (lent : ℕ) (ws : List ℕ) (r : Reply) : T
   pub addresses_rest : ZerosFrom r.ledger.objects r.ledger.addresses
   pub stored_rest : ZerosFrom r.ledger.objects r.ledger.stored
   pub counts_rest : ZerosFrom r.ledger.objects r.ledger.true_counts
+
+-- what is reported, with a ledger
+abbrev pub reply_with : Reported → Ledger → Reply
+reply_with r l = record { answer = r.answer; block_count = r.block_count; place = r.place; block = r.block; met = r.met; ledger = l }
+
+-- a ledger of the objects whose addresses stand at the head of a table, and an empty one where there is none
+pub record LedgerOf (objects : ℕ) (table stored counts : List ℕ) (l : Ledger) : Type 0 where
+  pub none : objects ≡ 0 → Empty l
+  pub filled : 0 < objects → l ≡ record { objects = objects; addresses = l.addresses; stored = stored; true_counts = counts }
+  pub copied : 0 < objects → Copied table (replicate objects_most 0) objects l.addresses

@@ -2,16 +2,17 @@
 #![tactic(auto)]
 
 ghost use Rattle.std.specs.Prelude.{◌≡◌, ℕ, ◌*◌, ◌≤◌, length, take, replicate};
+ghost use Rattle.format.specs.Limits.{objects_most};
 ghost use Rattle.format.specs.Bytes.{undefined_address};
 ghost use Rattle.format.specs.Blocks.{no_object, block_words, room_of};
 ghost use Rattle.walk.specs.Lent.{blocks_of, places_of, handed};
 ghost use Rattle.object.specs.Object.{Bounded};
 ghost use Rattle.audit.specs.Audit.{Lists};
-ghost use Rattle.report.specs.Report.{fields_of, refused_fields, unopened_fields, ReportedOpened, ReportedIs, ReportIs};
+ghost use Rattle.report.specs.Report.{reply_with, LedgerOf, fields_of, refused_fields, unopened_fields, ReportedOpened, ReportedIs, ReportIs};
 
 use damaged_block::block::{ListedBlock, damage_place, damaged, no_block, superblock_head};
 use damaged_block::entered::{count_entered, fill_undefined};
-use format::{OBJECTS_MOST, Refusal, answers, met_of, number_of};
+use format::{Refusal, answers, met_of, number_of};
 use ledger::report::{Ledger, copy_addresses, empty, read_stored};
 use ledger::search::TABLE_WORDS;
 use superblock::Superblock;
@@ -148,53 +149,55 @@ pub struct Reply {
     pub ledger: Ledger,
 }
 
+// Makes a reply that of what is reported. Its ledger has the counts that the walk left, and gets the addresses at the head of the table; where no object
+// is reported, it is cleared.
+fn settle(reply: &mut Reply, reported: Reported, table: &[u64])
+    requires objects_in_bounds { reported.objects ≤ length table.now }
+    requires objects_le_objects_most { reported.objects ≤ objects_most }
+    requires none { reply.old.ledger.objects ≡ 0 }
+    requires zeros { reply.old.ledger.addresses ≡ replicate objects_most 0 }
+    ensures fields { reply.new ≡ reply_with reported reply.new.ledger }
+    ensures ledger { LedgerOf reported.objects table.now reply.old.ledger.stored reply.old.ledger.true_counts reply.new.ledger }
+{
+    let objects = reported.objects;
+    reply.answer = reported.answer;
+    reply.block_count = reported.block_count;
+    reply.place = reported.place;
+    reply.block = reported.block;
+    reply.met = reported.met;
+    if objects == 0 {
+        reply.ledger.stored.fill(0);
+        reply.ledger.true_counts.fill(0);
+        return;
+    }
+    copy_addresses(&table[..objects], &mut reply.ledger.addresses);
+    reply.ledger.objects = objects;
+}
+
 // The report of an image. The list is lent for the blocks, four words a block, and has them at the end, also those before a fault.
 // One function for such calls would take this one as a closure, and a trait for the count of its blocks: no plainer than these lines.
 pub fn report(image: &[u8], list: &mut [u64]) -> Reply
     ensures { ReportIs image.now (length list.old) list.new result }
 {
     let mut objects_table = [0u64; TABLE_WORDS];
-    let mut stored = [0u32; OBJECTS_MOST];
-    let mut true_counts = [0u32; OBJECTS_MOST];
     let mut work = [UNDEFINED_ADDRESS; WORK_WORDS];
     let n = blocks::work_words(blocks::room(list.len()));
+    let mut reply = Reply {
+        answer: 0,
+        block_count: 0,
+        place: 0,
+        block: no_block(),
+        met: 0,
+        ledger: empty(),
+    };
     let r = report_filled(
         image,
         &mut work[..n],
         &mut objects_table,
-        &mut stored,
-        &mut true_counts,
+        &mut reply.ledger.stored,
+        &mut reply.ledger.true_counts,
     );
     blocks::hand_over(list, &work, r.block_count);
-    let answer = r.answer;
-    let block_count = r.block_count;
-    let place = r.place;
-    let block = r.block;
-    let met = r.met;
-    let objects = r.objects;
-    if objects == 0 {
-        return Reply {
-            answer,
-            block_count,
-            place,
-            block,
-            met,
-            ledger: empty(),
-        };
-    }
-    let mut addresses = [0u64; OBJECTS_MOST];
-    copy_addresses(&objects_table[..objects], &mut addresses);
-    Reply {
-        answer,
-        block_count,
-        place,
-        block,
-        met,
-        ledger: Ledger {
-            objects,
-            addresses,
-            stored,
-            true_counts,
-        },
-    }
+    settle(&mut reply, r, &objects_table);
+    reply
 }

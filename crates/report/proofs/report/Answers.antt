@@ -1,4 +1,4 @@
--- Arrays of zeros are empty lists; the blocks are handed over; a file without objects is given an empty ledger, and else the addresses are copied.
+-- Arrays of zeros are empty lists; the blocks are handed over, and the reply has its ledger.
 use Prim.Native.Nat.{ℕ, ◌≤◌, ◌<◌}
 use mathlib.Core.List.{List}
 use mathlib.Core.Path.{◌≡◌, refl, sym, ◌∙◌}
@@ -10,13 +10,11 @@ use Rattle.walk.specs.Lent.{places_of, handed, work_words}
 use Rattle.walk.proofs.BlockList.{room_most}
 use Rattle.walk.proofs.Handed.{work, working, working-over}
 use Rattle.ledger.specs.Index.{table_words}
-use lib.Seq.{length-take-le}
-use Rattle.ledger.proofs.ReportLaws.{copied-taken}
 use Rattle.audit.proofs.ReplyLaws.{empty-table}
 use Rattle.report.specs.Report.{ReportedIs}
 use Rattle.report.specs.declared.Reported.{Reported}
 use Rattle.report.proofs.Replied.{filled-part}
-use Rattle.report.proofs.Ledgers.{same-list, empty-reply, full-reply}
+use Rattle.report.proofs.Ledgers.{same-list, reply-is}
 use native.Mathlib.Omega.{arith}
 use Rattle.report.proofs.report.Goals as goal
 
@@ -45,7 +43,7 @@ unfolding objects_most blocks_most undefined_address
 report_filled-r-requires c =
     let w = working (length c.args.list.now) _ _ undefined_address c.room.ensures c.work_words-n.ensures in
     record {
-      lists = record { addresses_empty = empty-table table_words (omega arith); stored_empty = refl; counts_empty = refl };
+      lists = record { addresses_empty = empty-table table_words (omega arith); stored_empty = c.empty.ensures.stored_zero; counts_empty = c.empty.ensures.counts_zero };
       filled = filled-part c.work_words-n.result (work_words blocks_most) undefined_address w.there;
     }
 
@@ -61,41 +59,23 @@ hand_over-requires c =
     let o = working-over (length c.args.list.now) _ _ undefined_address _ _ c.room.ensures c.work_words-n.ensures c.report_filled-r.auto.list c.report_filled-r.ensures.block_count_bound in
     record { count_in_bounds = o.fits; count_in_bounds_2 = o.there }
 
-pub returns-then-objects-eq0 : goal.returns-then-objects-eq0
-unfolding blocks_most undefined_address
-returns-then-objects-eq0 c =
-    let o = working-over (length c.args.list.now) _ _ undefined_address _ _ c.room.ensures c.work_words-n.ensures c.report_filled-r.auto.list c.report_filled-r.ensures.block_count_bound in
-    empty-reply c.args.image.now _ _ _ _ _ c.report_filled-r.result
-    (reported _ (length c.args.list.now) _ _ _ _ _ _ _ c.report_filled-r.result c.room.ensures c.work_words-n.ensures (c.hand_over.ensures ∙ o.same)
-    c.report_filled-r.ensures.by_index) c.empty.result c.if-objects-eq0.true c.empty.ensures
-
 -- the objects have places
 placed : (im : List ℕ) (lent room n : ℕ) (ys addresses stored counts : List ℕ) (r : Reported) → room ≡ room_of lent → n ≡ work_words room →
     ((m : ℕ) → room_of m ≡ places_of (length (take n (work undefined_address))) → ReportedIs im m (handed m r.block_count ys) addresses stored counts r) →
     r.objects ≤ objects_most
 placed im lent room n ys addresses stored counts r is words h = (h lent (working lent room n undefined_address is words).fit).fits
 
-pub slice_bounds-objects_table-end : goal.slice_bounds-objects_table-end
+pub settle-requires : goal.settle-requires
 unfolding objects_most blocks_most undefined_address
-slice_bounds-objects_table-end c =
-    let fits = placed c.args.image.now (length c.args.list.now) _ _ _ _ _ _ _ c.room.ensures c.work_words-n.ensures c.report_filled-r.ensures.by_index in
-    omega (arith, fits, c.report_filled-r.auto.addresses)
-
-pub slice_bounds-copy_addresses-end : goal.slice_bounds-copy_addresses-end
-unfolding objects_most blocks_most undefined_address
-slice_bounds-copy_addresses-end c =
+settle-requires c =
     let r = c.report_filled-r in
     let fits = placed c.args.image.now (length c.args.list.now) _ _ _ _ _ _ _ c.room.ensures c.work_words-n.ensures r.ensures.by_index in
-    sym (length-take-le r.result.objects r.new.addresses (omega (arith, fits, r.auto.addresses)))
-
-pub copy_addresses-requires : goal.copy_addresses-requires
-unfolding objects_most blocks_most undefined_address
-copy_addresses-requires c =
-    let r = c.report_filled-r in
-    let fits = placed c.args.image.now (length c.args.list.now) _ _ _ _ _ _ _ c.room.ensures c.work_words-n.ensures r.ensures.by_index in
-    let all : length (take r.result.objects r.new.addresses) ≡ r.result.objects =
-    length-take-le r.result.objects r.new.addresses (omega (arith, fits, r.auto.addresses)) in
-    omega (arith, all, fits)
+    record {
+      objects_in_bounds = omega (arith, fits, r.auto.addresses);
+      objects_le_objects_most = fits;
+      none = c.empty.ensures.none;
+      zeros = c.empty.ensures.addresses_zero;
+    }
 
 pub returns : goal.returns
 unfolding objects_most blocks_most undefined_address
@@ -103,9 +83,5 @@ returns c =
     let n = length c.args.list.now in
     let r = c.report_filled-r in
     let o = working-over n _ _ undefined_address _ _ c.room.ensures c.work_words-n.ensures r.auto.list r.ensures.block_count_bound in
-    let fits = placed c.args.image.now n _ _ _ _ _ _ _ c.room.ensures c.work_words-n.ensures r.ensures.by_index in
-    let held : r.result.objects ≤ length r.new.addresses = omega (arith, fits, r.auto.addresses) in
-    let copied = copied-taken r.new.addresses r.result.objects held _ _ c.copy_addresses.ensures in
-    let some : 0 < r.result.objects = omega (arith, c.if-objects-eq0.false) in
-    full-reply c.args.image.now _ _ _ _ _ r.result
-    (reported _ n _ _ _ _ _ _ _ r.result c.room.ensures c.work_words-n.ensures (c.hand_over.ensures ∙ o.same) r.ensures.by_index) some _ _ refl copied
+    let h = reported _ n _ _ _ _ _ _ _ r.result c.room.ensures c.work_words-n.ensures (c.hand_over.ensures ∙ o.same) r.ensures.by_index in
+    reply-is c.args.image.now _ _ _ _ _ r.result h c.settle.new.reply c.settle.ensures.fields c.settle.ensures.ledger
