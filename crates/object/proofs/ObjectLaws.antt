@@ -294,3 +294,33 @@ module _ (im : List ℕ) (s : superblocks.Superblock) (room : ℕ) (ws addresses
         walked = returned (at-kind committed n addresses₁ counts₁ marks₁ objects₁ same h);
         listed = listed-less (kind-listed committed n addresses₁ counts₁ marks₁ objects₁ same h left c) 0 (omega arith);
       }
+
+-- Behind a header that was read, of an object that is no committed datatype: its kind is known, then its contents are walked.
+module _ (im : List ℕ) (s : superblocks.Superblock) (room : ℕ) (ws addresses counts marks : List ℕ) (count objects i at : ℕ) {spare : ℕ}
+    (y : Listed ws addresses counts marks s.end_of_file room count objects spare) (o : Object) (n : ℕ) (ws₁ addresses₁ counts₁ marks₁ : List ℕ) (objects₁ : ℕ)
+    (same : length ws₁ ≡ length ws)
+    (h : Walked ws ws₁ (ended (record { object = o; found = found_of addresses₁ counts₁ marks₁ objects₁ }) n)
+    (run im s.end_of_file room (header_with discover_sharing at (found_of addresses counts marks objects)) (blocks_of count ws)))
+    (c : Counting addresses₁ counts₁ marks₁ objects₁ s.end_of_file (blocks_of n ws₁) 16) where
+  listed : Listed ws₁ addresses₁ counts₁ marks₁ s.end_of_file room n objects₁ 16
+  listed = kind-listed im s room ws addresses counts marks count objects y i at ws₁ o n addresses₁ counts₁ marks₁ objects₁ same h 16 c
+
+  pub known-listed : (left : ℕ) (marks₂ : List ℕ) → left ≤ 16 → length marks₂ ≡ length marks₁ →
+      Listed ws₁ addresses₁ counts₁ marks₂ s.end_of_file room n objects₁ left
+  known-listed left marks₂ l e = listed-marked (listed-less listed left l) e
+
+  module _ (e : known i o (found_of addresses₁ counts₁ marks₁ objects₁) ≡ not_committed i (found_of addresses₁ counts₁ marks₁ objects₁)) (marks₂ : List ℕ) where
+    behind : (ws₂ addresses₂ counts₂ marks₂ : List ℕ) (r : Result ObjectRead Refusal) →
+        FoundWalked im ws₁ addresses₁ counts₁ marks₁ s room (behind_header s i at o) n objects₁ ws₂ addresses₂ counts₂ marks₂ r →
+        FoundWalked im ws addresses counts marks s room (object_walk (superblock_of s) i at) count objects ws₂ addresses₂ counts₂ marks₂ r
+    behind = kind-read im s room ws addresses counts marks count objects y i at ws₁ o n addresses₁ counts₁ marks₁ objects₁ same h
+
+    pub known-refused : KindKnown marks₁ i marks₂ false →
+        FoundWalked im ws addresses counts marks s room (object_walk (superblock_of s) i at) count objects ws₁ addresses₁ counts₁ marks₂ (Err (fault 10 at))
+    known-refused k = behind _ _ _ _ _ (shared-before im s room ws₁ addresses₁ counts₁ marks₁ n objects₁ listed i at o e marks₂ k)
+
+    pub known-read : KindKnown marks₁ i marks₂ true → (ws₂ addresses₂ counts₂ marks₃ : List ℕ) (r : Result ObjectRead Refusal) →
+        FoundWalked im ws₁ addresses₁ counts₁ marks₂ s room (content_walk (superblock_of s) o) n objects₁ ws₂ addresses₂ counts₂ marks₃ r →
+        FoundWalked im ws addresses counts marks s room (object_walk (superblock_of s) i at) count objects ws₂ addresses₂ counts₂ marks₃ r
+    known-read k ws₂ addresses₂ counts₂ marks₃ r w =
+        behind _ _ _ _ _ (not-shared im s room ws₁ addresses₁ counts₁ marks₁ n objects₁ listed i at o e marks₂ k ws₂ addresses₂ counts₂ marks₃ r w)

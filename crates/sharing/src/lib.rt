@@ -1,5 +1,6 @@
 // Sharings: what an attribute or a dataset shares is counted as an object, and a mark of each object says what is known of
-// it. The marks stand beside the table of objects, in the same order.
+// it. The marks stand beside the table of objects, in the same order. At a header's messages the audit discovers sharings, and
+// a lookup does nothing.
 #![tactic(auto)]
 
 ghost use Rattle.std.specs.Prelude.{ℕ, ◌<◌, ◌≡◌, List, length, OnOk};
@@ -19,8 +20,8 @@ use format::answers;
 use ledger::search;
 use ledger::table::Objects;
 
-// The marks are numbers, as the definition of what an audit has found has them: a list of bytes is lent for them.
-// A sharing gave the object's address.
+// A sharing gave the object's address. The marks stay numbers: the definition `Found` has a list of numbers, and a list of
+// bytes is lent for them.
 pub const SHARED: u8 = 1;
 
 // The object's kind is known, and it isn't a committed datatype.
@@ -86,9 +87,10 @@ impl Found<'_, '_> {
     }
 }
 
-// What is done at a message of a header that has passed its checks, with what was found so far.
+// What is done at a message of a header that has passed its checks, with what was found so far. The header's reader knows no
+// more of it than these clauses and laws.
 pub trait Visit {
-    // What was found, as the definitions have it.
+    // What was found so far, as the definitions have it.
     ghost State: { Type 0 };
 
     ghost state: { Self → State };

@@ -1,7 +1,7 @@
 -- The header, then what stands behind it by its kind.
 use mathlib.Core.Path.{refl}
 use Rattle.format.specs.Header.{group, dataset}
-use Rattle.object.proofs.ObjectLaws.{listed-less, listed-marked, shared-before, not-shared, header-stopped, committed-read, kind-listed, kind-read}
+use Rattle.object.proofs.ObjectLaws.{header-stopped, committed-read, known-listed, known-refused, known-read}
 use native.Mathlib.Omega.{arith}
 use Rattle.std.proofs.lemmas.Result.{err_from_is_err_and}
 use Rattle.object.proofs.object.read.Goals as goal
@@ -29,58 +29,46 @@ pub read_dataset-requires-clause-listed : goal.read_dataset-requires-clause-list
 read_dataset-requires-clause-listed c =
     let headed = rw (c.bounds.ensures, c.in-Dataset.is) at c.in_ok-header.ensures.headed in
     let counting = rw c.bounds.ensures at c.in_ok-header.ensures.counting_on in
-    let listed = kind-listed _ c.args.file.superblock _ _ _ _ _ _ _ c.requires.listed c.args.i _ _ _ _ _ _ _ _ c.read_with.ensures.kept.long
-    headed.walked 16 counting in
-    rw c.known.ensures.objects (listed-marked (listed-less listed 1 (omega arith)) c.in_ok-known-in-Dataset.ensures.known.marks_same)
+    rw c.known.ensures.objects
+    (known-listed _ c.args.file.superblock _ _ _ _ _ _ _ c.args.i _ c.requires.listed _ _ _ _ _ _ _ c.read_with.ensures.kept.long headed.walked counting
+    1 _ (omega arith) c.in_ok-known-in-Dataset.ensures.known.marks_same)
 
 pub returns-in_err-known-in-Dataset-clause-walked : goal.returns-in_err-known-in-Dataset-clause-walked
 returns-in_err-known-in-Dataset-clause-walked c =
     let headed = rw (c.bounds.ensures, c.in-Dataset.is) at c.in_ok-header.ensures.headed in
     let counting = rw c.bounds.ensures at c.in_ok-header.ensures.counting_on in
-    let listed = kind-listed _ c.args.file.superblock _ _ _ _ _ _ _ c.requires.listed c.args.i _ _ _ _ _ _ _ _ c.read_with.ensures.kept.long
-    headed.walked 16 counting in
     let p = err_from_is_err_and c.from_residual-in_err-known-in-Dataset.result c.from_residual-in_err-known-in-Dataset.ensures.1 in
     let shared = c.in_err-known-in-Dataset.ensures.known in
     rw (p.1, p.2, shared.1, c.known.ensures.objects)
-    (kind-read _ c.args.file.superblock _ _ _ _ _ _ _ c.requires.listed _ _ _ _ _ _ _ _ _ c.read_with.ensures.kept.long headed.walked _ _ _ _ _
-    (shared-before _ c.args.file.superblock _ _ _ _ _ _ _ listed _ _ (dataset _ _ _) refl _ shared.0))
+    (known-refused _ c.args.file.superblock _ _ _ _ _ _ _ _ _ c.requires.listed _ _ _ _ _ _ _ c.read_with.ensures.kept.long headed.walked counting refl _ shared.0)
 
 pub returns-in_ok-known-in-Dataset-clause-walked : goal.returns-in_ok-known-in-Dataset-clause-walked
 returns-in_ok-known-in-Dataset-clause-walked c =
     let headed = rw (c.bounds.ensures, c.in-Dataset.is) at c.in_ok-header.ensures.headed in
     let counting = rw c.bounds.ensures at c.in_ok-header.ensures.counting_on in
-    let listed = kind-listed _ c.args.file.superblock _ _ _ _ _ _ _ c.requires.listed c.args.i _ _ _ _ _ _ _ _ c.read_with.ensures.kept.long
-    headed.walked 16 counting in
-    kind-read _ c.args.file.superblock _ _ _ _ _ _ _ c.requires.listed _ _ _ _ _ _ _ _ _ c.read_with.ensures.kept.long headed.walked _ _ _ _ _
-    (not-shared _ c.args.file.superblock _ _ _ _ _ _ _ listed _ _ (dataset _ _ _) refl _ c.in_ok-known-in-Dataset.ensures.known _ _ _ _ _
-    (rw c.known.ensures.objects at c.read_dataset.ensures.walked))
+    known-read _ c.args.file.superblock _ _ _ _ _ _ _ _ _ c.requires.listed _ _ _ _ _ _ _ c.read_with.ensures.kept.long headed.walked counting refl _
+    c.in_ok-known-in-Dataset.ensures.known _ _ _ _ _ (rw c.known.ensures.objects at c.read_dataset.ensures.walked)
 
 pub read_group-requires-clause-listed : goal.read_group-requires-clause-listed
 read_group-requires-clause-listed c =
     let headed = rw (c.bounds.ensures, c.in-Group.is) at c.in_ok-header.ensures.headed in
     let counting = rw c.bounds.ensures at c.in_ok-header.ensures.counting_on in
-    let listed = kind-listed _ c.args.file.superblock _ _ _ _ _ _ _ c.requires.listed c.args.i _ _ _ _ _ _ _ _ c.read_with.ensures.kept.long
-    headed.walked 16 counting in
-    rw c.known-in-Group.ensures.objects (listed-marked (listed-less listed 0 (omega arith)) c.in_ok-known-in-Group.ensures.known.marks_same)
+    rw c.known-in-Group.ensures.objects
+    (known-listed _ c.args.file.superblock _ _ _ _ _ _ _ c.args.i _ c.requires.listed _ _ _ _ _ _ _ c.read_with.ensures.kept.long headed.walked counting
+    0 _ (omega arith) c.in_ok-known-in-Group.ensures.known.marks_same)
 
 pub returns-in_err-known-in-Group-clause-walked : goal.returns-in_err-known-in-Group-clause-walked
 returns-in_err-known-in-Group-clause-walked c =
     let headed = rw (c.bounds.ensures, c.in-Group.is) at c.in_ok-header.ensures.headed in
     let counting = rw c.bounds.ensures at c.in_ok-header.ensures.counting_on in
-    let listed = kind-listed _ c.args.file.superblock _ _ _ _ _ _ _ c.requires.listed c.args.i _ _ _ _ _ _ _ _ c.read_with.ensures.kept.long
-    headed.walked 16 counting in
     let p = err_from_is_err_and c.from_residual-in_err-known-in-Group.result c.from_residual-in_err-known-in-Group.ensures.1 in
     let shared = c.in_err-known-in-Group.ensures.known in
     rw (p.1, p.2, shared.1, c.known-in-Group.ensures.objects)
-    (kind-read _ c.args.file.superblock _ _ _ _ _ _ _ c.requires.listed _ _ _ _ _ _ _ _ _ c.read_with.ensures.kept.long headed.walked _ _ _ _ _
-    (shared-before _ c.args.file.superblock _ _ _ _ _ _ _ listed _ _ (group _ _) refl _ shared.0))
+    (known-refused _ c.args.file.superblock _ _ _ _ _ _ _ _ _ c.requires.listed _ _ _ _ _ _ _ c.read_with.ensures.kept.long headed.walked counting refl _ shared.0)
 
 pub returns-in_ok-known-in-Group-clause-walked : goal.returns-in_ok-known-in-Group-clause-walked
 returns-in_ok-known-in-Group-clause-walked c =
     let headed = rw (c.bounds.ensures, c.in-Group.is) at c.in_ok-header.ensures.headed in
     let counting = rw c.bounds.ensures at c.in_ok-header.ensures.counting_on in
-    let listed = kind-listed _ c.args.file.superblock _ _ _ _ _ _ _ c.requires.listed c.args.i _ _ _ _ _ _ _ _ c.read_with.ensures.kept.long
-    headed.walked 16 counting in
-    kind-read _ c.args.file.superblock _ _ _ _ _ _ _ c.requires.listed _ _ _ _ _ _ _ _ _ c.read_with.ensures.kept.long headed.walked _ _ _ _ _
-    (not-shared _ c.args.file.superblock _ _ _ _ _ _ _ listed _ _ (group _ _) refl _ c.in_ok-known-in-Group.ensures.known _ _ _ _ _
-    (rw c.known-in-Group.ensures.objects at c.read_group.ensures.walked))
+    known-read _ c.args.file.superblock _ _ _ _ _ _ _ _ _ c.requires.listed _ _ _ _ _ _ _ c.read_with.ensures.kept.long headed.walked counting refl _
+    c.in_ok-known-in-Group.ensures.known _ _ _ _ _ (rw c.known-in-Group.ensures.objects at c.read_group.ensures.walked)
