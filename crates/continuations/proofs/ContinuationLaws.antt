@@ -23,10 +23,9 @@ use Rattle.walk.proofs.Parts.{part-part}
 use Rattle.laws.proofs.Bind.{bind_assoc}
 use Rattle.laws.proofs.Simulation.{Simulation, same-walk, returned, callee-stopped, callee-done}
 use Rattle.tally.specs.Tally.{message_at, Tallied}
-use Rattle.sharing.specs.Sharing.{found_of, visit_message}
-use Rattle.scan.specs.Scan.{Gathering, Holds, TalliedWith, NextIs}
+use Rattle.scan.specs.Scan.{Holds, TalliedWith, NextIs}
 use Rattle.continuations.specs.Continuations.{Later, blocks_from, block_walk, NewBlock, Waiting, Next, Sought}
-use Rattle.continuations.specs.Counting.{CountingIf, Lending}
+use Rattle.continuations.specs.Lending.{Lending}
 use Rattle.tally.specs.declared.Tally.{Tally}
 use Rattle.continuations.specs.declared.Reading.{Reading}
 use Rattle.continuations.specs.declared.Cursor.{Cursor}
@@ -220,24 +219,20 @@ module _ {S : Type 0} (visit : Message → S → Result S) (im : List ℕ) (eof 
 pub same_words-then : (b c d : Blocks) → SameWords b c → SameWords c d → SameWords b d
 same_words-then b c d s t = record { same = t.same ∙ s.same; long = t.long ∙ s.long }
 
--- The loop in the lists that were lent and are now ws, a, c, m: what it has come to, for all that it may have been begun with.
-pub record Loop (im ws₀ a₀ c₀ m₀ : List ℕ) (q : Reading) (count : ℕ) (g₀ : Gathering) (k₀ : Cursor) (ws a c m : List ℕ) (n : ℕ) (g : Gathering) (k : Cursor) :
-    Type 0 where
+-- The loop in the lists that were lent: what it has come to, for all that it may have been begun with.
+pub record Loop {S : Type 0} (visit : Message → S → Result S) (im ws₀ : List ℕ) (q : Reading) (count : ℕ) (found₀ : S) (t₀ : Tally) (k₀ : Cursor)
+    (ws : List ℕ) (n : ℕ) (found : S) (t : Tally) (k : Cursor) : Type 0 where
   pub going : (fuel : ℕ) (waiting sofar : List Message) → blocks_most < count + fuel → Lent ws₀ count q.bounds.room → Sought im ws₀ count k₀ waiting →
-      Tallied im sofar g₀.tally →
-      Following (visit_message q.auditing) im q.bounds.end_of_file q.bounds.room
-      (continuations (visit_message q.auditing) fuel waiting (gathered sofar (found_of a₀ c₀ m₀ g₀.objects))) count ws₀ k g.tally
-      (found_of a c m g.objects) n ws
-  pub counting : CountingIf q.auditing ws a c m q.bounds.end_of_file n g.objects 16
+      Tallied im sofar t₀ →
+      Following visit im q.bounds.end_of_file q.bounds.room (continuations visit fuel waiting (gathered sofar found₀)) count ws₀ k t found n ws
 
 -- what is known in the loop, by what it was begun with
-module _ {im ws₀ a₀ c₀ m₀ : List ℕ} {q : Reading} {count : ℕ} {g₀ : Gathering} {k₀ : Cursor} {ws a c m : List ℕ} {n : ℕ} {g : Gathering} {k : Cursor}
-    (r : Loop im ws₀ a₀ c₀ m₀ q count g₀ k₀ ws a c m n g k) (p : Lending im ws₀ a₀ c₀ m₀ q count g₀.objects 16) {waiting sofar : List Message}
-    (o : Sought im ws₀ count k₀ waiting) (t : Tallied im sofar g₀.tally) where
-  pub loop-now : Following (visit_message q.auditing) im q.bounds.end_of_file q.bounds.room
-      (continuations (visit_message q.auditing) (blocks_most + 1) waiting (gathered sofar (found_of a₀ c₀ m₀ g₀.objects))) count ws₀ k g.tally
-      (found_of a c m g.objects) n ws
-  loop-now = r.going (blocks_most + 1) waiting sofar (omega arith) p.lent o t
+module _ {S : Type 0} {visit : Message → S → Result S} {im ws₀ : List ℕ} {q : Reading} {count : ℕ} {found₀ : S} {t₀ : Tally} {k₀ : Cursor} {ws : List ℕ} {n : ℕ}
+    {found : S} {t : Tally} {k : Cursor} (r : Loop visit im ws₀ q count found₀ t₀ k₀ ws n found t k) (p : Lending im ws₀ q count)
+    {waiting sofar : List Message} (o : Sought im ws₀ count k₀ waiting) (y : Tallied im sofar t₀) where
+  pub loop-now : Following visit im q.bounds.end_of_file q.bounds.room (continuations visit (blocks_most + 1) waiting (gathered sofar found₀)) count ws₀ k t found
+      n ws
+  loop-now = r.going (blocks_most + 1) waiting sofar (omega arith) p.lent o y
 
   pub loop-inside : k.at < k.end → (k.at + 8 + u16 im (k.at + 2) ≤ length im) × (16 ≤ u16 im (k.at + 2))
   loop-inside l = message-inside _ _ _ _ _ _ _ _ _ _ _ _ p.most loop-now l

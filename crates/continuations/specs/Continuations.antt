@@ -7,20 +7,17 @@ use Rattle.format.specs.declared.Refusal.{Refusal}
 use Rattle.format.specs.Walk.{Walk, kind_number, enter_block, continuation_block, run, ◌>>=◌}
 use Rattle.format.specs.Message.{Message, of_type}
 use Rattle.format.specs.Header.{Gathered, messages}
-use Rattle.format.specs.Sharing.{Found}
 use Rattle.walk.specs.Lent.{blocks_of, ended, stopped, Walked}
 use Rattle.tally.specs.Tally.{message_at, Tallied}
-use Rattle.sharing.specs.Sharing.{found_of, visit_message}
-use Rattle.scan.specs.Scan.{Gathering, gathering, Holds, TalliedWith}
-use Rattle.continuations.specs.Counting.{CountingIf}
+use Rattle.scan.specs.Scan.{Holds, TalliedWith}
 use Rattle.tally.specs.declared.Tally.{Tally}
 use Rattle.continuations.specs.declared.Reading.{Reading}
 use Rattle.continuations.specs.declared.Cursor.{Cursor}
 
--- a tally, with the numbers of objects then found and of blocks then entered
-abbrev pub with_counts : Result Tally Refusal → (objects count : ℕ) → Result (Gathering × ℕ) Refusal
-with_counts (Ok t) objects count = Ok (gathering t objects, count)
-with_counts (Err r) objects count = Err r
+-- a tally, with the number of blocks then entered
+abbrev pub with_blocks : Result Tally Refusal → ℕ → Result (Tally × ℕ) Refusal
+with_blocks (Ok t) count = Ok (t, count)
+with_blocks (Err r) count = Err r
 
 -- the continuation messages that continuation blocks hold, one block after the other
 abbrev pub Later : List ℕ → List Block → List Message → Type 0
@@ -66,37 +63,25 @@ pub record NewBlock (im ws : List ℕ) (count address size : ℕ) (ws' : List �
   pub counted : n ≡ count + 1
 
 -- a walk of messages was run: all messages with their tally and what was found with them, or the refusal
-abbrev pub GatheredIs : List ℕ → Reading → List ℕ → ℕ → Walk (Gathered Found) → List ℕ → List ℕ → List ℕ → List ℕ →
-    Result (Gathering × ℕ) Refusal → Type 0
-GatheredIs im q ws count w ws' addresses' counts' marks' (Ok g) =
+abbrev pub GatheredIs : {S : Type 0} → List ℕ → Reading → List ℕ → ℕ → Walk (Gathered S) → List ℕ → S → Result (Tally × ℕ) Refusal → Type 0
+GatheredIs im q ws count w ws' found' (Ok g) =
     (all : List Message)
-    × Walked ws ws' (ended (record { all = all; found = found_of addresses' counts' marks' g.0.objects }) g.1)
-    (run im q.bounds.end_of_file q.bounds.room w (blocks_of count ws))
-    × Tallied im all g.0.tally
-GatheredIs im q ws count w ws' addresses' counts' marks' (Err r) = Walked ws ws' (stopped r) (run im q.bounds.end_of_file q.bounds.room w (blocks_of count ws))
-
--- what is counted is still bounded
-abbrev pub CountingOn : Reading → List ℕ → List ℕ → List ℕ → List ℕ →
-    Result (Gathering × ℕ) Refusal → Type 0
-CountingOn q ws addresses counts marks (Ok g) = CountingIf q.auditing ws addresses counts marks q.bounds.end_of_file g.1 g.0.objects 16
-CountingOn q ws addresses counts marks (Err r) = Unit {0}
+    × Walked ws ws' (ended (record { all = all; found = found' }) g.1) (run im q.bounds.end_of_file q.bounds.room w (blocks_of count ws))
+    × Tallied im all g.0
+GatheredIs im q ws count w ws' found' (Err r) = Walked ws ws' (stopped r) (run im q.bounds.end_of_file q.bounds.room w (blocks_of count ws))
 
 -- a continuation was read
-pub record BlockDone (im ws addresses counts marks : List ℕ) (q : Reading) (count address size : ℕ) (g : Gathering) (ws' addresses' counts' marks' : List ℕ)
-    (g' : Gathering) (n : ℕ) : Type 0 where
+pub record BlockDone {S : Type 0} (visit : Message → S → reader.Result S) (im ws : List ℕ) (q : Reading) (count address size : ℕ) (found : S) (t : Tally)
+    (ws' : List ℕ) (found' : S) (t' : Tally) (n : ℕ) : Type 0 where
   pub new : List Message
-  pub walked : Walked ws ws' (ended (record { all = new; found = found_of addresses' counts' marks' g'.objects }) n)
-      (run im q.bounds.end_of_file q.bounds.room (block_walk (visit_message q.auditing) address size (found_of addresses counts marks g.objects))
-      (blocks_of count ws))
+  pub walked : Walked ws ws' (ended (record { all = new; found = found' }) n)
+      (run im q.bounds.end_of_file q.bounds.room (block_walk visit address size found) (blocks_of count ws))
   pub block : NewBlock im ws count address size ws' n new
-  pub tally : TalliedWith im new g.tally g'.tally
-  pub counting : CountingIf q.auditing ws' addresses' counts' marks' q.bounds.end_of_file n g'.objects 16
+  pub tally : TalliedWith im new t t'
 
 -- a continuation was read, or refused
-abbrev pub BlockRead : List ℕ → List ℕ → List ℕ → List ℕ → List ℕ → Reading → ℕ → ℕ → ℕ → Gathering → List ℕ → List ℕ → List ℕ → List ℕ →
-    Result (Gathering × ℕ) Refusal → Type 0
-BlockRead im ws addresses counts marks q count address size g ws' addresses' counts' marks' (Ok g') =
-    BlockDone im ws addresses counts marks q count address size g ws' addresses' counts' marks' g'.0 g'.1
-BlockRead im ws addresses counts marks q count address size g ws' addresses' counts' marks' (Err r) =
-    Walked ws ws' (stopped r) (run im q.bounds.end_of_file q.bounds.room (block_walk (visit_message q.auditing) address size
-    (found_of addresses counts marks g.objects)) (blocks_of count ws))
+abbrev pub BlockRead : {S : Type 0} → (Message → S → reader.Result S) → List ℕ → List ℕ → Reading → (count address size : ℕ) → S → Tally → List ℕ → S →
+    Result (Tally × ℕ) Refusal → Type 0
+BlockRead visit im ws q count address size found t ws' found' (Ok g) = BlockDone visit im ws q count address size found t ws' found' g.0 g.1
+BlockRead visit im ws q count address size found t ws' found' (Err r) =
+    Walked ws ws' (stopped r) (run im q.bounds.end_of_file q.bounds.room (block_walk visit address size found) (blocks_of count ws))

@@ -2,34 +2,30 @@
 // header's blocks stand one after the other in the block list, so that a cursor over their messages finds the next one.
 #![tactic(auto)]
 
-ghost use Rattle.std.specs.Prelude.{List, ℕ, ◌+◌, ◌*◌, ◌≤◌, ◌<◌, length};
+ghost use Rattle.std.specs.Prelude.{List, ℕ, ◌+◌, ◌*◌, ◌≤◌, ◌<◌, length, OnOk};
 ghost use Rattle.format.specs.Limits.{blocks_most};
 ghost use Rattle.format.specs.Message.{Message};
 ghost use Rattle.format.specs.Header.{continuations};
 ghost use Rattle.tally.specs.Tally.{Tallied, HasTally};
-ghost use Rattle.sharing.specs.Sharing.{found_of, visit_message};
-ghost use Rattle.sharing.specs.Lent.{SameFound};
 ghost use Rattle.walk.specs.Entered.{SameWords};
-ghost use Rattle.scan.specs.Scan.{gathering, with_tally};
-ghost use Rattle.continuations.specs.Counting.{Lending};
-ghost use Rattle.continuations.specs.Continuations.{with_counts, Waiting, Ready, Sought, BlockRead, GatheredIs, CountingOn};
+ghost use Rattle.scan.specs.Scan.{with_tally};
+ghost use Rattle.continuations.specs.Lending.{Lending, entered_in};
+ghost use Rattle.continuations.specs.Continuations.{with_blocks, Waiting, Ready, Sought, BlockRead, GatheredIs};
 
 use format::Refusal;
 use scan;
 use scan::Span;
-use sharing::Found;
+use sharing::Visit;
 use tally::Tally;
 use walk::blocks::{Blocks, Bounds};
 use walk::kinds;
 use walk::numbers::{u16_at, u64_at};
 
-// What stays the same while a header is read: the file, what a block keeps to, and whether what its messages share is
-// discovered.
+// What stays the same while a header is read: the file, and what a block keeps to.
 #[derive(Clone, Copy)]
 pub struct Reading<'a> {
     pub image: &'a [u8],
     pub bounds: Bounds,
-    pub auditing: bool,
 }
 
 // A place among the messages of the block of this number in the list; the block's messages end at `end`.
@@ -73,21 +69,21 @@ fn seek(image: &[u8], blocks: &Blocks<'_>, cursor: Cursor) -> Cursor
 }
 
 // Enters the continuation that was named, and counts its messages behind those of the tally.
-fn read_block(
+fn read_block<V: Visit>(
     reading: Reading<'_>,
     blocks: &mut Blocks<'_>,
-    found: &mut Found<'_, '_>,
+    found: &mut V,
     named: Named,
     tally: &mut Tally,
 ) -> Result<(), Refusal>
-    requires { Lending reading.image.now blocks.old.words.now found.old.objects.now.addresses.now found.old.objects.now.counts.now
-        found.old.marks.now reading blocks.old.count found.old.objects.now.count 16 }
-    ensures read { BlockRead reading.entry.image.now blocks.old.words.now found.old.objects.now.addresses.now found.old.objects.now.counts.now
-        found.old.marks.now reading.entry blocks.old.count named.address named.size (gathering tally.old found.old.objects.now.count)
-        blocks.new.words.now found.new.objects.now.addresses.now found.new.objects.now.counts.now found.new.marks.now
-        (with_counts (with_tally result tally.new) found.new.objects.now.count blocks.new.count) }
+    requires lending { Lending reading.image.now blocks.old.words.now reading blocks.old.count }
+    requires counting { V.Counting found.old reading.bounds.end_of_file (entered_in blocks.old) 16 }
+    ensures read { BlockRead V.visit reading.entry.image.now blocks.old.words.now reading.entry blocks.old.count named.address
+        named.size (V.state found.old) tally.old blocks.new.words.now (V.state found.new)
+        (with_blocks (with_tally result tally.new) blocks.new.count) }
+    ensures counting_on { OnOk result (V.Counting found.new reading.entry.bounds.end_of_file (entered_in blocks.new) 16) }
     ensures kept { SameWords blocks.old blocks.new }
-    ensures kept_found { SameFound found.old found.new }
+    ensures same { V.Same found.old found.new }
 {
     blocks.enter(
         reading.bounds,
@@ -97,41 +93,30 @@ fn read_block(
     )?;
     let from = named.address as usize;
     let end = from + named.size as usize;
-    scan::scan_block(
-        reading.image,
-        found,
-        reading.auditing,
-        Span { from, end },
-        tally,
-    )
+    scan::scan_block(reading.image, found, Span { from, end }, tally)
 }
 
 // Enters and reads the continuations that the messages from the cursor on name, and those that these name in turn: their
 // messages are counted behind those of the tally. The queue grows while it is read, so that no range has its places.
-pub fn follow(
+pub fn follow<V: Visit>(
     reading: Reading<'_>,
     blocks: &mut Blocks<'_>,
-    found: &mut Found<'_, '_>,
+    found: &mut V,
     cursor: Cursor,
     tally: &mut Tally,
 ) -> Result<(), Refusal>
-    requires lending { Lending reading.image.now blocks.old.words.now found.old.objects.now.addresses.now found.old.objects.now.counts.now
-        found.old.marks.now reading blocks.old.count found.old.objects.now.count 16 }
+    requires lending { Lending reading.image.now blocks.old.words.now reading blocks.old.count }
+    requires counting { V.Counting found.old reading.bounds.end_of_file (entered_in blocks.old) 16 }
     requires ready { Ready reading.image.now blocks.old.words.now blocks.old.count cursor }
     requires has_tally { HasTally reading.image.now tally.old }
     ensures by_index { (fuel : ℕ) (waiting sofar : List Message) → blocks_most < blocks.old.count + fuel →
         Waiting reading.entry.image.now blocks.old.words.now blocks.old.count cursor waiting → Tallied reading.entry.image.now sofar tally.old →
         GatheredIs reading.entry.image.now reading.entry blocks.old.words.now blocks.old.count
-        (continuations (visit_message reading.entry.auditing) fuel waiting (record {
-          all = sofar;
-          found = found_of found.old.objects.now.addresses.now found.old.objects.now.counts.now found.old.marks.now
-              found.old.objects.now.count;
-        })) blocks.new.words.now found.new.objects.now.addresses.now found.new.objects.now.counts.now
-        found.new.marks.now (with_counts (with_tally result tally.new) found.new.objects.now.count blocks.new.count) }
-    ensures counting_on { CountingOn reading.entry blocks.new.words.now found.new.objects.now.addresses.now found.new.objects.now.counts.now
-        found.new.marks.now (with_counts (with_tally result tally.new) found.new.objects.now.count blocks.new.count) }
+        (continuations V.visit fuel waiting (record { all = sofar; found = V.state found.old })) blocks.new.words.now
+        (V.state found.new) (with_blocks (with_tally result tally.new) blocks.new.count) }
+    ensures counting_on { OnOk result (V.Counting found.new reading.entry.bounds.end_of_file (entered_in blocks.new) 16) }
     ensures kept { SameWords blocks.old blocks.new }
-    ensures kept_found { SameFound found.old found.new }
+    ensures same { V.Same found.old found.new }
 {
     let image = reading.image;
     let mut c = seek(image, blocks, cursor);

@@ -14,7 +14,6 @@ use Rattle.format.specs.declared.Refusal.{Refusal}
 use Rattle.format.specs.Result as reader
 use Rattle.format.specs.Walk.{Walk, ret, refuse, fault, not_entered, enter, stored, check, header_block, shown, ◌>>=◌, ◌>>◌, run}
 use Rattle.format.specs.Header.{Gathered, messages, continuations, header_contents, header_messages}
-use Rattle.format.specs.Sharing.{Found}
 use Rattle.format.specs.Message.{Message, of_type}
 use Rattle.walk.specs.Lent.{blocks_of, Lent, ended, stopped, Walked, entering, IsEntered}
 use Rattle.walk.specs.Numbers.{Number}
@@ -22,7 +21,7 @@ use Rattle.std.specs.Prelude.{Result, Ok, Err}
 use Rattle.laws.proofs.Simulation.{Simulation, start, returned, passed, failed, outside, block-entered, block_refused, callee-value, callee-refusal}
 use Rattle.laws.proofs.Simulation.{callee-last, callee-stopped, callee-done}
 use Rattle.tally.specs.Tally.{Tallied}
-use Rattle.scan.specs.Scan.{Gathering, MessagesAre}
+use Rattle.scan.specs.Scan.{MessagesAre}
 use Rattle.continuations.specs.Continuations.{GatheredIs, Waiting}
 use Rattle.continuations.proofs.ContinuationLaws.{cursor}
 use Rattle.tally.specs.declared.Tally.{Tally}
@@ -55,11 +54,11 @@ module _ {S : Type 0} (visit : Message → S → reader.Result S) (im : List ℕ
     header-entered m e = block-entered (16 + size) (header-length im at size h n) (header-known im eof at size h k n) ws₁ at-start q m e
 
 -- a callee that gathers the messages of what is left
-pub gathered-last : (im : List ℕ) (q : Reading) (w₀ w : Walk (Gathered Found)) (n₀ n : ℕ) (ws₀ ws ws₁ a c m : List ℕ)
-    (r : Result (Gathering × ℕ) Refusal) →
-    Simulation im q.bounds.end_of_file q.bounds.room w₀ n₀ ws₀ w n ws → GatheredIs im q ws n w ws₁ a c m r → GatheredIs im q ws₀ n₀ w₀ ws₁ a c m r
-gathered-last im q w₀ w n₀ n ws₀ ws ws₁ a c m (Ok g) s h = (h.0, callee-last ws₁ s h.1, h.2)
-gathered-last im q w₀ w n₀ n ws₀ ws ws₁ a c m (Err x) s h = callee-last ws₁ s h
+pub gathered-last : {S : Type 0} (im : List ℕ) (q : Reading) (w₀ w : Walk (Gathered S)) (n₀ n : ℕ) (ws₀ ws ws₁ : List ℕ) (found : S)
+    (r : Result (Tally × ℕ) Refusal) →
+    Simulation im q.bounds.end_of_file q.bounds.room w₀ n₀ ws₀ w n ws → GatheredIs im q ws n w ws₁ found r → GatheredIs im q ws₀ n₀ w₀ ws₁ found r
+gathered-last im q w₀ w n₀ n ws₀ ws ws₁ found (Ok g) s h = (h.0, callee-last ws₁ s h.1, h.2)
+gathered-last im q w₀ w n₀ n ws₀ ws ws₁ found (Err x) s h = callee-last ws₁ s h
 
 -- What stands in the header block.
 module _ {S : Type 0} (visit : Message → S → reader.Result S) (im : List ℕ) (eof room : ℕ) (ws : List ℕ) (count at size : ℕ) (found : S)

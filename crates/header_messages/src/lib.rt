@@ -1,48 +1,43 @@
 // All messages of an object header, version 1, over its blocks.
 #![tactic(auto)]
 
-ghost use Rattle.std.specs.Prelude.{◌+◌, ◌≤◌, ◌<◌, length};
+ghost use Rattle.std.specs.Prelude.{◌+◌, ◌≤◌, ◌<◌, length, OnOk};
 ghost use Rattle.format.specs.Bytes.{part};
 ghost use Rattle.format.specs.Walk.{header_block, shown};
 ghost use Rattle.format.specs.Header.{header_contents, header_messages};
-ghost use Rattle.sharing.specs.Sharing.{found_of, visit_message};
-ghost use Rattle.sharing.specs.Lent.{SameFound};
 ghost use Rattle.walk.specs.Entered.{SameWords};
-ghost use Rattle.continuations.specs.Counting.{Lending};
-ghost use Rattle.continuations.specs.Continuations.{with_counts, GatheredIs, CountingOn};
+ghost use Rattle.continuations.specs.Lending.{Lending, entered_in};
+ghost use Rattle.continuations.specs.Continuations.{with_blocks, GatheredIs};
 
 use continuations;
 use continuations::{Cursor, Reading};
 use format::{Refusal, answers};
 use scan;
 use scan::Span;
-use sharing::Found;
+use sharing::Visit;
 use tally::Tally;
 use walk::blocks::Blocks;
 use walk::numbers::{u16_at, u32_at};
 use walk::{blocks, kinds};
 
 // What stands in a header block of 16 and so many bytes more at `at`, which was entered as the last.
-fn contents(
+fn contents<V: Visit>(
     reading: Reading<'_>,
     blocks: &mut Blocks<'_>,
-    found: &mut Found<'_, '_>,
+    found: &mut V,
     at: usize,
     size: usize,
 ) -> Result<Tally, Refusal>
-    requires lending { Lending reading.image.now blocks.old.words.now found.old.objects.now.addresses.now found.old.objects.now.counts.now
-        found.old.marks.now reading blocks.old.count found.old.objects.now.count (16 + size) }
+    requires lending { Lending reading.image.now blocks.old.words.now reading blocks.old.count }
+    requires counting { V.Counting found.old reading.bounds.end_of_file (entered_in blocks.old) (16 + size) }
     requires count_nonzero { 0 < blocks.old.count }
     requires size_in_bounds { at + (16 + size) ≤ length reading.image.now }
     ensures gathered_is { GatheredIs reading.entry.image.now reading.entry blocks.old.words.now blocks.old.count
-        (header_contents (visit_message reading.entry.auditing) at (found_of found.old.objects.now.addresses.now
-        found.old.objects.now.counts.now found.old.marks.now found.old.objects.now.count)
-        (shown header_block (part reading.entry.image.now at (16 + size)))) blocks.new.words.now found.new.objects.now.addresses.now
-        found.new.objects.now.counts.now found.new.marks.now (with_counts result found.new.objects.now.count blocks.new.count) }
-    ensures counting_on { CountingOn reading.entry blocks.new.words.now found.new.objects.now.addresses.now
-        found.new.objects.now.counts.now found.new.marks.now (with_counts result found.new.objects.now.count blocks.new.count) }
+        (header_contents V.visit at (V.state found.old) (shown header_block (part reading.entry.image.now at (16 + size))))
+        blocks.new.words.now (V.state found.new) (with_blocks result blocks.new.count) }
+    ensures counting_on { OnOk result (V.Counting found.new reading.entry.bounds.end_of_file (entered_in blocks.new) 16) }
     ensures kept { SameWords blocks.old blocks.new }
-    ensures kept_found { SameFound found.old found.new }
+    ensures same { V.Same found.old found.new }
 {
     let image = reading.image;
     if image[at] != 1 {
@@ -50,9 +45,8 @@ fn contents(
     }
     let from = at + 16;
     let end = from + size;
-    let auditing = reading.auditing;
     let mut tally = tally::empty();
-    scan::scan_block(image, found, auditing, Span { from, end }, &mut tally)?;
+    scan::scan_block(image, found, Span { from, end }, &mut tally)?;
     let block = blocks.count - 1;
     let cursor = Cursor {
         block,
@@ -67,23 +61,20 @@ fn contents(
 }
 
 // All messages of the header at `at`: its block is entered before its version is looked at.
-pub fn messages(
+pub fn messages<V: Visit>(
     reading: Reading<'_>,
     blocks: &mut Blocks<'_>,
-    found: &mut Found<'_, '_>,
+    found: &mut V,
     at: u64,
 ) -> Result<Tally, Refusal>
-    requires { Lending reading.image.now blocks.old.words.now found.old.objects.now.addresses.now found.old.objects.now.counts.now
-        found.old.marks.now reading blocks.old.count found.old.objects.now.count 0 }
+    requires lending { Lending reading.image.now blocks.old.words.now reading blocks.old.count }
+    requires counting { V.Counting found.old reading.bounds.end_of_file (entered_in blocks.old) 0 }
     ensures gathered_is { GatheredIs reading.entry.image.now reading.entry blocks.old.words.now blocks.old.count
-        (header_messages (visit_message reading.entry.auditing) at (found_of found.old.objects.now.addresses.now
-        found.old.objects.now.counts.now found.old.marks.now found.old.objects.now.count)) blocks.new.words.now
-        found.new.objects.now.addresses.now found.new.objects.now.counts.now found.new.marks.now
-        (with_counts result found.new.objects.now.count blocks.new.count) }
-    ensures counting_on { CountingOn reading.entry blocks.new.words.now found.new.objects.now.addresses.now
-        found.new.objects.now.counts.now found.new.marks.now (with_counts result found.new.objects.now.count blocks.new.count) }
+        (header_messages V.visit at (V.state found.old)) blocks.new.words.now (V.state found.new)
+        (with_blocks result blocks.new.count) }
+    ensures counting_on { OnOk result (V.Counting found.new reading.entry.bounds.end_of_file (entered_in blocks.new) 16) }
     ensures kept { SameWords blocks.old blocks.new }
-    ensures kept_found { SameFound found.old found.new }
+    ensures same { V.Same found.old found.new }
 {
     let end_of_file = reading.bounds.end_of_file;
     if end_of_file < 16 || end_of_file - 16 < at {

@@ -1,24 +1,19 @@
 -- The messages of a header and its kind against the header's walk.
 use Prim.Native.Nat.{ℕ}
-use mathlib.Core.Bool.{true, false}
 use mathlib.Core.List.{List}
-use mathlib.Core.Path.{◌≡◌, refl, ap, sym, ◌∙◌}
+use mathlib.Core.Path.{◌≡◌}
 use lib.ListN.{length}
+use Rattle.std.specs.Prelude as std
+use Rattle.std.specs.Prelude.{Ok, Err, OnOk}
 use Rattle.format.specs.declared.Refusal.{Refusal}
 use Rattle.format.specs.Result.{Result}
-use Rattle.format.specs.Walk.{Walk, Outcome, done, refused, ret, refuse, ◌>>=◌, run}
-use Rattle.format.specs.Header.{Gathered, Object, object_of, header_messages, Headed, header_with, header_walk}
-use Rattle.format.specs.Sharing.{Found}
+use Rattle.format.specs.Walk.{ret, refuse, ◌>>=◌, run}
+use Rattle.format.specs.Header.{Gathered, Object, object_of, header_messages, header_with, header_walk, pass_over}
 use Rattle.format.specs.Message.{Message}
 use Rattle.walk.specs.Lent.{blocks_of, Lent, Ended, ended, stopped, Walked}
 use Rattle.laws.proofs.Simulation.{Simulation, start, returned, callee-value, callee-refusal, callee-stopped, callee-done}
-use Rattle.laws.proofs.Follows.{Ran, follows-run}
-use Rattle.laws.proofs.HeaderVisits.{header-same}
-use Rattle.sharing.specs.Sharing.{visit_message}
-use Rattle.continuations.specs.Counting.{CountingIf}
-use Rattle.continuations.specs.declared.Reading.{Reading}
 use Rattle.kind.specs.Kind.{KnownAs}
-use Rattle.image.specs.Header.{with_found, CountingThen}
+use Rattle.image.specs.Header.{with_found}
 
 module _ {S : Type 0} (visit : Message → S → Result S) (im : List ℕ) (eof room : ℕ) (ws : List ℕ) (count at : ℕ) (found : S) (l : Lent ws count room) where
   -- The whole header: its messages, then the kind.
@@ -42,42 +37,23 @@ module _ {S : Type 0} (visit : Message → S → Result S) (im : List ℕ) (eof 
     read-refused x e = callee-refusal _ _ x e (callee-done ws' _ _ at-messages k h)
 
 -- the kind, with what was found with the messages
-pub read_as : (visit : Message → Found → Result Found) (im : List ℕ) (eof room : ℕ) (ws : List ℕ) (count at : ℕ) (found : Found) → Lent ws count room →
-    (ws' : List ℕ) (g : Gathered Found) (n : ℕ) → length ws' ≡ length ws →
+pub read_as : {S : Type 0} (visit : Message → S → Result S) (im : List ℕ) (eof room : ℕ) (ws : List ℕ) (count at : ℕ) (found : S) → Lent ws count room →
+    (ws' : List ℕ) (g : Gathered S) (n : ℕ) → length ws' ≡ length ws →
     Walked ws ws' (ended g n) (run im eof room (header_messages visit at found) (blocks_of count ws)) →
     (e : Ended Object) → KnownAs (object_of at g.all) n e →
     Walked ws ws' (with_found g.found e) (run im eof room (header_with visit at found) (blocks_of count ws))
 read_as visit im eof room ws count at found l ws' g n k h (ended o m) e = rw e.1 (read_known visit im eof room ws count at found l ws' g n k h o e.0)
 read_as visit im eof room ws count at found l ws' g n k h (stopped x) e = read-refused visit im eof room ws count at found l ws' g n k h x e
 
-pub counting-then : (q : Reading) (ws addresses counts marks : List ℕ) (objects n : ℕ) (w : Walk Object) (e : Ended Object) → KnownAs w n e →
-    CountingIf q.auditing ws addresses counts marks q.bounds.end_of_file n objects 16 → CountingThen q ws addresses counts marks objects e
-counting-then q ws addresses counts marks objects n w (ended o m) k h = rw k.1 h
-counting-then q ws addresses counts marks objects n w (stopped x) k h = tt
+-- A header read for its kind alone: nothing is done at a message.
+pub kind-alone : (im : List ℕ) (eof room : ℕ) (ws ws' : List ℕ) (count at : ℕ) → Lent ws count room → length ws' ≡ length ws → (e : Ended Object) →
+    Walked ws ws' (with_found tt e) (run im eof room (header_with pass_over at tt) (blocks_of count ws)) →
+    Walked ws ws' e (run im eof room (header_walk at) (blocks_of count ws))
+unfolding header_walk
+kind-alone im eof room ws ws' count at l k (ended o n) h = returned (callee-done ws' _ _ (start im eof room (header_walk at) count ws l) k h)
+kind-alone im eof room ws ws' count at l k (stopped x) h = callee-stopped ws' _ _ (start im eof room (header_walk at) count ws l) h
 
--- the end of a header's walk without what was found with it
-object_end : Ended (Headed Found) → Ended Object
-object_end (ended h n) = ended h.object n
-object_end (stopped r) = stopped r
-
-object-end : (f : Found) (e : Ended Object) → object_end (with_found f e) ≡ e
-unfolding object_end
-object-end f (ended o n) = refl
-object-end f (stopped r) = refl
-
--- A header read for its kind alone, by the reader that does nothing at a message.
-module _ (ws ws' : List ℕ) (f : Found) (e : Ended Object) where
-  same_end : (o : Outcome (Headed Found)) (p : Outcome Object) → Walked ws ws' (with_found f e) o → Ran true (λ h x. h.object ≡ x) o p → Walked ws ws' e p
-  unfolding Ran object_end
-  same_end (done h bs) p k r =
-      let a : e ≡ ended h.object (length bs) = sym (object-end f e) ∙ ap object_end k.answer in
-      rw r.1 (record { answer = a ∙ ap (λ (x : Object). ended x (length bs)) r.2; held = k.held; rest = k.rest; indexed = k.indexed })
-  same_end (refused x bs) p k r =
-      rw r (record { answer = sym (object-end f e) ∙ ap object_end k.answer; held = k.held; rest = k.rest; indexed = k.indexed })
-
-  pub kind-alone : (im : List ℕ) (eof room count at : ℕ) (f₀ : Found) →
-      Walked ws ws' (with_found f e) (run im eof room (header_with (visit_message false) at f₀) (blocks_of count ws)) →
-      Walked ws ws' e (run im eof room (header_walk at) (blocks_of count ws))
-  unfolding visit_message
-  kind-alone im eof room count at f₀ h =
-      same_end _ _ h (follows-run _ true im eof room _ _ (blocks_of count ws) (header-same (visit_message false) at f₀ λ m x. (x, refl)))
+-- what holds whether or not there is a value
+pub on-ok : {T E P : Type 0} (r : std.Result T E) → P → OnOk r P
+on-ok (Ok x) p = p
+on-ok (Err e) p = tt

@@ -14,7 +14,7 @@ use Rattle.format.specs.Dataset.{head_at, storage_walk}
 use Rattle.format.specs.Tree.{group_walk}
 use Rattle.format.specs.Ledger.{Linked, discover}
 use Rattle.format.specs.Lookup as lookup
-use Rattle.format.specs.Sharing.{Found, share_each, shared_by, known, not_committed}
+use Rattle.format.specs.Sharing.{Found, share_each, discover_sharing, shared_by, known, not_committed}
 use Rattle.format.specs.Object.{sharing_dataset, content_walk, object_walk}
 use Rattle.walk.specs.Lent.{blocks_of, places_of, Lent, Ended, ended, stopped, Walked}
 use Rattle.walk.proofs.BlockList.{places-most, lent_none}
@@ -26,8 +26,7 @@ use Rattle.ledger.specs.Table.{linked_of}
 use Rattle.visit.specs.Visit.{Both, both_of}
 use Rattle.symbol.specs.State.{State}
 use Rattle.std.specs.Prelude.{Result, Ok, Err}
-use Rattle.sharing.specs.Sharing.{found_of, visit_message, Kept, KindKnown}
-use Rattle.continuations.specs.Counting.{Counting}
+use Rattle.sharing.specs.Sharing.{found_of, Kept, Counting, KindKnown}
 use Rattle.dataset.specs.Dataset.{SpaceAndType, parts_walk}
 use Rattle.dataset.proofs.DatasetLaws.{parts-split}
 use Rattle.group.specs.Group.{Ready, group_end, GroupIs}
@@ -260,10 +259,10 @@ module _ (im : List ℕ) (s : superblocks.Superblock) (room : ℕ) (ws addresses
       whole = object_walk (superblock_of s) i at
 
       abbrev header : Walk (Headed Found)
-      header = header_with (visit_message true) at f
+      header = header_with discover_sharing at f
 
       at-header : Simulation im eof room (whole f) count ws (header >>= λ h. behind_header s i at h.object h.found) count ws
-      unfolding object_walk visit_message
+      unfolding object_walk
       at-header = begun whole
 
       pub header-stopped : (addresses₁ counts₁ marks₁ : List ℕ) (x : Refusal) → Walked ws ws₁ (stopped x) (run im eof room header (blocks_of count ws)) →
@@ -276,7 +275,7 @@ module _ (im : List ℕ) (s : superblocks.Superblock) (room : ℕ) (ws addresses
         at-kind : Simulation im eof room (whole f) count ws (behind_header s i at o (found_of addresses₁ counts₁ marks₁ objects₁)) n ws₁
         at-kind = callee-done ws₁ _ _ at-header same h
 
-        pub kind-listed : (left : ℕ) → Counting ws₁ addresses₁ counts₁ marks₁ eof n objects₁ left →
+        pub kind-listed : (left : ℕ) → Counting addresses₁ counts₁ marks₁ objects₁ eof (blocks_of n ws₁) left →
             Listed ws₁ addresses₁ counts₁ marks₁ eof room n objects₁ left
         kind-listed left c = record { lent = at-kind.lent; counting = c }
 
@@ -289,9 +288,39 @@ module _ (im : List ℕ) (s : superblocks.Superblock) (room : ℕ) (ws addresses
       pub committed-read : (n : ℕ) (addresses₁ counts₁ marks₁ : List ℕ) (objects₁ : ℕ) → length ws₁ ≡ length ws →
           Walked ws ws₁ (ended (record { object = committed; found = found_of addresses₁ counts₁ marks₁ objects₁ }) n)
           (run im eof room header (blocks_of count ws)) →
-          (left : ℕ) → Counting ws₁ addresses₁ counts₁ marks₁ eof n objects₁ left → Walks whole ws₁ addresses₁ counts₁ marks₁ (Ok (record { count = n; objects = objects₁ }))
+          (left : ℕ) → Counting addresses₁ counts₁ marks₁ objects₁ eof (blocks_of n ws₁) left → Walks whole ws₁ addresses₁ counts₁ marks₁ (Ok (record { count = n; objects = objects₁ }))
       unfolding content_walk ◌>>=◌
       committed-read n addresses₁ counts₁ marks₁ objects₁ same h left c = record {
         walked = returned (at-kind committed n addresses₁ counts₁ marks₁ objects₁ same h);
         listed = listed-less (kind-listed committed n addresses₁ counts₁ marks₁ objects₁ same h left c) 0 (omega arith);
       }
+
+-- Behind a header that was read, of an object that is no committed datatype: its kind is known, then its contents are walked.
+module _ (im : List ℕ) (s : superblocks.Superblock) (room : ℕ) (ws addresses counts marks : List ℕ) (count objects i at : ℕ) {spare : ℕ}
+    (y : Listed ws addresses counts marks s.end_of_file room count objects spare) (o : Object) (n : ℕ) (ws₁ addresses₁ counts₁ marks₁ : List ℕ) (objects₁ : ℕ)
+    (same : length ws₁ ≡ length ws)
+    (h : Walked ws ws₁ (ended (record { object = o; found = found_of addresses₁ counts₁ marks₁ objects₁ }) n)
+    (run im s.end_of_file room (header_with discover_sharing at (found_of addresses counts marks objects)) (blocks_of count ws)))
+    (c : Counting addresses₁ counts₁ marks₁ objects₁ s.end_of_file (blocks_of n ws₁) 16) where
+  listed : Listed ws₁ addresses₁ counts₁ marks₁ s.end_of_file room n objects₁ 16
+  listed = kind-listed im s room ws addresses counts marks count objects y i at ws₁ o n addresses₁ counts₁ marks₁ objects₁ same h 16 c
+
+  pub known-listed : (left : ℕ) (marks₂ : List ℕ) → left ≤ 16 → length marks₂ ≡ length marks₁ →
+      Listed ws₁ addresses₁ counts₁ marks₂ s.end_of_file room n objects₁ left
+  known-listed left marks₂ l e = listed-marked (listed-less listed left l) e
+
+  module _ (e : known i o (found_of addresses₁ counts₁ marks₁ objects₁) ≡ not_committed i (found_of addresses₁ counts₁ marks₁ objects₁)) (marks₂ : List ℕ) where
+    behind : (ws₂ addresses₂ counts₂ marks₂ : List ℕ) (r : Result ObjectRead Refusal) →
+        FoundWalked im ws₁ addresses₁ counts₁ marks₁ s room (behind_header s i at o) n objects₁ ws₂ addresses₂ counts₂ marks₂ r →
+        FoundWalked im ws addresses counts marks s room (object_walk (superblock_of s) i at) count objects ws₂ addresses₂ counts₂ marks₂ r
+    behind = kind-read im s room ws addresses counts marks count objects y i at ws₁ o n addresses₁ counts₁ marks₁ objects₁ same h
+
+    pub known-refused : KindKnown marks₁ i marks₂ false →
+        FoundWalked im ws addresses counts marks s room (object_walk (superblock_of s) i at) count objects ws₁ addresses₁ counts₁ marks₂ (Err (fault 10 at))
+    known-refused k = behind _ _ _ _ _ (shared-before im s room ws₁ addresses₁ counts₁ marks₁ n objects₁ listed i at o e marks₂ k)
+
+    pub known-read : KindKnown marks₁ i marks₂ true → (ws₂ addresses₂ counts₂ marks₃ : List ℕ) (r : Result ObjectRead Refusal) →
+        FoundWalked im ws₁ addresses₁ counts₁ marks₂ s room (content_walk (superblock_of s) o) n objects₁ ws₂ addresses₂ counts₂ marks₃ r →
+        FoundWalked im ws addresses counts marks s room (object_walk (superblock_of s) i at) count objects ws₂ addresses₂ counts₂ marks₃ r
+    known-read k ws₂ addresses₂ counts₂ marks₃ r w =
+        behind _ _ _ _ _ (not-shared im s room ws₁ addresses₁ counts₁ marks₁ n objects₁ listed i at o e marks₂ k ws₂ addresses₂ counts₂ marks₃ r w)

@@ -1,13 +1,12 @@
 -- What walking an object of the audit returns and leaves.
-use Rattle.std.specs.Prelude.{ℕ, List, Result, Ok, Err}
+use Rattle.std.specs.Prelude.{ℕ, true, false, ◌≡◌, List, Result, Ok, Err}
 use Rattle.format.specs.declared.Refusal.{Refusal}
-use Rattle.format.specs.Walk.{Walk, run, located, ◌>>=◌}
+use Rattle.format.specs.Walk.{Walk, run, fault, located, ◌>>=◌}
 use Rattle.format.specs.Header.{Object, dataset}
 use Rattle.format.specs.Object.{content_walk}
 use Rattle.format.specs.Sharing.{Found, known}
 use Rattle.walk.specs.Lent.{blocks_of, Lent, Ended, ended, stopped, Walked}
-use Rattle.sharing.specs.Sharing.{found_of}
-use Rattle.continuations.specs.Counting.{Counting}
+use Rattle.sharing.specs.Sharing.{found_of, Counting, KindKnown}
 use Rattle.group.specs.Group.{Settings}
 use Rattle.superblock.specs.Superblock.{FieldsBounded, superblock_of}
 use Rattle.superblock.specs.declared.Superblock.{Superblock}
@@ -29,7 +28,7 @@ Bounded im s = FieldsBounded im (Ok s)
 -- the lists that an object is walked with, and so many links to spare
 pub record Listed (ws addresses counts marks : List ℕ) (eof room count objects spare : ℕ) : Type 0 where
   pub lent : Lent ws count room
-  pub counting : Counting ws addresses counts marks eof count objects spare
+  pub counting : Counting addresses counts marks objects eof (blocks_of count ws) spare
 
 -- the numbers of blocks entered and of objects found
 pub record ObjectRead : Type 0 where
@@ -60,6 +59,11 @@ pub record FoundWalked (im ws addresses counts marks : List ℕ) (s : Superblock
 -- behind the header of the i-th object, which is at the address at: its kind is known, then its contents are walked
 abbrev pub behind_header : Superblock → ℕ → ℕ → Object → Found → Walk Found
 behind_header s i at o f = located at (known i o f) >>= content_walk (superblock_of s) o
+
+-- the kind of the i-th object is known, and it is no committed datatype; one that a sharing gave is refused at its header
+abbrev pub KnownAt : lent.Found → (i at : ℕ) → lent.Found → Result (Unit {0}) Refusal → Type 0
+KnownAt f i at f' (Ok u) = KindKnown f.marks.now i f'.marks.now true
+KnownAt f i at f' (Err r) = KindKnown f.marks.now i f'.marks.now false × (r ≡ fault 10 at)
 
 -- so of the values that the functions are lent: lists that an object is walked with
 abbrev pub ListedWith : File → Blocks → lent.Found → ℕ → Type 0

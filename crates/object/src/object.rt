@@ -1,12 +1,12 @@
 // One object of the audit: its header, then what stands behind it.
-ghost use Rattle.std.specs.Prelude.{◌<◌};
+ghost use Rattle.std.specs.Prelude.{◌<◌, ◌≡◌, length};
 ghost use Rattle.format.specs.Limits.{objects_most};
 ghost use Rattle.format.specs.Header.{group as group_object};
 ghost use Rattle.format.specs.Object.{content_walk, object_walk};
 ghost use Rattle.walk.specs.Entered.{SameWords};
 ghost use Rattle.sharing.specs.Lent.{SameFound};
 ghost use Rattle.superblock.specs.Superblock.{superblock_of};
-ghost use Rattle.object.specs.Object.{Opened, behind_header, dataset_of, DatasetInside, ListedWith, WalkedWith};
+ghost use Rattle.object.specs.Object.{Opened, dataset_of, DatasetInside, KnownAt, ListedWith, WalkedWith};
 
 use continuations::Reading;
 use dataset::dataset::{head_of, read_parts, read_storage};
@@ -68,51 +68,17 @@ fn read_dataset(
     Ok(())
 }
 
-// A group, as the object at the place `i` of the table: 10 if that was shared.
-fn known_group(
-    file: File<'_>,
-    blocks: &mut Blocks<'_>,
-    found: &mut Found<'_, '_>,
-    i: usize,
-    at: usize,
-    tree: u64,
-    heap: u64,
-) -> Result<(), Refusal>
-    requires opened { Opened file.image.now file.superblock file.room }
-    requires listed { ListedWith file blocks.old found.old 0 }
-    requires i_lt_objects_most { i < objects_most }
-    ensures walked { WalkedWith file.entry blocks.old found.old (behind_header file.entry.superblock i at (group_object tree heap))
-        blocks.new found.new result }
-    ensures kept { SameWords blocks.old blocks.new }
+// The object at the place `i` of the table is no committed datatype: 10 if it was shared, at its header.
+fn known(found: &mut Found<'_, '_>, i: usize, at: usize) -> Result<(), Refusal>
+    requires { i < length found.old.marks.now }
+    ensures known { KnownAt found.old i at found.new result }
+    ensures objects { found.new.objects ≡ found.old.objects }
     ensures kept_found { SameFound found.old found.new }
 {
     if !found.not_committed(i) {
         return Err(Refusal::Fault(answers::HEADER_UNSOUND, at));
     }
-    read_group(file, blocks, found, tree, heap)
-}
-
-// A dataset, likewise.
-fn known_dataset(
-    file: File<'_>,
-    blocks: &mut Blocks<'_>,
-    found: &mut Found<'_, '_>,
-    i: usize,
-    at: usize,
-    bodies: Bodies,
-) -> Result<(), Refusal>
-    requires listed { ListedWith file blocks.old found.old 1 }
-    requires bodies_inside { DatasetInside file bodies }
-    requires i_lt_objects_most { i < objects_most }
-    ensures walked { WalkedWith file.entry blocks.old found.old (behind_header file.entry.superblock i at (dataset_of file.entry bodies))
-        blocks.new found.new result }
-    ensures kept { SameWords blocks.old blocks.new }
-    ensures kept_found { SameFound found.old found.new }
-{
-    if !found.not_committed(i) {
-        return Err(Refusal::Fault(answers::HEADER_UNSOUND, at));
-    }
-    read_dataset(file, blocks, found, bodies)
+    Ok(())
 }
 
 // The object at the place `i` of the table, whose header stands at `at`.
@@ -133,13 +99,18 @@ pub fn read(
     let reading = Reading {
         image: file.image,
         bounds: file.bounds(),
-        auditing: true,
     };
     let header = header::read_with(reading, blocks, found, at)?;
     let start = at as usize;
     match header {
         HeaderRead::Committed => Ok(()),
-        HeaderRead::Dataset(bodies) => known_dataset(file, blocks, found, i, start, bodies),
-        HeaderRead::Group { tree, heap } => known_group(file, blocks, found, i, start, tree, heap),
+        HeaderRead::Dataset(bodies) => {
+            known(found, i, start)?;
+            read_dataset(file, blocks, found, bodies)
+        }
+        HeaderRead::Group { tree, heap } => {
+            known(found, i, start)?;
+            read_group(file, blocks, found, tree, heap)
+        }
     }
 }

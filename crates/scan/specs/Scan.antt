@@ -1,5 +1,5 @@
 -- What reading the messages of a block returns.
-use Rattle.std.specs.Prelude.{ℕ, ◌+◌, ◌-◌, ◌≤◌, ◌<◌, Bool, List, [], ◌∷◌, ◌++◌, ◌⊎◌, ◌≡◌, length, Result, Ok, Err}
+use Rattle.std.specs.Prelude.{ℕ, ◌+◌, ◌-◌, ◌≤◌, ◌<◌, List, [], ◌∷◌, ◌++◌, ◌⊎◌, ◌≡◌, length, Result, Ok, Err}
 use Rattle.format.specs.Bytes.{part, u16}
 use Rattle.format.specs.Result as reader
 use Rattle.format.specs.declared.Refusal.{Refusal}
@@ -7,26 +7,12 @@ use Rattle.format.specs.Walk.{Walk, ret, refuse}
 use Rattle.format.specs.Header.{Gathered, messages, pass_over}
 use Rattle.format.specs.Message.{Message, of_type}
 use Rattle.tally.specs.Tally.{message_at, Tallied}
-use Rattle.sharing.specs.Sharing.{found_of, visit_message, KeptIf}
 use Rattle.tally.specs.declared.Tally.{Tally}
-
--- what messages come to, and the number of objects found with them
-pub record Gathering : Type 0 where
-  pub tally : Tally
-  pub objects : ℕ
-
-abbrev pub gathering : Tally → ℕ → Gathering
-gathering t objects = record { tally = t; objects = objects }
 
 -- a value, and the tally then lent
 abbrev pub with_tally : Result (Unit {0}) Refusal → Tally → Result Tally Refusal
 with_tally (Ok u) t = Ok t
 with_tally (Err r) t = Err r
-
--- a tally, and the number of objects then found
-abbrev pub with_objects : Result Tally Refusal → ℕ → Result Gathering Refusal
-with_objects (Ok t) objects = Ok (gathering t objects)
-with_objects (Err r) objects = Err r
 
 -- the walk of the messages from `from` to `end`, with what was found before them, is w, with any fuel that lasts
 abbrev pub MessagesAre : {S : Type 0} → (Message → S → reader.Result S) → List ℕ → ℕ → ℕ → S → Walk (Gathered S) → Type 0
@@ -44,15 +30,10 @@ abbrev pub TalliedWith : List ℕ → List Message → Tally → Tally → Type 
 TalliedWith im ms t t' = (sofar : List Message) → Tallied im sofar t → Tallied im (sofar ++ ms) t'
 
 -- the messages of the block, the tally with them and what was found with them, or the refusal
-abbrev pub Scanned : List ℕ → ℕ → ℕ → Bool → List ℕ → List ℕ → List ℕ → Gathering → List ℕ → List ℕ → List ℕ → Result Gathering Refusal → Type 0
-Scanned im from end auditing addresses counts marks g addresses' counts' marks' (Ok g') =
-    (ms : List Message)
-    × MessagesAre (visit_message auditing) im from end (found_of addresses counts marks g.objects)
-    (ret (record { all = ms; found = found_of addresses' counts' marks' g'.objects }))
-    × TalliedWith im ms g.tally g'.tally
-    × KeptIf auditing addresses counts g.objects (end - from) addresses' counts' marks' g'.objects
-Scanned im from end auditing addresses counts marks g addresses' counts' marks' (Err r) =
-    MessagesAre (visit_message auditing) im from end (found_of addresses counts marks g.objects) (refuse r)
+abbrev pub Scanned : {S : Type 0} → (Message → S → reader.Result S) → List ℕ → ℕ → ℕ → S → Tally → S → Result Tally Refusal → Type 0
+Scanned visit im from end found t found' (Ok t') =
+    (ms : List Message) × MessagesAre visit im from end found (ret (record { all = ms; found = found' })) × TalliedWith im ms t t'
+Scanned visit im from end found t found' (Err r) = MessagesAre visit im from end found (refuse r)
 
 -- the bytes hold messages
 abbrev pub Readable : List ℕ → ℕ → ℕ → Type 0

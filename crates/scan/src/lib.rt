@@ -1,13 +1,11 @@
 // The messages of one block of a header.
 #![tactic(auto)]
 
-ghost use Rattle.std.specs.Prelude.{◌+◌, ◌-◌, ◌≤◌, length};
-ghost use Rattle.sharing.specs.Sharing.{TablesIf};
-ghost use Rattle.sharing.specs.Lent.{SameFound};
-ghost use Rattle.scan.specs.Scan.{gathering, with_tally, with_objects, Scanned, Readable, NextIs};
+ghost use Rattle.std.specs.Prelude.{◌+◌, ◌-◌, ◌≤◌, length, OnOk};
+ghost use Rattle.scan.specs.Scan.{with_tally, Scanned, Readable, NextIs};
 
 use format::Refusal;
-use sharing::Found;
+use sharing::Visit;
 use tally::Tally;
 use walk::numbers::u16_at;
 
@@ -18,24 +16,22 @@ pub struct Span {
     pub end: usize,
 }
 
-// Reads the messages that fill the bytes of a span, and counts them behind those of the tally. In an audit, what a message
-// shares is discovered before the next message is read. The step is a message's size, so that no range has the places. The
-// tally is lent: a long chain of blocks is read more slowly if each returns its own.
-pub fn scan_block(
+// Reads the messages that fill the bytes of a span, and counts them behind those of the tally. A message is visited before the
+// next one is read. The step is a message's size, so that no range has the places. The tally is lent: a long chain of blocks is
+// read more slowly if each returns its own.
+pub fn scan_block<V: Visit>(
     image: &[u8],
-    found: &mut Found<'_, '_>,
-    auditing: bool,
+    found: &mut V,
     span: Span,
     tally: &mut Tally,
 ) -> Result<(), Refusal>
     requires from_le_end { span.from ≤ span.end }
     requires end_in_bounds { span.end ≤ length image.now }
-    requires tables_if { TablesIf auditing found.old.objects.now.addresses.now found.old.objects.now.counts.now found.old.marks.now
-        found.old.objects.now.count (span.end - span.from) }
-    ensures scanned { Scanned image.now span.from span.end auditing found.old.objects.now.addresses.now found.old.objects.now.counts.now
-        found.old.marks.now (gathering tally.old found.old.objects.now.count) found.new.objects.now.addresses.now found.new.objects.now.counts.now
-        found.new.marks.now (with_objects (with_tally result tally.new) found.new.objects.now.count) }
-    ensures kept { SameFound found.old found.new }
+    requires room { V.Room found.old (span.end - span.from) }
+    ensures scanned { Scanned V.visit image.now span.from span.end (V.state found.old) tally.old (V.state found.new)
+        (with_tally result tally.new) }
+    ensures counted { OnOk result (V.Kept found.old (span.end - span.from) found.new) }
+    ensures same { V.Same found.old found.new }
 {
     let mut at = span.from;
     let end = span.end;
@@ -45,7 +41,7 @@ pub fn scan_block(
         let next = body + message.size;
         let kind = message.kind;
         found
-            .visit_message(&image[body..next], auditing, kind)
+            .visit_message(&image[body..next], kind)
             .map_err(|n| Refusal::Fault(n, at))?;
         *tally = tally::counted(*tally, kind, body);
         at = next;

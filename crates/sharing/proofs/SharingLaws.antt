@@ -8,9 +8,8 @@ use borrow.Author.Tests.{eq-eqb, ne_eqb}
 use lib.Dec.{eqb}
 use lib.ListN.{length, get_or, set, length-set}
 use Rattle.std.specs.Prelude.{Result, Ok, Err, Option, Some, None, unwrap_or}
-use Rattle.format.specs.Result.{value}
 use Rattle.format.specs.Attribute.{read_attribute}
-use Rattle.format.specs.Sharing.{place_of, share, share_each, discover_sharing, not_committed}
+use Rattle.format.specs.Sharing.{Found, place_of, share, share_each, discover_sharing, not_committed}
 use Rattle.laws.proofs.Results.{passes, fails, gives, answers, bind-value}
 use Rattle.walk.proofs.Tests.{takes-then, takes-else}
 use Rattle.attribute.specs.Attribute.{attribute_result}
@@ -19,7 +18,9 @@ use Rattle.ledger.specs.Table.{linked_of, Discovered}
 use Rattle.ledger.specs.Index as index
 use Rattle.ledger.proofs.TableLaws.{discovered-sum}
 use Rattle.ledger.proofs.PlaceLaws.{discovered-place, discovered-inside}
-use Rattle.sharing.specs.Sharing.{found_of, visit_message, Tables, TablesIf, Shared, MessageVisited, TypeShared, KindKnown}
+use Rattle.walk.specs.Entered.{with_count}
+use Rattle.sharing.specs.Sharing.{found_of, Tables, Shared, TypeShared, KindKnown}
+use Rattle.sharing.specs.Visit.{Visited}
 
 -- A sharing of the address a, for which a search found the object o, or none; then the new object's place is n.
 module _ (xs ts ms : List ℕ) (n a : ℕ) (o : Option ℕ) (t : Tables xs ts ms n 1) (f : index.Found xs n a o) (xs' ts' : List ℕ) {x : Option ℕ} where
@@ -68,56 +69,32 @@ module _ (xs ts ms : List ℕ) (n a : ℕ) (o : Option ℕ) (t : Tables xs ts ms
       marks_same = length-set ms (unwrap_or o n) 1;
     }
 
--- A message, by what is done at it.
+-- A message, by what the audit does at it.
 module _ (kind : ℕ) (body xs ts ms : List ℕ) (n : ℕ) where
-  unchanged : (auditing : Bool) → TablesIf auditing xs ts ms n 1 →
-      ((flags place : ℕ) →
-      value (found_of xs ts ms n) ≡ visit_message auditing (record { type = kind; flags = flags; body = body; place = place }) (found_of xs ts ms n)) →
-      MessageVisited auditing kind body xs ts ms n xs ts ms (Ok n)
-  unchanged auditing t w = record {
-    walk = w;
-    kept = λ e. record { table = (t e).table; marked = (t e).marked; links = omega arith };
-    addresses_same = refl;
-    counts_same = refl;
-    marks_same = refl;
-  }
+  abbrev f : Found
+  f = found_of xs ts ms n
 
-  pub lookup-message : (auditing : Bool) → TablesIf auditing xs ts ms n 1 → auditing ≡ false →
-      MessageVisited auditing kind body xs ts ms n xs ts ms (Ok n)
-  unfolding visit_message
-  lookup-message auditing t e = unchanged auditing t (λ flags place. rw e)
+  pub other-message : (kind ≡ 12 → ⊥) → Visited discover_sharing kind body f f (Ok tt)
+  unfolding discover_sharing
+  other-message h = λ flags place. takes-else _ _ (ne_eqb kind 12 h) refl
 
-  module _ (auditing : Bool) (t : TablesIf auditing xs ts ms n 1) (e : auditing ≡ true) where
-    pub other-message : (kind ≡ 12 → ⊥) → MessageVisited auditing kind body xs ts ms n xs ts ms (Ok n)
-    unfolding visit_message discover_sharing
-    other-message h = unchanged auditing t (λ flags place. rw e (takes-else _ _ (ne_eqb kind 12 h) refl))
+  -- an attribute, by what was read of it
+  module _ (h : kind ≡ 12) {x : Result (Option ℕ) ℕ} (r : attribute_result x ≡ read_attribute body) where
+    pub own-type : x ≡ Ok None → Visited discover_sharing kind body f f (Ok tt)
+    unfolding discover_sharing share_each
+    own-type g = λ flags place. takes-then _ _ (eq-eqb kind 12 h) (gives _ (rw g at r) refl)
 
-    -- an attribute, by what was read of it
-    module _ (h : kind ≡ 12) {x : Result (Option ℕ) ℕ} (f : attribute_result x ≡ read_attribute body) where
-      pub own-type : x ≡ Ok None → MessageVisited auditing kind body xs ts ms n xs ts ms (Ok n)
-      unfolding visit_message discover_sharing share_each
-      own-type g = unchanged auditing t (λ flags place. rw e (takes-then _ _ (eq-eqb kind 12 h) (gives _ (rw g at f) refl)))
+    pub bad-attribute : (number : ℕ) → x ≡ Err number → Visited discover_sharing kind body f f (Err number)
+    unfolding discover_sharing
+    bad-attribute number g = λ flags place. takes-then _ _ (eq-eqb kind 12 h) (answers _ (rw g at r))
 
-      pub bad-attribute : (number : ℕ) → x ≡ Err number → MessageVisited auditing kind body xs ts ms n xs ts ms (Err number)
-      unfolding visit_message discover_sharing
-      bad-attribute number g = rw e record {
-        walk = λ flags place. takes-then _ _ (eq-eqb kind 12 h) (answers _ (rw g at f));
-        kept = λ _. tt;
-        addresses_same = refl;
-        counts_same = refl;
-        marks_same = refl;
-      }
-
-      pub shared-type : (address : ℕ) → x ≡ Ok (Some address) → (xs' ts' ms' : List ℕ) (r : Result ℕ ℕ) → Shared xs ts ms n address xs' ts' ms' r →
-          MessageVisited auditing kind body xs ts ms n xs' ts' ms' r
-      unfolding visit_message discover_sharing share_each
-      shared-type address g xs' ts' ms' r s = rw e record {
-        walk = λ flags place. takes-then _ _ (eq-eqb kind 12 h) (gives _ (rw g at f) (s.walk ∙ sym (bind-value (share address (found_of xs ts ms n)))));
-        kept = λ _. s.kept;
-        addresses_same = s.addresses_same;
-        counts_same = s.counts_same;
-        marks_same = s.marks_same;
-      }
+    pub shared-type : (address : ℕ) → x ≡ Ok (Some address) → (xs' ts' ms' : List ℕ) (n' : ℕ) (u : Result (Unit {0}) ℕ) →
+        Shared xs ts ms n address xs' ts' ms' (with_count u n') → Visited discover_sharing kind body f (found_of xs' ts' ms' n') u
+    unfolding discover_sharing share_each
+    shared-type address g xs' ts' ms' n' (Ok u) s = λ flags place.
+        takes-then _ _ (eq-eqb kind 12 h) (gives _ (rw g at r) (s.walk ∙ sym (bind-value (share address f))))
+    shared-type address g xs' ts' ms' n' (Err number) s = λ flags place.
+        takes-then _ _ (eq-eqb kind 12 h) (gives _ (rw g at r) (s.walk ∙ sym (bind-value (share address f))))
 
 -- A dataset's datatype, by what it shares.
 module _ (xs ts ms : List ℕ) (n : ℕ) where

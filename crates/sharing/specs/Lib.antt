@@ -1,2 +1,4 @@
 pub mod Sharing
 pub mod Lent
+pub mod Visit
+pub mod VisitLaws

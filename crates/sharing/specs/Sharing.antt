@@ -1,11 +1,13 @@
 -- What the audit has found, in three lists of numbers, and what the functions over it return and leave.
-use Rattle.std.specs.Prelude.{ℕ, ◌+◌, ◌^◌, ◌≤◌, ◌<◌, Bool, true, false, List, ◌≡◌, length, Result, Ok, Err}
+use Rattle.std.specs.Prelude.{ℕ, ◌+◌, ◌^◌, ◌≤◌, ◌<◌, Bool, true, false, List, [], ◌≡◌, length, Result, Ok, Err}
 use Rattle.format.specs.Limits.{objects_most}
+use Rattle.format.specs.Blocks.{Block}
 use Rattle.format.specs.Result as reader
 use Rattle.format.specs.Result.{value, answer}
-use Rattle.format.specs.Message.{Message}
 use Rattle.format.specs.Ledger.{Linked}
-use Rattle.format.specs.Sharing.{Found, share, share_each, discover_sharing, shared_by, not_committed}
+use Rattle.format.specs.Sharing.{Found, share, share_each, shared_by, not_committed}
+use Rattle.walk.specs.Lent.{length_sum}
+use Rattle.laws.specs.Blocks.{Fresh, Inside}
 use Rattle.datatype.specs.Datatype.{type_of}
 use Rattle.datatype.specs.declared.Datatype.{Datatype}
 use Rattle.ledger.specs.Links.{link_sum}
@@ -14,11 +16,6 @@ use Rattle.ledger.specs.Table.{linked_of, Table}
 -- the objects of the table, and what is known of each
 abbrev pub found_of : (addresses counts marks : List ℕ) (objects : ℕ) → Found
 found_of addresses counts marks objects = record { objects = linked_of objects addresses counts; marks = marks }
-
--- the audit discovers what a message shares; a lookup does nothing
-unfoldable pub visit_message : Bool → Message → Found → reader.Result Found
-visit_message true m f = discover_sharing m f
-visit_message false m f = value f
 
 -- what is found after a sharing, or the answer to it
 abbrev pub sharing_result : (addresses counts marks : List ℕ) → Result ℕ ℕ → reader.Result Found
@@ -31,19 +28,21 @@ pub record Tables (addresses counts marks : List ℕ) (objects spare : ℕ) : Ty
   pub marked : objects_most ≤ length marks
   pub fits : link_sum (linked_of objects addresses counts) + spare < 2 ^ 32
 
--- a lookup counts nothing, so that any lists do
-abbrev pub TablesIf : (auditing : Bool) (addresses counts marks : List ℕ) (objects spare : ℕ) → Type 0
-TablesIf auditing addresses counts marks objects spare = auditing ≡ true → Tables addresses counts marks objects spare
-
 -- the table is one again, with n links more at most
 pub record Kept (addresses counts : List ℕ) (objects n : ℕ) (addresses' counts' marks' : List ℕ) (objects' : ℕ) : Type 0 where
   pub table : Table addresses' counts' objects'
   pub marked : objects_most ≤ length marks'
   pub links : link_sum (linked_of objects' addresses' counts') ≤ link_sum (linked_of objects addresses counts) + n
 
-abbrev pub KeptIf : (auditing : Bool) (addresses counts : List ℕ) (objects n : ℕ) (addresses' counts' marks' : List ℕ) (objects' : ℕ) → Type 0
-KeptIf auditing addresses counts objects n addresses' counts' marks' objects' = auditing ≡ true →
-    Kept addresses counts objects n addresses' counts' marks' objects'
+-- Links and sharings found are at most the bytes of the blocks entered, even with so many to spare; the blocks lie inside the end of file, and
+-- no byte is in two of them. So no count outgrows the file.
+pub record Counting (addresses counts marks : List ℕ) (objects eof : ℕ) (bs : List Block) (spare : ℕ) : Type 0 where
+  pub small : eof < 2 ^ 32
+  pub apart : Fresh [] bs
+  pub inside : Inside eof bs
+  pub table : Table addresses counts objects
+  pub marked : objects_most ≤ length marks
+  pub links : link_sum (linked_of objects addresses counts) + spare ≤ length_sum bs
 
 -- so after a sharing that wasn't refused
 abbrev pub KeptThen : (addresses counts : List ℕ) (objects n : ℕ) (addresses' counts' marks' : List ℕ) → Result ℕ ℕ → Type 0
@@ -54,17 +53,6 @@ KeptThen addresses counts objects n addresses' counts' marks' (Err number) = Uni
 pub record Shared (addresses counts marks : List ℕ) (objects address : ℕ) (addresses' counts' marks' : List ℕ) (r : Result ℕ ℕ) : Type 0 where
   pub walk : sharing_result addresses' counts' marks' r ≡ share address (found_of addresses counts marks objects)
   pub kept : KeptThen addresses counts objects 1 addresses' counts' marks' r
-  pub addresses_same : length addresses' ≡ length addresses
-  pub counts_same : length counts' ≡ length counts
-  pub marks_same : length marks' ≡ length marks
-
--- a message of a type was visited; its flags and its place say nothing
-pub record MessageVisited (auditing : Bool) (kind : ℕ) (body addresses counts marks : List ℕ) (objects : ℕ)
-    (addresses' counts' marks' : List ℕ) (r : Result ℕ ℕ) : Type 0 where
-  pub walk : (flags place : ℕ) →
-      sharing_result addresses' counts' marks' r
-      ≡ visit_message auditing (record { type = kind; flags = flags; body = body; place = place }) (found_of addresses counts marks objects)
-  pub kept : auditing ≡ true → KeptThen addresses counts objects 1 addresses' counts' marks' r
   pub addresses_same : length addresses' ≡ length addresses
   pub counts_same : length counts' ≡ length counts
   pub marks_same : length marks' ≡ length marks

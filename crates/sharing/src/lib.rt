@@ -1,18 +1,27 @@
 // Sharings: what an attribute or a dataset shares is counted as an object, and a mark of each object says what is known of
-// it. The marks stand beside the table of objects, in the same order.
+// it. The marks stand beside the table of objects, in the same order. At a header's messages the audit discovers sharings, and
+// a lookup does nothing.
 #![tactic(auto)]
 
-ghost use Rattle.std.specs.Prelude.{◌<◌, ◌≡◌, length};
+ghost use Rattle.std.specs.Prelude.{ℕ, ◌<◌, ◌≡◌, List, length, OnOk};
+ghost use Rattle.format.specs.Blocks.{Block};
+ghost use Rattle.format.specs.Header.{pass_over};
+ghost use Rattle.format.specs.Message.{Message};
+ghost use Rattle.format.specs.Result as reader;
+ghost use Rattle.format.specs.Sharing as definitions;
 ghost use Rattle.walk.specs.Entered.{with_count};
-ghost use Rattle.sharing.specs.Sharing.{Tables, TablesIf, Shared, MessageVisited, TypeShared, KindKnown};
-ghost use Rattle.sharing.specs.Lent.{SameFound};
+ghost use Rattle.sharing.specs.Sharing.{Tables, Shared, TypeShared, KindKnown};
+ghost use Rattle.sharing.specs.Lent.{SameFound, found_in, TablesIn, KeptIn, CountingIn};
+ghost use Rattle.sharing.specs.Visit.{Visited, Lasts, Counts};
+ghost use Rattle.sharing.specs.VisitLaws.{found_lasts, found_counts, nothing_lasts, nothing_counts};
 
 use datatype::Datatype;
 use format::answers;
 use ledger::search;
 use ledger::table::Objects;
 
-// A sharing gave the object's address.
+// A sharing gave the object's address. The marks stay numbers: the definition `Found` has a list of numbers, and a list of
+// bytes is lent for them.
 pub const SHARED: u8 = 1;
 
 // The object's kind is known, and it isn't a committed datatype.
@@ -49,27 +58,6 @@ impl Found<'_, '_> {
         Ok(())
     }
 
-    // What is done at a message of the type `kind`: the audit counts an attribute's sharing, a lookup does nothing.
-    pub fn visit_message(&mut self, body: &[u8], auditing: bool, kind: u64) -> Result<(), u8>
-        requires { TablesIf auditing self.old.objects.now.addresses.now self.old.objects.now.counts.now self.old.marks.now self.old.objects.now.count 1 }
-        ensures visited { MessageVisited auditing kind body.now self.old.objects.now.addresses.now self.old.objects.now.counts.now self.old.marks.now
-            self.old.objects.now.count self.new.objects.now.addresses.now self.new.objects.now.counts.now self.new.marks.now
-            (with_count result self.new.objects.now.count) }
-        ensures kept { SameFound self.old self.new }
-    {
-        if !auditing {
-            return Ok(());
-        }
-        let passed_by = kind != 0x000c;
-        if passed_by {
-            return Ok(());
-        }
-        match attribute::read(body)? {
-            Some(address) => self.share(address),
-            None => Ok(()),
-        }
-    }
-
     // What a dataset's datatype shares is counted; a datatype of its own shares nothing.
     pub fn share_type(&mut self, datatype: Datatype) -> Result<(), u8>
         requires { Tables self.old.objects.now.addresses.now self.old.objects.now.counts.now self.old.marks.now self.old.objects.now.count 1 }
@@ -96,5 +84,100 @@ impl Found<'_, '_> {
         }
         self.marks[place] = OTHER_KIND;
         true
+    }
+}
+
+// What is done at a message of a header that has passed its checks, with what was found so far. The header's reader knows no
+// more of it than these clauses and laws.
+pub trait Visit {
+    // What was found so far, as the definitions have it.
+    ghost State: { Type 0 };
+
+    ghost state: { Self → State };
+
+    // The definition of what is done.
+    ghost visit: { Message → State → reader.Result State };
+
+    // There is room for so many more of what is counted.
+    ghost Room: { Self → ℕ → Type 0 };
+
+    // So many more were counted at most.
+    ghost Kept: { Self → ℕ → Self → Type 0 };
+
+    // What is counted is bounded by the blocks entered below an end of file, with so many bytes to spare.
+    ghost Counting: { Self → ℕ → List Block → ℕ → Type 0 };
+
+    // The same lists are lent.
+    ghost Same: { Self → Self → Type 0 };
+
+    // Visits a message of the type `kind`.
+    fn visit_message(&mut self, body: &[u8], kind: u64) -> Result<(), u8>
+        requires { Room self.old 1 }
+        ensures visited { Visited visit kind body.now (state self.old) (state self.new) result }
+        ensures counted { OnOk result (Kept self.old 1 self.new) }
+        ensures same { Same self.old self.new };
+
+    ghost lasts: { Lasts Same };
+
+    ghost counts: { Counts Room Kept Counting };
+}
+
+// The audit discovers what an attribute shares.
+impl Visit for Found<'_, '_> {
+    ghost State = { definitions.Found };
+
+    ghost state = { found_in };
+
+    ghost visit = { definitions.discover_sharing };
+
+    ghost Room = { TablesIn };
+
+    ghost Kept = { KeptIn };
+
+    ghost Counting = { CountingIn };
+
+    ghost Same = { SameFound };
+
+    ghost lasts = { found_lasts };
+
+    ghost counts = { found_counts };
+
+    fn visit_message(&mut self, body: &[u8], kind: u64) -> Result<(), u8> {
+        let passed_by = kind != 0x000c;
+        if passed_by {
+            return Ok(());
+        }
+        match attribute::read(body)? {
+            Some(address) => self.share(address),
+            None => Ok(()),
+        }
+    }
+}
+
+// Nothing is done: a header is read for its kind alone.
+#[derive(Drop)]
+pub struct PassOver;
+
+impl Visit for PassOver {
+    ghost State = { Unit {0} };
+
+    ghost state = { λ v. tt };
+
+    ghost visit = { pass_over };
+
+    ghost Room = { λ v n. Unit {0} };
+
+    ghost Kept = { λ v n w. Unit {0} };
+
+    ghost Counting = { λ v eof bs n. Unit {0} };
+
+    ghost Same = { λ v w. Unit {0} };
+
+    ghost lasts = { nothing_lasts };
+
+    ghost counts = { nothing_counts };
+
+    fn visit_message(&mut self, _body: &[u8], _kind: u64) -> Result<(), u8> {
+        Ok(())
     }
 }

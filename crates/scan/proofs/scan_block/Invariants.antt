@@ -1,16 +1,13 @@
 -- Turn by turn, the messages from here on behind those that were read.
 use Prim.Native.Nat.{◌-◌}
-use Rattle.sharing.specs.Lent.{SameFound}
-use Rattle.scan.proofs.ScanTables.{Turning}
+use Rattle.scan.proofs.ScanLaws.{Scanning}
 use Rattle.scan.proofs.scan_block.Given as goal
 
 abbrev pub invariant-loop-at : goal.invariant-loop-at
-invariant-loop-at l =
-    let f₀ = l.fn.found in
-    let f = l.found in
-    Turning l.image l.fn.span.from l.fn.span.end l.auditing f₀.objects.now.addresses.now f₀.objects.now.counts.now f₀.marks.now f₀.objects.now.count l.fn.tally
-    l.at f.objects.now.addresses.now f.objects.now.counts.now f.marks.now f.objects.now.count l.tally
-    × SameFound f₀ f
+invariant-loop-at g l =
+    Scanning g.V.Visit.visit l.image l.fn.span.from l.fn.span.end (g.V.Visit.state l.fn.found) l.fn.tally l.at (g.V.Visit.state l.found) l.tally
+    × g.V.Visit.Kept l.fn.found (l.at - l.fn.span.from) l.found
+    × g.V.Visit.Same l.fn.found l.found
 
 abbrev pub decreases-loop-at : goal.decreases-loop-at
-decreases-loop-at l = l.fn.span.end - l.at
+decreases-loop-at g l = l.fn.span.end - l.at

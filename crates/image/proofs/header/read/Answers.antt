@@ -7,6 +7,6 @@ pub returns-clause-header : goal.returns-clause-header
 returns-clause-header c =
     let read = c.read_with.ensures.headed in
     record {
-      walked = kind-alone _ _ _ (header_end c.args.image.now _ c.read_with.result) _ _ _ _ _ _ read.walked;
+      walked = kind-alone _ _ _ _ _ _ _ c.requires.lent c.read_with.ensures.kept.long (header_end c.args.image.now _ c.read_with.result) read.walked;
       bodies = read.bodies;
     }

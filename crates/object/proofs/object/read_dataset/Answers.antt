@@ -1,18 +1,17 @@
 -- Dataspace and datatype, the sharing, then layout and data.
 use Prim.Native.Nat.{ℕ, ◌-◌}
-use mathlib.Core.Bool.{true}
-use mathlib.Core.Path.{◌≡◌, refl}
+use mathlib.Core.Path.{◌≡◌}
 use native.Mathlib.Omega.{arith}
 use Rattle.std.specs.Prelude.{Ok, Err}
 use Rattle.std.proofs.lemmas.Result.{err_from_is_err_and}
 use Rattle.format.specs.Walk.{fault}
 use Rattle.dataset.specs.Dataset.{body_of, parts_of}
-use Rattle.continuations.proofs.BlockLaws.{counting-tables}
+use Rattle.sharing.specs.VisitLaws.{found_counts}
 use Rattle.object.proofs.ObjectLaws.{parts-refused, sharing-refused, storage-stopped, storage-read}
 use Rattle.object.proofs.object.read_dataset.Goals as goal
 
 pub share_type-requires : goal.share_type-requires
-share_type-requires c = counting-tables true _ _ _ _ _ _ _ 1 (λ _. c.requires.listed.counting) refl
+share_type-requires c = found_counts.fits c.args.found.now _ _ _ 1 (omega arith) c.requires.listed.counting
 
 pub read_storage-requires : goal.read_storage-requires
 read_storage-requires c = rw c.bounds.ensures (record {
