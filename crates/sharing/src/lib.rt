@@ -9,7 +9,6 @@ ghost use Rattle.sharing.specs.Lent.{SameFound};
 
 use datatype::Datatype;
 use format::answers;
-use ledger::search;
 use ledger::table::Objects;
 
 // A sharing gave the object's address.
@@ -35,8 +34,7 @@ impl Found<'_, '_> {
     {
         let objects = &mut *self.objects;
         let count = objects.count;
-        let addresses = &mut *objects.addresses;
-        let found = search::find(addresses, count, address);
+        let found = objects.list().find(address);
         let place = found.object.unwrap_or(count);
         objects
             .count_at(address, found)

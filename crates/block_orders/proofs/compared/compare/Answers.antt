@@ -19,5 +19,5 @@ loop-at-preserved c =
     record {
       lent = l.0;
       room_is = t.invariant.room_is;
-      few = λ m h. c.larger-most.ensures.2 (m + 10) (t.invariant.few m h) (few-less _ _ _ t.invariant.lent.counted c.find-found.ensures.tests m h);
+      few = λ m h. c.larger-most.ensures.2 (m + 10) (t.invariant.few m h) (few-less _ _ _ t.invariant.lent.counted (rw (c.list.ensures.words, c.list.ensures.count) at c.find-found.ensures).tests m h);
     }
