@@ -13,16 +13,10 @@ pub fn add(blocks: &mut [u64], count: usize, first: usize, second: usize)
     let recent = count % RUN_MOST;
     let second_from = 5 * room;
     let places_from = second_from + RUN_MOST;
-    ordering::insert(
-        &mut blocks[second_from..second_from + recent + 1],
-        second,
-        recent as u64,
-    );
-    ordering::insert(
-        &mut blocks[places_from..places_from + recent + 1],
-        second,
-        first as u64,
-    );
+    let numbers = &mut blocks[second_from..second_from + recent + 1];
+    ordering::insert(numbers, second, recent as u64);
+    let places = &mut blocks[places_from..places_from + recent + 1];
+    ordering::insert(places, second, first as u64);
     if recent + 1 == RUN_MOST {
         ordering::merge(
             blocks,

@@ -2,7 +2,7 @@
 // number of links to it and of sharings of it.
 ghost use Rattle.std.specs.Prelude.{◌+◌, ◌^◌, ◌<◌, ◌≡◌, None};
 ghost use Rattle.ledger.specs.Links.{link_sum};
-ghost use Rattle.ledger.specs.Index.{Sought, Addable, Added};
+ghost use Rattle.ledger.specs.Index.{Indexed, Sought, Addable, Added};
 ghost use Rattle.ledger.specs.Table.{linked_of, Table, Discovered, Started};
 ghost use Rattle.ledger.specs.Objects.{found_count, SameTable};
 
@@ -18,15 +18,16 @@ pub struct Objects<'a> {
 }
 
 impl Objects<'_> {
-    // The objects, for a search by address.
-    pub fn list(&self) -> ObjectList<'_>
-        ensures addresses { result.addresses.now ≡ self.now.addresses.now }
-        ensures count { result.count ≡ self.now.count }
+    // Searches for an address among those of the objects.
+    pub fn find(&self, address: u64) -> Search
+        requires { Indexed self.now.addresses.now self.now.count }
+        ensures { Sought self.now.addresses.now self.now.count address 2 result }
     {
-        ObjectList {
+        let objects = ObjectList {
             addresses: &*self.addresses,
             count: self.count,
-        }
+        };
+        objects.find(address)
     }
 
     // Puts the address of a new object behind those in use and its number into the order, and makes it the guess. Nothing is compared: a
@@ -42,11 +43,8 @@ impl Objects<'_> {
         let objects = self.count;
         let addresses = &mut *self.addresses;
         addresses[objects] = address;
-        ordering::insert(
-            &mut addresses[from..from + objects + 1],
-            order,
-            objects as u64,
-        );
+        let numbers = &mut addresses[from..from + objects + 1];
+        ordering::insert(numbers, order, objects as u64);
         search::remember(addresses, address, objects);
         self.count = objects + 1;
     }
@@ -86,7 +84,7 @@ impl Objects<'_> {
         ensures full { result ≡ None → self.new.count ≡ self.old.count }
         ensures kept { SameTable self.old self.new }
     {
-        let found = self.list().find(address);
+        let found = self.find(address);
         self.count_at(address, found)
     }
 

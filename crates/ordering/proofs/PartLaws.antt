@@ -48,7 +48,9 @@ module _ (ws part : List ℕ) (base n k place v : ℕ) (is : k ≡ n + 1) (fits 
     below = low;
     here = inside ws part base k (omega arith) long place (omega arith) ∙ (simp zero-add at i.here);
     above = λ j h l.
-        inside ws part base k (omega arith) long (j + 1) (omega arith) ∙ (simp zero-add at (i.above j h (omega (arith, held)))) ∙ part-word ws base k j (omega arith);
+        inside ws part base k (omega arith) long (j + 1) (omega arith)
+        ∙ (simp zero-add at (i.above j h (omega (arith, held))))
+        ∙ part-word ws base k j (omega arith);
     rest = λ j h. rest ws part base k (omega arith) long j (omega arith);
     long = same_len_mid base k ws part i.long;
   }

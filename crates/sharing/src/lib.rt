@@ -34,7 +34,7 @@ impl Found<'_, '_> {
     {
         let objects = &mut *self.objects;
         let count = objects.count;
-        let found = objects.list().find(address);
+        let found = objects.find(address);
         let place = found.object.unwrap_or(count);
         objects
             .count_at(address, found)

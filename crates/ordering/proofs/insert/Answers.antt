@@ -1,6 +1,6 @@
 -- The words from i on have moved.
 use Prim.Native.Nat.{◌+◌, ◌-◌}
-use mathlib.Core.Path.{◌≡◌, refl}
+use mathlib.Core.Path.{◌≡◌}
 use Rattle.ordering.proofs.OrderLaws.{moved_none, moved_more, moved_in}
 use borrow.Author.Rules.{rules}
 use lib.ListN.{length}

@@ -2,7 +2,6 @@
 use Prim.Native.Nat.{◌+◌, ◌*◌}
 use native.Mathlib.Omega.{arith}
 use Rattle.ordering.proofs.PartLaws.{inserted-part}
-use Rattle.block_index.specs.Index.{recent_of}
 use Rattle.block_index.proofs.AddLaws.{full-held, added-last, added-merged}
 use Rattle.block_index.proofs.adding.add.Goals as goal
 

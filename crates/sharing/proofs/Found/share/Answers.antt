@@ -12,31 +12,31 @@ returns-in_err-ok_or-clause-shared c =
     let p = err_from_is_err_and c.from_residual.result c.from_residual.ensures.1 in
     let f : (c.count_at.result ≡ None) × (c.in_err-ok_or.field-0.0 ≡ 12) = grind arith in
     let e = ap (found_count c.count_at.new.self.count) f.0 in
-    rw (p.1, p.2, f.1) (share-full _ _ _ _ _ _ c.requires (rw (c.list.ensures.addresses, c.list.ensures.count) at c.find-found.ensures).found _ _ e c.count_at.ensures.discovered)
+    rw (p.1, p.2, f.1) (share-full _ _ _ _ _ _ c.requires c.find-found.ensures.found _ _ e c.count_at.ensures.discovered)
 
 pub bounds-self-place : goal.bounds-self-place
 bounds-self-place c =
     let f : c.count_at.result ≡ Some tt = grind arith in
     let e = ap (found_count c.count_at.new.self.count) f in
-    rw c.unwrap_or-place.ensures (marked-place _ _ _ _ _ _ c.requires (rw (c.list.ensures.addresses, c.list.ensures.count) at c.find-found.ensures).found _ _ _ e c.count_at.ensures.discovered)
+    rw c.unwrap_or-place.ensures (marked-place _ _ _ _ _ _ c.requires c.find-found.ensures.found _ _ _ e c.count_at.ensures.discovered)
 
 pub returns-then-other-clause-shared : goal.returns-then-other-clause-shared
 returns-then-other-clause-shared c =
     let f : c.count_at.result ≡ Some tt = grind arith in
     let e = ap (found_count c.count_at.new.self.count) f in
-    share_other _ _ _ _ _ _ c.requires (rw (c.list.ensures.addresses, c.list.ensures.count) at c.find-found.ensures).found _ _ _ e c.count_at.ensures.discovered
+    share_other _ _ _ _ _ _ c.requires c.find-found.ensures.found _ _ _ e c.count_at.ensures.discovered
     (rw c.unwrap_or-place.ensures at c.if-other.true)
 
 pub bounds-self-place-2 : goal.bounds-self-place-2
 bounds-self-place-2 c =
     let f : c.count_at.result ≡ Some tt = grind arith in
     let e = ap (found_count c.count_at.new.self.count) f in
-    rw c.unwrap_or-place.ensures (marked-place _ _ _ _ _ _ c.requires (rw (c.list.ensures.addresses, c.list.ensures.count) at c.find-found.ensures).found _ _ _ e c.count_at.ensures.discovered)
+    rw c.unwrap_or-place.ensures (marked-place _ _ _ _ _ _ c.requires c.find-found.ensures.found _ _ _ e c.count_at.ensures.discovered)
 
 pub returns-clause-shared : goal.returns-clause-shared
 returns-clause-shared c =
     let f : c.count_at.result ≡ Some tt = grind arith in
     let e = ap (found_count c.count_at.new.self.count) f in
     rw c.unwrap_or-place.ensures
-    (share-counted _ _ _ _ _ _ c.requires (rw (c.list.ensures.addresses, c.list.ensures.count) at c.find-found.ensures).found _ _ _ e c.count_at.ensures.discovered
+    (share-counted _ _ _ _ _ _ c.requires c.find-found.ensures.found _ _ _ e c.count_at.ensures.discovered
     (rw c.unwrap_or-place.ensures at c.if-other.false))

@@ -1,5 +1,4 @@
 -- The last word of the blocks, where there is one.
-use mathlib.Core.Path.{◌∙◌}
 use Rattle.std.proofs.lemmas.Option.{unwrap_or-slice_get}
 use Rattle.format.specs.Blocks.{no_object}
 use Rattle.format.specs.Bytes.{undefined_address}

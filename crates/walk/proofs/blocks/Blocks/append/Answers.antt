@@ -14,4 +14,6 @@ pub bounds-words-first-4 : goal.bounds-words-first-4
 bounds-words-first-4 c = simp length-set (omega arith)
 
 pub returns-clause-written : goal.returns-clause-written
-returns-clause-written c = rw (c.owner_after-object.ensures, c.last_owner.ensures (blocks_of c.args.self.now.count c.args.self.now.words.now) c.requires.1.numbered)
+returns-clause-written c =
+    let b = c.args.self.now in
+    rw (c.owner_after-object.ensures, c.last_owner.ensures (blocks_of b.count b.words.now) c.requires.1.numbered)

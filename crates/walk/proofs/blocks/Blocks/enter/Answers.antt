@@ -87,9 +87,10 @@ pub add-requires : goal.add-requires
 add-requires c =
     let a = c.args in
     let b = a.self.now in
+    let l = c.list.ensures in
     rw c.append.ensures.written
     (addable b.words.now b.count a.bounds.room a.kind a.at a.size c.requires (omega (arith, c.if-bounds-count.false))
-    (omega (arith, c.if-bounds-at-2.false, c.if-bounds-at.false)) c.find-found.result (rw (c.list.ensures.words, c.list.ensures.count) at c.find-found.ensures) c.if-found.false)
+    (omega (arith, c.if-bounds-at-2.false, c.if-bounds-at.false)) c.find-found.result (rw (l.words, l.count) at c.find-found.ensures) c.if-found.false)
 
 -- there is room, and the block meets none
 roomy : (c : goal.After-self-1) →
