@@ -48,25 +48,42 @@ pub struct Found {
     pub tests: usize,
 }
 
-// Searches for the `size` bytes at `at`.
-pub fn find(blocks: &[u64], count: usize, at: u64, size: u64) -> Found
-    requires indexed { Indexed blocks.now count }
-    requires size_bound { at + size < 2 ^ 64 }
-    ensures { FoundIn blocks.now count at size result }
-{
-    let end = at + size;
-    let run = first_run(blocks.len(), count);
-    let last = second_run(blocks.len(), count);
-    let first = place_in(blocks, run, at);
-    let second = place_in(blocks, last, at);
-    let mut met = meets(blocks, run, first.place, end);
-    if !met {
-        met = meets(blocks, last, second.place, end);
-    }
-    Found {
-        met,
-        first: first.place,
-        second: second.place,
-        tests: first.tests + second.tests,
+// The blocks of a list: its words, and how many blocks are indexed in it.
+#[derive(Clone, Copy)]
+pub struct BlockList<'a> {
+    pub words: &'a [u64],
+    pub count: usize,
+}
+
+// The `size` bytes at `at`, which are to be a block.
+#[derive(Clone, Copy)]
+pub struct NewBlock {
+    pub at: u64,
+    pub size: u64,
+}
+
+impl BlockList<'_> {
+    // Searches for the bytes of a new block.
+    pub fn find(self, new: NewBlock) -> Found
+        requires indexed { Indexed self.words.now self.count }
+        requires size_bound { new.at + new.size < 2 ^ 64 }
+        ensures { FoundIn self.entry.words.now self.entry.count new.at new.size result }
+    {
+        let blocks = self.words;
+        let end = new.at + new.size;
+        let run = first_run(blocks.len(), self.count);
+        let last = second_run(blocks.len(), self.count);
+        let first = place_in(blocks, run, new.at);
+        let second = place_in(blocks, last, new.at);
+        let mut met = meets(blocks, run, first.place, end);
+        if !met {
+            met = meets(blocks, last, second.place, end);
+        }
+        Found {
+            met,
+            first: first.place,
+            second: second.place,
+            tests: first.tests + second.tests,
+        }
     }
 }

@@ -3,7 +3,7 @@ ghost use Rattle.std.specs.Prelude.{true, ◌≡◌, ℕ, ◌+◌, ◌^◌, ◌<
 ghost use Rattle.block_index.specs.Index.{Indexed};
 ghost use Rattle.block_index.specs.Search.{Sorted, Placed, FoundIn, LeastMet, FirstMet};
 
-use crate::index::{Found, first_run, second_run};
+use crate::index::{BlockList, Found, NewBlock, first_run, second_run};
 use crate::search::Run;
 
 // The least number of a run's blocks that begin before `end`, from the place on, and of `least`.
@@ -24,17 +24,20 @@ fn least_met(blocks: &[u64], run: Run, place: usize, end: u64, least: usize) -> 
     low
 }
 
-// The number of the first block entered that the `size` bytes at `at` meet, where they meet one.
-pub fn first_met(blocks: &[u64], count: usize, found: Found, at: u64, size: u64) -> usize
-    requires indexed { Indexed blocks.now count }
-    requires size_bound { at + size < 2 ^ 64 }
-    requires found_in { FoundIn blocks.now count at size found }
-    requires met_value { found.met ≡ true }
-    ensures { FirstMet blocks.now count at size result }
-{
-    let end = at + size;
-    let run = first_run(blocks.len(), count);
-    let last = second_run(blocks.len(), count);
-    let low = least_met(blocks, run, found.first, end, count);
-    least_met(blocks, last, found.second, end, low)
+impl BlockList<'_> {
+    // The number of the first block entered that a new one meets, where it meets one.
+    pub fn first_met(self, found: Found, new: NewBlock) -> usize
+        requires indexed { Indexed self.words.now self.count }
+        requires size_bound { new.at + new.size < 2 ^ 64 }
+        requires found_in { FoundIn self.words.now self.count new.at new.size found }
+        requires met_value { found.met ≡ true }
+        ensures { FirstMet self.entry.words.now self.entry.count new.at new.size result }
+    {
+        let blocks = self.words;
+        let end = new.at + new.size;
+        let run = first_run(blocks.len(), self.count);
+        let last = second_run(blocks.len(), self.count);
+        let low = least_met(blocks, run, found.first, end, self.count);
+        least_met(blocks, last, found.second, end, low)
+    }
 }

@@ -2,7 +2,7 @@
 ghost use Rattle.std.specs.Prelude.{ℕ, ◌+◌, ◌^◌, ◌<◌, ◌≤◌, length};
 ghost use Rattle.walk.specs.Lent.{places_of};
 
-use block_index::index::find;
+use block_index::index::NewBlock;
 use walk::blocks::{Blocks, Bounds, places};
 use walk::kinds;
 
@@ -38,9 +38,7 @@ pub fn compare(work: &mut [u64], addresses: &[u64], size: u64, end_of_file: u64)
         if end_of_file < at || end_of_file - at < size {
             break;
         }
-        let entered = blocks.count;
-        let words = &mut *blocks.words;
-        let found = find(words, entered, at, size);
+        let found = blocks.list().find(NewBlock { at, size });
         if blocks.enter(bounds, kinds::DATA, at, size).is_err() {
             break;
         }

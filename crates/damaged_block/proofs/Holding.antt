@@ -1,5 +1,5 @@
 -- The block that holds a byte, found in the words of a list.
-use Prim.Native.Nat.{ℕ, zero, suc, ◌+◌, ◌-◌, ◌*◌, ◌≤◌, ◌<◌}
+use Prim.Native.Nat.{ℕ, zero, suc, ◌+◌, ◌-◌, ◌*◌, ◌/◌, ◌≤◌, ◌<◌}
 use mathlib.Core.Bool.{Bool, true, false, ◌&&◌, and-false}
 use mathlib.Core.List.{List, [], ◌∷◌}
 use mathlib.Core.Path.{◌≡◌, refl, ap, sym, ◌∙◌}
@@ -7,11 +7,13 @@ use native.Mathlib.Omega.{arith}
 use native.Mathlib.Numerals.{add-one}
 use borrow.Author.Tests.{lt-ltb, le-ltb, le-leb, lt-leb, ltb-true, ltb-false}
 use lib.Dec.{ltb, leb}
-use lib.ListN.{get_or, take, drop, drop_of_length-le}
+use lib.ListN.{length, get_or, take, drop, drop_of_length-le}
+use Rattle.std.proofs.lemmas.List.{take_all}
 use Rattle.format.specs.Blocks.{Block, block, no_object, owner_after, last_owner, block_words}
 use Rattle.format.specs.Report.{ListedBlock, no_block, holds_byte, holding}
 use Rattle.walk.specs.Lent.{blocks_of}
-use Rattle.walk.proofs.BlockList.{length-blocks_of, block_at, blocks-next}
+use Rattle.walk.proofs.BlockList.{length-blocks_of, words-blocks, block_at, blocks-next}
+use Rattle.walk.proofs.Owners.{length-block_words}
 use Rattle.damaged_block.specs.Block.{four_at}
 use Rattle.damaged_block.proofs.Filled.{four-of}
 
@@ -29,6 +31,20 @@ module _ (a n x : ℕ) where
   pub holds-before : x < a → leb a x ≡ holds_byte (block a n) x
   unfolding holds_byte
   holds-before h = simp (lt-leb a x h)
+
+-- the blocks whose words a list is
+module _ (ws : List ℕ) (bs : List Block) (is : ws ≡ block_words no_object bs) where
+  pub words-count : length ws / 4 ≡ length bs
+  words-count = omega (arith, ap length is, length-block_words no_object bs)
+
+  all : take (4 * length bs) ws ≡ ws
+  all = take_all (4 * length bs) ws (omega (arith, ap length is, length-block_words no_object bs))
+
+  pub words-are : blocks_of (length ws / 4) ws ≡ bs
+  words-are = rw words-count (words-blocks no_object bs ws (all ∙ is))
+
+  pub words-numbered : take (4 * (length ws / 4)) ws ≡ block_words no_object (blocks_of (length ws / 4) ws)
+  words-numbered = rw (words-are, words-count) (all ∙ is)
 
 -- the object of the block behind the first i
 last_more : (o i : ℕ) (bs rest : List Block) (b : Block) → drop i bs ≡ b ∷ rest →

@@ -1,9 +1,8 @@
 // The damaged block: the one in which a fault was met, or the one that can't be entered.
-ghost use Rattle.std.specs.Prelude.{◌≡◌, ◌+◌, ◌*◌, ◌≤◌, length, take};
+ghost use Rattle.std.specs.Prelude.{◌≡◌, ◌+◌, ◌*◌, ◌≤◌, List, length};
 ghost use Rattle.format.specs.Blocks as definitions;
-ghost use Rattle.format.specs.Blocks.{no_object, block_words};
+ghost use Rattle.format.specs.Blocks.{Block, no_object, block_words};
 ghost use Rattle.format.specs.Report as reports;
-ghost use Rattle.walk.specs.Lent.{blocks_of};
 ghost use Rattle.damaged_block.specs.Block.{listed_of, four_at};
 
 use format::{IMAGE_LEAST, Refusal, answers};
@@ -68,12 +67,11 @@ fn listed(list: &[u64], i: usize) -> ListedBlock
     }
 }
 
-// The block in which the byte `place` lies.
-fn holding(list: &[u64], count: usize, place: u64) -> ListedBlock
-    requires count_in_bounds { 4 * count ≤ length list.now }
-    requires list_value { take (4 * count) list.now ≡ block_words no_object (blocks_of count list.now) }
-    ensures { listed_of result ≡ reports.holding no_object (blocks_of count list.now) place }
+// The block in which the byte `place` lies, of the blocks whose words these are.
+fn holding(list: &[u64], place: u64) -> ListedBlock
+    ensures { (bs : List Block) → list.now ≡ block_words no_object bs → listed_of result ≡ reports.holding no_object bs place }
 {
+    let count = list.len() / 4;
     for i in 0..count {
         if holds_byte(list[4 * i], list[4 * i + 1], place) {
             return listed(list, i);
@@ -83,35 +81,31 @@ fn holding(list: &[u64], count: usize, place: u64) -> ListedBlock
 }
 
 // A block that can't be entered behind the others is of the object whose walk wants it.
-fn refused_block(list: &[u64], count: usize, kind: u8, at: u64, size: u64) -> ListedBlock
-    requires count_in_bounds { 4 * count ≤ length list.now }
-    requires list_value { take (4 * count) list.now ≡ block_words no_object (blocks_of count list.now) }
-    ensures { listed_of result ≡ reports.listed_block at size kind
-        (definitions.owner_after (definitions.last_owner no_object (blocks_of count list.now)) kind) }
+fn refused_block(list: &[u64], kind: u8, at: u64, size: u64) -> ListedBlock
+    ensures { (bs : List Block) → list.now ≡ block_words no_object bs → listed_of result ≡ reports.listed_block at size kind
+        (definitions.owner_after (definitions.last_owner no_object bs) kind) }
 {
     ListedBlock {
         address: at,
         size,
         kind: kind as u64,
-        object: owner_after(last_owner(list, count), kind),
+        object: owner_after(last_owner(list), kind),
     }
 }
 
-// The damaged block of a refusal, behind the blocks entered.
-pub fn damaged(list: &[u64], count: usize, refusal: Refusal) -> ListedBlock
-    requires count_in_bounds { 4 * count ≤ length list.now }
-    requires list_value { take (4 * count) list.now ≡ block_words no_object (blocks_of count list.now) }
-    ensures { listed_of result ≡ reports.damaged (blocks_of count list.now) refusal }
+// The damaged block of a refusal, behind the blocks entered, whose words the list is.
+pub fn damaged(list: &[u64], refusal: Refusal) -> ListedBlock
+    ensures { (bs : List Block) → list.now ≡ block_words no_object bs → listed_of result ≡ reports.damaged bs refusal }
 {
     match refusal {
-        Refusal::Fault(_, at) => holding(list, count, at as u64),
+        Refusal::Fault(_, at) => holding(list, at as u64),
         Refusal::NotEntered {
             number: _,
             kind,
             at,
             size,
             met: _,
-        } => refused_block(list, count, kind, at, size),
+        } => refused_block(list, kind, at, size),
     }
 }
 

@@ -4,3 +4,4 @@ pub mod MergeLaws
 pub mod MergedCases
 pub mod RunLaws
 pub mod HalvingLaws
+pub mod PartLaws

@@ -4,21 +4,20 @@
 
 pub mod halving;
 
-ghost use Rattle.std.specs.Prelude.{◌+◌, ◌≤◌, ◌<◌, length};
+ghost use Rattle.std.specs.Prelude.{◌+◌, ◌-◌, ◌≤◌, ◌<◌, length};
 ghost use Rattle.ordering.specs.Order.{Inserted};
 ghost use Rattle.ordering.specs.Merge.{Held, MergedIn, Raised};
 
-// Puts a word among the `count` words from `base` on, at `place`; those from there on move up by one.
-pub fn insert(words: &mut [u64], base: usize, count: usize, place: usize, value: u64)
-    requires count_in_bounds { base + count < length words.old }
-    requires place_le_count { place ≤ count }
-    ensures { Inserted words.old base count place value words.new }
+// Puts a word among the words, at `place`; those from there on move up by one, over the last.
+pub fn insert(words: &mut [u64], place: usize, value: u64)
+    requires { place < length words.old }
+    ensures { Inserted words.old 0 (length words.old - 1) place value words.new }
 {
-    let first = base + place;
-    for i in (first..base + count).rev() {
+    let last = words.len() - 1;
+    for i in (place..last).rev() {
         words[i + 1] = words[i];
     }
-    words[first] = value;
+    words[place] = value;
 }
 
 // Moves the words from `first` up to `last` up by so many places, the last first.

@@ -57,7 +57,7 @@ fn refused(list: &[u64], entered: usize, refusal: Refusal) -> Reported
         answer: number_of(refusal),
         block_count: entered,
         place: damage_place(refusal),
-        block: damaged(list, entered, refusal),
+        block: damaged(&list[..4 * entered], refusal),
         met: met_of(refusal),
         objects: 0,
     }

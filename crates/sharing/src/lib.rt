@@ -17,7 +17,6 @@ ghost use Rattle.sharing.specs.VisitLaws.{found_lasts, found_counts, nothing_las
 
 use datatype::Datatype;
 use format::answers;
-use ledger::search;
 use ledger::table::Objects;
 
 // A sharing gave the object's address. The marks stay numbers: the definition `Found` has a list of numbers, and a list of
@@ -44,8 +43,7 @@ impl Found<'_, '_> {
     {
         let objects = &mut *self.objects;
         let count = objects.count;
-        let addresses = &mut *objects.addresses;
-        let found = search::find(addresses, count, address);
+        let found = objects.find(address);
         let place = found.object.unwrap_or(count);
         objects
             .count_at(address, found)

@@ -29,28 +29,25 @@ module _ (o v : ℕ) where
   unfolding owner_after
   owner-next e f = rw e (simp (ne_eqb o no_object f))
 
--- the last word of some blocks is the number of the last one's object
-last_word : (o : ℕ) (b : Block) (bs : List Block) → get_or (block_words o (b ∷ bs)) (4 * length bs + 3) 0 ≡ last_owner o (b ∷ bs)
-unfolding block_words last_owner
-last_word o b [] = refl
-last_word o b (c ∷ bs) =
-    let e : 4 * suc (length bs) + 3 ≡ suc (suc (suc (suc (4 * length bs + 3)))) = omega arith in
-    rw e (last_word (owner_after o b.kind) c bs)
-
-pub last-number : (c : ℕ) (ws : List ℕ) → (c ≡ 0 → ⊥) → take (4 * c) ws ≡ block_words no_object (blocks_of c ws) →
-    get_or ws (4 * c - 1) 0 ≡ last_owner no_object (blocks_of c ws)
-last-number c ws h e = go (blocks_of c ws) (length-blocks_of c ws) e
-  where
-    go : (bs : List Block) → length bs ≡ c → take (4 * c) ws ≡ block_words no_object bs → get_or ws (4 * c - 1) 0 ≡ last_owner no_object bs
-    go [] l q = absurd (h (sym l))
-    go (b ∷ bs) l q =
-        let i : 4 * c - 1 ≡ 4 * length bs + 3 = omega (arith, l) in
-        sym (get_or-take (4 * c) ws (4 * c - 1) 0 (omega arith)) ∙ rw (q, i) (last_word no_object b bs)
-
 pub length-block_words : (o : ℕ) (bs : List Block) → length (block_words o bs) ≡ 4 * length bs
 unfolding block_words
 length-block_words o [] = refl
 length-block_words o (b ∷ bs) = omega (arith, length-block_words (owner_after o b.kind) bs)
+
+-- the last word of some blocks is the number of the last one's object
+last_word : (o d : ℕ) (b : Block) (bs : List Block) → get_or (block_words o (b ∷ bs)) (4 * length bs + 3) d ≡ last_owner o (b ∷ bs)
+unfolding block_words last_owner
+last_word o d b [] = refl
+last_word o d b (c ∷ bs) =
+    let e : 4 * suc (length bs) + 3 ≡ suc (suc (suc (suc (4 * length bs + 3)))) = omega arith in
+    rw e (last_word (owner_after o b.kind) d c bs)
+
+pub last-number : (o : ℕ) (bs : List Block) → get_or (block_words o bs) (length (block_words o bs) - 1) o ≡ last_owner o bs
+unfolding block_words last_owner
+last-number o [] = refl
+last-number o (b ∷ bs) =
+    let i : length (block_words o (b ∷ bs)) - 1 ≡ 4 * length bs + 3 = omega (arith, length-block_words o (b ∷ bs)) in
+    rw i (last_word o o b bs)
 
 -- the words of one block more
 words_snoc : (o : ℕ) (bs : List Block) (b : Block) →

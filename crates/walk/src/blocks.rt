@@ -9,8 +9,7 @@ ghost use Rattle.walk.specs.Entered.{with_count, SameWords};
 
 use crate::owner::{last_owner, owner_after};
 use block_index::adding::add;
-use block_index::index::{RUN_MOST, find, places_for};
-use block_index::met::first_met;
+use block_index::index::{BlockList, NewBlock, RUN_MOST, places_for};
 use format::{BLOCKS_MOST, Refusal, answers};
 
 // Sets the words from a place on to zero. `words::clear_from` does so with bytes: one function over both types would have to be given their
@@ -77,19 +76,6 @@ pub fn not_entered(number: u8, kind: u8, at: u64, size: u64, met: u64) -> Refusa
     }
 }
 
-// Writes a block behind the others, with the number of its object.
-fn append(blocks: &mut [u64], count: usize, kind: u8, at: u64, size: u64)
-    requires { (room : ℕ) × Lent blocks.old count room × (count < room) }
-    ensures { blocks.new ≡ appended blocks.old count kind at size }
-{
-    let object = owner_after(last_owner(blocks, count), kind);
-    let first = 4 * count;
-    blocks[first] = at;
-    blocks[first + 1] = size;
-    blocks[first + 2] = kind as u64;
-    blocks[first + 3] = object;
-}
-
 // The refusal of a block that isn't inside.
 fn outside(kind: u8, at: u64, size: u64) -> Result<(), Refusal>
     ensures { result ≡ Err (NotEntered 5 kind at size 0) }
@@ -112,6 +98,33 @@ pub struct Bounds {
 }
 
 impl Blocks<'_> {
+    // The blocks, for a search in their index.
+    pub fn list(&self) -> BlockList<'_>
+        ensures words { result.words.now ≡ self.now.words.now }
+        ensures count { result.count ≡ self.now.count }
+    {
+        BlockList {
+            words: &*self.words,
+            count: self.count,
+        }
+    }
+
+    // Writes a block behind the others, with the number of its object, and leaves their number.
+    fn append(&mut self, kind: u8, at: u64, size: u64)
+        requires { (room : ℕ) × Lent self.old.words.now self.old.count room × (self.old.count < room) }
+        ensures written { self.new.words.now ≡ appended self.old.words.now self.old.count kind at size }
+        ensures same_count { self.new.count ≡ self.old.count }
+        ensures kept { SameWords self.old self.new }
+    {
+        let words = &mut *self.words;
+        let first = 4 * self.count;
+        let object = owner_after(last_owner(&words[..first]), kind);
+        words[first] = at;
+        words[first + 1] = size;
+        words[first + 2] = kind as u64;
+        words[first + 3] = object;
+    }
+
     // Enters the block of `size` bytes at `at`: 5 if it isn't inside, 6 if it overlaps, 13 if there is no room.
     pub fn enter(&mut self, bounds: Bounds, kind: u8, at: u64, size: u64) -> Result<(), Refusal>
         requires { Lent self.old.words.now self.old.count bounds.room }
@@ -123,23 +136,23 @@ impl Blocks<'_> {
         ensures kept { SameWords self.old self.new }
     {
         let count = self.count;
-        let words = &mut *self.words;
         if bounds.end_of_file < at {
             return outside(kind, at, size);
         }
         if bounds.end_of_file - at < size {
             return outside(kind, at, size);
         }
-        let found = find(words, count, at, size);
+        let new = NewBlock { at, size };
+        let found = self.list().find(new);
         if found.met {
-            let b = first_met(words, count, found, at, size);
-            return Err(not_entered(answers::OVERLAP, kind, at, size, words[4 * b]));
+            let b = self.list().first_met(found, new);
+            return Err(not_entered(answers::OVERLAP, kind, at, size, self.words[4 * b]));
         }
         if bounds.room <= count {
             return Err(not_entered(answers::NO_ROOM, kind, at, size, 0));
         }
-        append(words, count, kind, at, size);
-        add(words, count, found.first, found.second);
+        self.append(kind, at, size);
+        add(self.words, count, found.first, found.second);
         self.count = count + 1;
         Ok(())
     }

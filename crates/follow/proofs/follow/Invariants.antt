@@ -10,9 +10,10 @@ use Rattle.follow.proofs.follow.Given as goal
 
 abbrev pub invariant-loop-from : goal.invariant-loop-from
 invariant-loop-from l =
-    (target_run l.file.image.now (superblock_of l.file.superblock) l.file.room (components_of l.path) l.file.superblock.root ≡ target_run l.file.image.now (superblock_of l.file.superblock) l.file.room
-    (rest_of l.path l.from) l.at)
-    × Lent l.list 0 l.file.room × (length l.list ≡ length l.initial.list) × (l.from ≤ length l.path + 1)
+    let f = l.file in
+    (target_run f.image.now (superblock_of f.superblock) f.room (components_of l.path) f.superblock.root
+    ≡ target_run f.image.now (superblock_of f.superblock) f.room (rest_of l.path l.from) l.at)
+    × Lent l.list 0 f.room × (length l.list ≡ length l.initial.list) × (l.from ≤ length l.path + 1)
 
 abbrev pub decreases-loop-from : goal.decreases-loop-from
 decreases-loop-from l = length l.path + 1 - l.from

@@ -1,9 +1,13 @@
 -- The search of Holding.antt, one block a turn.
-use Rattle.format.specs.Blocks.{no_object}
+use Prim.Native.Nat.{◌/◌}
+use mathlib.Core.List.{List}
+use mathlib.Core.Path.{◌≡◌}
+use lib.ListN.{length}
+use Rattle.format.specs.Blocks.{Block, no_object, block_words}
 use Rattle.format.specs.Report.{holding}
-use Rattle.walk.specs.Lent.{blocks_of}
 use Rattle.damaged_block.proofs.Holding.{Behind}
 use Rattle.damaged_block.proofs.block.holding.Given as goal
 
 abbrev pub invariant-loop-i : goal.invariant-loop-i
-invariant-loop-i l = Behind l.count l.i l.list l.place (holding no_object (blocks_of l.count l.list) l.place) l.i
+invariant-loop-i l = (bs : List Block) → l.list ≡ block_words no_object bs →
+    Behind (length l.list / 4) l.i l.list l.place (holding no_object bs l.place) l.i

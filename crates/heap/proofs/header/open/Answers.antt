@@ -77,77 +77,101 @@ module _ (im : List ℕ) (eof room at count : ℕ) (ws : List ℕ) where
 pub overflow_add-behind : goal.overflow_add-behind
 overflow_add-behind c =
     let a = c.args in
+    let o = a.bounds in
+    let b = a.blocks.now in
+    let e = c.enter in
     omega (
       arith,
-      header-inside a.image.now a.bounds.end_of_file a.bounds.room a.at a.blocks.now.count a.blocks.now.words.now c.requires.lent c.enter.new.self.words.now c.enter.ensures.entered _
+      header-inside a.image.now o.end_of_file o.room a.at b.count b.words.now c.requires.lent e.new.self.words.now e.ensures.entered _
           c.in_ok-enter.ensures.value,
     )
 
 pub slice_bounds-read_header-end : goal.slice_bounds-read_header-end
 slice_bounds-read_header-end c =
     let a = c.args in
+    let o = a.bounds in
+    let b = a.blocks.now in
+    let e = c.enter in
     omega (
       arith,
-      header-inside a.image.now a.bounds.end_of_file a.bounds.room a.at a.blocks.now.count a.blocks.now.words.now c.requires.lent c.enter.new.self.words.now c.enter.ensures.entered _
+      header-inside a.image.now o.end_of_file o.room a.at b.count b.words.now c.requires.lent e.new.self.words.now e.ensures.entered _
           c.in_ok-enter.ensures.value,
     )
 
 pub returns-in_err-enter-clause-walked : goal.returns-in_err-enter-clause-walked
 returns-in_err-enter-clause-walked c =
     let a = c.args in
+    let o = a.bounds in
+    let b = a.blocks.now in
+    let e = c.enter in
     let p = err_from_is_err_and c.from_residual.result c.from_residual.ensures.1 in
-    rw (p.1, p.2) (header-refused a.image.now a.bounds.end_of_file a.bounds.room a.at a.blocks.now.count a.blocks.now.words.now c.requires.lent c.enter.new.self.words.now c.enter.ensures.entered _
+    rw (p.1, p.2) (header-refused a.image.now o.end_of_file o.room a.at b.count b.words.now c.requires.lent e.new.self.words.now e.ensures.entered _
     c.in_err-enter.ensures.value)
 
 pub returns-in_err-header-clause-walked : goal.returns-in_err-header-clause-walked
 returns-in_err-header-clause-walked c =
     let a = c.args in
+    let o = a.bounds in
+    let b = a.blocks.now in
+    let e = c.enter in
     let p = err_from_is_err_and c.from_residual-in_err-header.result c.from_residual-in_err-header.ensures.1 in
     let f : (n : ℕ) × (c.read_header.result ≡ Err n) × (c.in_err-header.field-0.0 ≡ fault n a.at) = grind arith in
-    let left = header-entered a.image.now a.bounds.end_of_file a.bounds.room a.at a.blocks.now.count a.blocks.now.words.now c.requires.lent c.enter.new.self.words.now c.enter.ensures.entered _
+    let left = header-entered a.image.now o.end_of_file o.room a.at b.count b.words.now c.requires.lent e.new.self.words.now e.ensures.entered _
     c.in_ok-enter.ensures.value in
-    rw (p.1, p.2, f.2) (header-failed a.image.now a.bounds.end_of_file a.bounds.room a.at a.blocks.now.count a.blocks.now.words.now left c.read_header.ensures f.0 f.1)
+    rw (p.1, p.2, f.2) (header-failed a.image.now o.end_of_file o.room a.at b.count b.words.now left c.read_header.ensures f.0 f.1)
 
 pub enter-requires-2 : goal.enter-requires-2
 enter-requires-2 c =
     let a = c.args in
-    (header-entered a.image.now a.bounds.end_of_file a.bounds.room a.at a.blocks.now.count a.blocks.now.words.now c.requires.lent c.enter.new.self.words.now c.enter.ensures.entered _
+    let o = a.bounds in
+    let b = a.blocks.now in
+    let e = c.enter in
+    (header-entered a.image.now o.end_of_file o.room a.at b.count b.words.now c.requires.lent e.new.self.words.now e.ensures.entered _
     c.in_ok-enter.ensures.value).lent
 
 pub returns-in_err-enter-2-clause-walked : goal.returns-in_err-enter-2-clause-walked
 returns-in_err-enter-2-clause-walked c =
     let a = c.args in
+    let o = a.bounds in
+    let b = a.blocks.now in
+    let e = c.enter in
     let h = c.in_ok-header.header in
     let p = err_from_is_err_and c.from_residual-in_err-enter-2.result c.from_residual-in_err-enter-2.ensures.1 in
     let f : c.read_header.result ≡ Ok h = grind arith in
-    let left = header-entered a.image.now a.bounds.end_of_file a.bounds.room a.at a.blocks.now.count a.blocks.now.words.now c.requires.lent c.enter.new.self.words.now c.enter.ensures.entered _
+    let left = header-entered a.image.now o.end_of_file o.room a.at b.count b.words.now c.requires.lent e.new.self.words.now e.ensures.entered _
     c.in_ok-enter.ensures.value in
-    let behind = header-passed a.image.now a.bounds.end_of_file a.bounds.room a.at a.blocks.now.count a.blocks.now.words.now left c.read_header.ensures h f in
-    rw (p.1, p.2) (segment-refused a.image.now a.bounds.end_of_file a.bounds.room a.at a.blocks.now.count a.blocks.now.words.now h.size h.head h.address _ c.enter.new.self.words.now _ behind
+    let behind = header-passed a.image.now o.end_of_file o.room a.at b.count b.words.now left c.read_header.ensures h f in
+    rw (p.1, p.2) (segment-refused a.image.now o.end_of_file o.room a.at b.count b.words.now h.size h.head h.address _ e.new.self.words.now _ behind
     c.enter-2.ensures.entered _ c.in_err-enter-2.ensures.value)
 
 pub returns-clause-walked : goal.returns-clause-walked
 returns-clause-walked c =
     let a = c.args in
+    let o = a.bounds in
+    let b = a.blocks.now in
+    let e = c.enter in
     let h = c.in_ok-header.header in
     let f : c.read_header.result ≡ Ok h = grind arith in
-    let left = header-entered a.image.now a.bounds.end_of_file a.bounds.room a.at a.blocks.now.count a.blocks.now.words.now c.requires.lent
-    c.enter.new.self.words.now c.enter.ensures.entered _ c.in_ok-enter.ensures.value in
-    let behind = header-passed a.image.now a.bounds.end_of_file a.bounds.room a.at a.blocks.now.count a.blocks.now.words.now left
+    let left = header-entered a.image.now o.end_of_file o.room a.at b.count b.words.now c.requires.lent
+    e.new.self.words.now e.ensures.entered _ c.in_ok-enter.ensures.value in
+    let behind = header-passed a.image.now o.end_of_file o.room a.at b.count b.words.now left
     c.read_header.ensures h f in
     returned
-    (segment-entered a.image.now a.bounds.end_of_file a.bounds.room a.at a.blocks.now.count a.blocks.now.words.now h.size h.head h.address _
-    c.enter.new.self.words.now _ behind c.enter-2.ensures.entered _ c.in_ok-enter-2.ensures.value)
+    (segment-entered a.image.now o.end_of_file o.room a.at b.count b.words.now h.size h.head h.address _
+    e.new.self.words.now _ behind c.enter-2.ensures.entered _ c.in_ok-enter-2.ensures.value)
 
 pub returns-clause-opened_inside : goal.returns-clause-opened_inside
 returns-clause-opened_inside c =
     let a = c.args in
+    let o = a.bounds in
+    let b = a.blocks.now in
+    let e = c.enter in
     let h = c.in_ok-header.header in
     let f : c.read_header.result ≡ Ok h = grind arith in
-    let left = header-entered a.image.now a.bounds.end_of_file a.bounds.room a.at a.blocks.now.count a.blocks.now.words.now c.requires.lent
-    c.enter.new.self.words.now c.enter.ensures.entered _ c.in_ok-enter.ensures.value in
-    let behind = header-passed a.image.now a.bounds.end_of_file a.bounds.room a.at a.blocks.now.count a.blocks.now.words.now left
+    let left = header-entered a.image.now o.end_of_file o.room a.at b.count b.words.now c.requires.lent
+    e.new.self.words.now e.ensures.entered _ c.in_ok-enter.ensures.value in
+    let behind = header-passed a.image.now o.end_of_file o.room a.at b.count b.words.now left
     c.read_header.ensures h f in
-    let inside = segment-inside a.image.now a.bounds.end_of_file a.bounds.room a.at a.blocks.now.count a.blocks.now.words.now h.size h.head h.address _
-    c.enter.new.self.words.now _ behind c.enter-2.ensures.entered _ c.in_ok-enter-2.ensures.value in
+    let inside = segment-inside a.image.now o.end_of_file o.room a.at b.count b.words.now h.size h.head h.address _
+    e.new.self.words.now _ behind c.enter-2.ensures.entered _ c.in_ok-enter-2.ensures.value in
     record { image = omega (arith, inside, c.requires.end_of_file_in_bounds); file = inside }

@@ -29,4 +29,5 @@ add-requires c =
 pub returns-clause-discovered : goal.returns-clause-discovered
 returns-clause-discovered c =
     let e : c.args.found.object ≡ None = grind arith in
-    discover-new _ _ _ _ c.requires.table (rw e at c.requires.sought.found) _ (omega arith) c.add.ensures
+    let a = c.add.ensures in
+    rw (a.one_more, a.same_counts) (discover-new _ _ _ _ c.requires.table (rw e at c.requires.sought.found) _ (omega arith) a.added)

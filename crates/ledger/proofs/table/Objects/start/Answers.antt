@@ -10,4 +10,4 @@ pub bounds-self-0 : goal.bounds-self-0
 bounds-self-0 c = omega arith
 
 pub returns-clause-started : goal.returns-clause-started
-returns-clause-started c = start-law _ _ _ c.requires _ c.add.ensures
+returns-clause-started c = rw c.add.ensures.same_counts (start-law _ _ _ c.requires _ c.add.ensures.added)

@@ -39,7 +39,8 @@ pub returns-then-found-clause-value : goal.returns-then-found-clause-value
 returns-then-found-clause-value c =
     let a = c.args in
     let b = a.self.now in
-    let k = met-first a.at a.size b.count b.words.now _ c.first_met-b.ensures in
+    let l = c.list-then-found.ensures in
+    let k = met-first a.at a.size b.count b.words.now _ (rw (l.words, l.count) at c.first_met-b.ensures) in
     let h : a.at + a.size ≤ a.bounds.end_of_file = omega (arith, c.if-bounds-at-2.false, c.if-bounds-at.false) in
     rw (entry_answer-overlap _ _ _ _ _ h (sym k.0), c.not_entered.ensures, k.1)
 
@@ -47,7 +48,8 @@ pub returns-then-found-clause-entered : goal.returns-then-found-clause-entered
 returns-then-found-clause-entered c =
     let a = c.args in
     let b = a.self.now in
-    let k = met-first a.at a.size b.count b.words.now _ c.first_met-b.ensures in
+    let l = c.list-then-found.ensures in
+    let k = met-first a.at a.size b.count b.words.now _ (rw (l.words, l.count) at c.first_met-b.ensures) in
     let h : a.at + a.size ≤ a.bounds.end_of_file = omega (arith, c.if-bounds-at-2.false, c.if-bounds-at.false) in
     rw (entry_answer-overlap _ _ _ _ _ h (sym k.0))
 
@@ -61,7 +63,7 @@ full c =
     let a = c.args in
     let b = a.self.now in (
       omega (arith, c.if-bounds-at-2.false, c.if-bounds-at.false),
-      sym (all_apart a.at a.size b.count b.words.now (c.find-found.ensures.apart c.if-found.false)),
+      sym (all_apart a.at a.size b.count b.words.now ((rw (c.list.ensures.words, c.list.ensures.count) at c.find-found.ensures).apart c.if-found.false)),
       rw length-blocks_of (omega (arith, c.if-bounds-count.true)),
     )
 
@@ -85,9 +87,10 @@ pub add-requires : goal.add-requires
 add-requires c =
     let a = c.args in
     let b = a.self.now in
-    rw c.append.ensures
+    let l = c.list.ensures in
+    rw c.append.ensures.written
     (addable b.words.now b.count a.bounds.room a.kind a.at a.size c.requires (omega (arith, c.if-bounds-count.false))
-    (omega (arith, c.if-bounds-at-2.false, c.if-bounds-at.false)) c.find-found.result c.find-found.ensures c.if-found.false)
+    (omega (arith, c.if-bounds-at-2.false, c.if-bounds-at.false)) c.find-found.result (rw (l.words, l.count) at c.find-found.ensures) c.if-found.false)
 
 -- there is room, and the block meets none
 roomy : (c : goal.After-self-1) →
@@ -99,7 +102,7 @@ roomy c =
     let a = c.args in
     let b = a.self.now in (
       omega (arith, c.if-bounds-at-2.false, c.if-bounds-at.false),
-      sym (all_apart a.at a.size b.count b.words.now (c.find-found.ensures.apart c.if-found.false)),
+      sym (all_apart a.at a.size b.count b.words.now ((rw (c.list.ensures.words, c.list.ensures.count) at c.find-found.ensures).apart c.if-found.false)),
       rw length-blocks_of (omega (arith, c.if-bounds-count.false)),
     )
 
@@ -120,4 +123,4 @@ returns-clause-entered c =
     let k = f.1 in
     let l = f.2 in
     rw entry_answer-open (put b.words.now b.count a.bounds.room a.kind a.at a.size c.requires (omega (arith, c.if-bounds-count.false)) _
-    (rw c.append.ensures at c.add.ensures))
+    (rw c.append.ensures.written at c.add.ensures))

@@ -1,7 +1,7 @@
 -- By the order the test of one object decides for all before it or behind it.
 use Rattle.std.proofs.Common.{rules}
 use Rattle.ledger.proofs.SearchLaws.{placed_by}
-use Rattle.ledger.proofs.search.halve.Goals as goal
+use Rattle.ledger.proofs.search.ObjectList.halve.Goals as goal
 
 pub returns : goal.returns
 returns c = record {

@@ -2,7 +2,7 @@
 use mathlib.Core.Path.{refl}
 use Rattle.block_index.proofs.SortedRuns.{first-sorted, second-sorted}
 use Rattle.block_index.proofs.MetLaws.{least-of-both}
-use Rattle.block_index.proofs.met.first_met.Goals as goal
+use Rattle.block_index.proofs.index.BlockList.first_met.Goals as goal
 
 pub least_met-low-requires : goal.least_met-low-requires
 least_met-low-requires c = rw c.first_run-run.ensures (first-sorted _ _ c.requires.indexed)
@@ -16,6 +16,6 @@ returns c =
     let a = s.args in
     let f = c.first_run-run.ensures in
     let g = c.second_run-last.ensures in
-    least-of-both _ _ a.at a.size _ _ (s.requires.found_in.meets s.requires.met_value)
-    (rw f at (c.least_met-low.ensures a.at a.size refl (rw f s.requires.found_in.first)))
-    (rw g at (c.least_met.ensures a.at a.size refl (rw g s.requires.found_in.second)))
+    least-of-both _ _ a.new.at a.new.size _ _ (s.requires.found_in.meets s.requires.met_value)
+    (rw f at (c.least_met-low.ensures a.new.at a.new.size refl (rw f s.requires.found_in.first)))
+    (rw g at (c.least_met.ensures a.new.at a.new.size refl (rw g s.requires.found_in.second)))

@@ -2,8 +2,8 @@
 use mathlib.Core.Path.{refl, ◌∙◌}
 use native.Mathlib.Omega.{arith}
 use Rattle.block_index.proofs.FindLaws.{run-sorted, last-sorted, tests-found, Decided, first-decides, second-decides, found_in}
-use Rattle.block_index.proofs.index.find.Goals as goal
-use Rattle.block_index.proofs.index.find.Goals.{then-not-met, else-not-met}
+use Rattle.block_index.proofs.index.BlockList.find.Goals as goal
+use Rattle.block_index.proofs.index.BlockList.find.Goals.{then-not-met, else-not-met}
 
 pub place_in-first-requires : goal.place_in-first-requires
 place_in-first-requires c = run-sorted _ _ _ _ c.first_run-run.ensures c.second_run-last.ensures c.requires.indexed
@@ -28,7 +28,7 @@ overflow_add-result c =
     -- so few tests that their number doesn't wrap
     omega (
       arith,
-      tests-found c.args.blocks.now c.args.count _ _ c.first_run-run.ensures c.second_run-last.ensures _ _ c.place_in-first.ensures.by_index
+      tests-found c.args.self.words.now c.args.self.count _ _ c.first_run-run.ensures c.second_run-last.ensures _ _ c.place_in-first.ensures.by_index
           c.place_in-second.ensures.by_index 64 (omega arith),
     )
 
@@ -40,7 +40,7 @@ returns c =
     let q = c.place_in-second.ensures in
     let one = c.meets-met.ensures in
     -- either way to the answer, it says whether a block is met
-    let decided : Decided c.args.blocks.now c.args.count c.args.at c.args.size c.if-not-met.met =
+    let decided : Decided c.args.self.words.now c.args.self.count c.args.new.at c.args.new.size c.if-not-met.met =
     elim c.if-not-met.branch [
       | then-not-met w ↦
           let two = w.meets-met-then-not-met.ensures in

@@ -1,7 +1,7 @@
 -- The guess is the object, or the order is searched.
 use Rattle.ledger.proofs.SearchLaws.{sought-guess}
 use native.Mathlib.Omega.{arith}
-use Rattle.ledger.proofs.search.find.Goals as goal
+use Rattle.ledger.proofs.search.ObjectList.find.Goals as goal
 
 pub returns-in-Some : goal.returns-in-Some
 returns-in-Some c = sought-guess _ _ _ c.requires _ c.in-Some.ensures

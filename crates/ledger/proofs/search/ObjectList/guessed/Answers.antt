@@ -2,7 +2,7 @@
 use Rattle.format.specs.Limits.{objects_most}
 use Rattle.ledger.proofs.SearchLaws.{guess-in}
 use native.Mathlib.Omega.{arith}
-use Rattle.ledger.proofs.search.guessed.Goals as goal
+use Rattle.ledger.proofs.search.ObjectList.guessed.Goals as goal
 
 pub offset_bounds-addresses-guess_at : goal.offset_bounds-addresses-guess_at
 unfolding objects_most
