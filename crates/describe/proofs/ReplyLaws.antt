@@ -76,9 +76,12 @@ module _ (im : List ℕ) (eof room : ℕ) (w : Walk datasets.Dataset) (ws ws₁ 
   object-stopped x h = let o = walked-refused ws ws₁ x _ h.walked in rw (← is, o.1) (refused-is ws₁ x o.0)
 
   -- it is done
-  module _ (d : Dataset) (space : Body) (count : ℕ) (h : ReaderIs im eof room w [] ws ws₁ (Ok (record { dataset = d; space = space; count = count }))) (r : Description)
-      (f : (lent : ℕ) (bs : List Block) → length bs ≡ count → reply_of (block_list lent bs) (Ok r) ≡ describe_end lent (done (dataset_of (body_of im space) d) bs)) where
-    fields : (lent : ℕ) → reply_of (block_list lent (blocks_of count ws₁)) (Ok r) ≡ describe_end lent (done (dataset_of (body_of im space) d) (blocks_of count ws₁))
+  module _ (d : Dataset) (space : Body) (count : ℕ)
+      (h : ReaderIs im eof room w [] ws ws₁ (Ok (record { dataset = d; space = space; count = count }))) (r : Description)
+      (f : (lent : ℕ) (bs : List Block) → length bs ≡ count →
+      reply_of (block_list lent bs) (Ok r) ≡ describe_end lent (done (dataset_of (body_of im space) d) bs)) where
+    fields : (lent : ℕ) →
+        reply_of (block_list lent (blocks_of count ws₁)) (Ok r) ≡ describe_end lent (done (dataset_of (body_of im space) d) (blocks_of count ws₁))
     fields lent = f lent (blocks_of count ws₁) (length-blocks_of count ws₁)
 
     counted : r.block_count ≡ count

@@ -86,6 +86,7 @@ module _ (im : List ℕ) (l r : ℕ) where
   few-reply m all x is h k roomy = is ∙ as-good call m all h k (λ q. roomy (ap (λ (y : CReply). y.number) is ∙ q))
 
   -- the reply with all the room is the call's
-  pub whole-reply : 2 + 3 * objects_most ≤ r / 8 → (all : ℕ) (x : CReply) → x ≡ c_audit_end l r (audit im (4 * all)) → all ≡ room_of (l / 8) → x ≡ c_audit im l r
+  pub whole-reply : 2 + 3 * objects_most ≤ r / 8 → (all : ℕ) (x : CReply) → x ≡ c_audit_end l r (audit im (4 * all)) → all ≡ room_of (l / 8) →
+      x ≡ c_audit im l r
   unfolding c_audit audit call
   whole-reply long all x is e = is ∙ all_room call all e ∙ long-enough l r (2 + 3 * objects_most) _ long

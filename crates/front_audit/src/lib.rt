@@ -49,6 +49,7 @@ fn write_reply(
 }
 
 // The audit with room for so many blocks in a list, and with the table of objects in another.
+// C lends the slices one by one. A value of them would need a clause in each contract that the same slices are lent still: no plainer than these parameters.
 fn audit_with(
     image: &[u8],
     list: &mut [u64],

@@ -49,6 +49,7 @@ fn write_description(reply: &mut [u8], d: Description)
 }
 
 // The description with room for so many blocks in a list.
+// C lends the slices one by one. A value of them would need a clause in each contract that the same slices are lent still: no plainer than these parameters.
 fn describe_with(
     image: &[u8],
     path: &[u8],

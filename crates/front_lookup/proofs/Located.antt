@@ -42,7 +42,8 @@ module _ (im path : List ℕ) (l r : ℕ) where
         ◌≡◌ {A = CReply} (record { number = answer_of x; list = list; reply = reply }) (c_lookup_end l r (lookup im path lent))
     refused-reply long x d list reply e f = rw (← d, ← handed-none lent []) (refused-end l r lent 3 h long [] x list reply e f)
 
-  same : (lent more : ℕ) (o : Outcome lookups.Located) → lent ≤ l / 8 → more ≤ l / 8 → c_lookup_end l r (lookup_end lent o) ≡ c_lookup_end l r (lookup_end more o)
+  same : (lent more : ℕ) (o : Outcome lookups.Located) → lent ≤ l / 8 → more ≤ l / 8 →
+      c_lookup_end l r (lookup_end lent o) ≡ c_lookup_end l r (lookup_end more o)
   same lent more (done p bs) h k = rw (padded-zeros l lent (omega arith), padded-zeros l more (omega arith))
   same lent more (refused x bs) h k = rw (padded-zeros l lent (omega arith), padded-zeros l more (omega arith))
 

@@ -14,6 +14,7 @@ use walk::blocks::{WORK_WORDS, work_words};
 const REPLY_WORDS: usize = 3;
 
 // The lookup with room for so many blocks in a list. `blocks` is zeros at the end.
+// C lends the slices one by one. A value of them would need a clause in each contract that the same slices are lent still: no plainer than these parameters.
 fn lookup_with(
     image: &[u8],
     path: &[u8],

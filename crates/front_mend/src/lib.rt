@@ -45,6 +45,7 @@ fn refuse(blocks: &mut [u8], log: &mut [u8], reply: &mut [u8], refusal: Refusal)
 }
 
 // The mending with room for so many blocks in a list.
+// C lends the slices one by one. A value of them would need a clause in each contract that the same slices are lent still: no plainer than these parameters.
 fn mend_with(
     image: &mut [u8],
     list: &mut [u64],
@@ -78,6 +79,7 @@ fn mend_with(
 }
 
 // The mending with a list of so many words. A list of another length has a frame of its own.
+// C lends the slices one by one. A value of them would need a clause in each contract that the same slices are lent still: no plainer than these parameters.
 fn mend_sized<const WORDS: usize>(
     image: &mut [u8],
     blocks: &mut [u8],
@@ -100,6 +102,7 @@ fn mend_sized<const WORDS: usize>(
 // The mending with room for so many blocks, in the smaller list that has it. A small image is first tried with room for few blocks;
 // a mending for which they aren't room leaves the image as it was.
 // One function for the five calls would be lent this one as a closure, and would have to say what its first try leaves: no plainer.
+// C lends the slices one by one. A value of them would need a clause in each contract that the same slices are lent still: no plainer than these parameters.
 fn mend_in(
     image: &mut [u8],
     blocks: &mut [u8],

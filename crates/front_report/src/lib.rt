@@ -42,6 +42,7 @@ fn write_reply(reply: &mut [u8], reported: Reported)
 
 // The report with room for so many blocks in a list, and with the table of objects in another. It returns the audit's answer, which shows
 // whether there was room.
+// C lends the slices one by one. A value of them would need a clause in each contract that the same slices are lent still: no plainer than these parameters.
 fn report_with(
     image: &[u8],
     list: &mut [u64],

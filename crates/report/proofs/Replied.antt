@@ -72,7 +72,8 @@ Reports im room s ws addresses stored counts r =
 pub all-filled : (ws : List ℕ) (n : ℕ) → ws ≡ replicate n undefined_address → length ws ≡ n → ws ≡ replicate (length ws) undefined_address
 all-filled ws n e l = e ∙ ap (λ (m : ℕ). replicate m undefined_address) (sym l)
 
-pub filled-part : (n m word : ℕ) → n ≤ length (replicate {A = ℕ} m word) → take n (replicate m word) ≡ replicate (length (take n (replicate {A = ℕ} m word))) word
+pub filled-part : (n m word : ℕ) → n ≤ length (replicate {A = ℕ} m word) →
+    take n (replicate m word) ≡ replicate (length (take n (replicate {A = ℕ} m word))) word
 filled-part n m word h =
     let e = take-replicate n m word (rw length-replicate at h) in
     let l : length (take n (replicate {A = ℕ} m word)) ≡ n = length-take-le n (replicate m word) h in
@@ -135,7 +136,8 @@ module _ (im ws : List ℕ) (s : Superblock) (b : Bounded im s) where
         )
 
   -- the walk is done
-  module _ (count objects : ℕ) (ws₁ addresses counts : List ℕ) (w : ImageWalked im ws s ws₁ addresses counts (Ok (record { block_count = count; objects = objects }))) where
+  module _ (count objects : ℕ) (ws₁ addresses counts : List ℕ)
+      (w : ImageWalked im ws s ws₁ addresses counts (Ok (record { block_count = count; objects = objects }))) where
     abbrev table : Table addresses counts objects
     table = w.ready.table refl
 

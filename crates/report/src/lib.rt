@@ -64,6 +64,7 @@ fn refused(list: &[u64], entered: usize, refusal: Refusal) -> Reported
 }
 
 // The report of an image that can be opened, in a list filled with the undefined address: so how many blocks were entered before a refusal is found in it.
+// The lists are a caller's own. A value of them would need a clause in each contract that the same lists are lent still: no plainer than these parameters.
 fn report_opened(
     image: &[u8],
     list: &mut [u64],

@@ -27,7 +27,8 @@ returns-in-Err c =
     let lends = working a.room _ a.list.now c.work_words-n.ensures c.requires.room_in_bounds in
     rw c.refuse.ensures.value
     (refused-reply a.image.now (length a.blocks.now) (length a.reply.now) (4 * a.room) c.requires.room_in_bounds_2 c.audit_into.new.list _ _ _
-    c.requires.objects_most_in_bounds c.in-Err.refusal (c.in-Err.ensures.by_index (4 * a.room) lends.fit) _ _ c.refuse.ensures.blocks_after c.refuse.ensures.reply_after)
+    c.requires.objects_most_in_bounds c.in-Err.refusal (c.in-Err.ensures.by_index (4 * a.room) lends.fit) _ _ c.refuse.ensures.blocks_after
+    c.refuse.ensures.reply_after)
 
 pub overflow_mul-used : goal.overflow_mul-used
 overflow_mul-used c =

@@ -17,7 +17,8 @@ returns-in-Err c =
     let a = c.args in
     let lends = working c.args.room _ c.args.list.now c.work_words-n.ensures c.requires.room_in_bounds in
     rw c.refuse.ensures.value
-    (refused-reply a.image.now a.path.now (length a.blocks.now) (length a.reply.now) (4 * a.room) c.requires.room_in_bounds_2 c.requires.in_bounds c.in-Err.refusal
+    (refused-reply a.image.now a.path.now (length a.blocks.now) (length a.reply.now) (4 * a.room) c.requires.room_in_bounds_2
+    c.requires.in_bounds c.in-Err.refusal
     (c.in-Err.ensures (4 * a.room) lends.fit) _ _ c.refuse.ensures.blocks_after c.refuse.ensures.reply_after)
 
 pub returns-in-Ok : goal.returns-in-Ok

@@ -41,7 +41,8 @@ returns-in-Err c =
     c.requires.room_in_bounds_2 (log-words _ _ _ c.log_room-m.ensures log-most) is.reply is.most in
     let t = c.refuse.ensures in
     rw t.value
-    (refused-reply a.image.now (length a.blocks.now) (length a.log.now) (length a.reply.now) a.limit (4 * a.room) _ _ _ c.requires.in_bounds c.in-Err.refusal mended _ _ _
+    (refused-reply a.image.now (length a.blocks.now) (length a.log.now) (length a.reply.now) a.limit (4 * a.room) _ _ _ c.requires.in_bounds
+    c.in-Err.refusal mended _ _ _
     t.blocks_after t.log_after t.reply_after)
 
 pub overflow_mul-used : goal.overflow_mul-used

@@ -43,7 +43,11 @@ unfolding objects_most blocks_most undefined_address
 report_filled-r-requires c =
     let w = working (length c.args.list.now) _ _ undefined_address c.room.ensures c.work_words-n.ensures in
     record {
-      lists = record { addresses_empty = empty-table table_words (omega arith); stored_empty = c.empty.ensures.stored_zero; counts_empty = c.empty.ensures.counts_zero };
+      lists = record {
+        addresses_empty = empty-table table_words (omega arith);
+        stored_empty = c.empty.ensures.stored_zero;
+        counts_empty = c.empty.ensures.counts_zero;
+      };
       filled = filled-part c.work_words-n.result (work_words blocks_most) undefined_address w.there;
     }
 
@@ -51,12 +55,14 @@ pub slice_bounds-hand_over-end : goal.slice_bounds-hand_over-end
 unfolding blocks_most undefined_address
 slice_bounds-hand_over-end c =
     sym
-    (working-over (length c.args.list.now) _ _ undefined_address _ _ c.room.ensures c.work_words-n.ensures c.report_filled-r.auto.list c.report_filled-r.ensures.block_count_bound).whole
+    (working-over (length c.args.list.now) _ _ undefined_address _ _ c.room.ensures c.work_words-n.ensures c.report_filled-r.auto.list
+    c.report_filled-r.ensures.block_count_bound).whole
 
 pub hand_over-requires : goal.hand_over-requires
 unfolding blocks_most undefined_address
 hand_over-requires c =
-    let o = working-over (length c.args.list.now) _ _ undefined_address _ _ c.room.ensures c.work_words-n.ensures c.report_filled-r.auto.list c.report_filled-r.ensures.block_count_bound in
+    let r = c.report_filled-r in
+    let o = working-over (length c.args.list.now) _ _ undefined_address _ _ c.room.ensures c.work_words-n.ensures r.auto.list r.ensures.block_count_bound in
     record { count_in_bounds = o.fits; count_in_bounds_2 = o.there }
 
 -- the objects have places
