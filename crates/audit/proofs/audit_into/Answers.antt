@@ -19,7 +19,7 @@ read_stored-requires c =
     record {
       readable = readable c.args.image.now c.args.list.now c.in_ok-superblock.superblock c.in_ok-audited.audited.block_count c.in_ok-audited.audited.objects c.walk_image.new.list
           c.walk_image.new.addresses c.walk_image.new.true_counts c.in_ok-audited.ensures (rw o at c.open.ensures.fields_bounded);
-      objects_in_bounds = stored-room _ _ _ _ c.requires (c.in_ok-audited.ensures.ready.table refl).fits;
+      objects_in_bounds = stored-room _ _ _ _ c.requires c.in_ok-audited.ensures.ready.table.fits;
     }
 
 pub returns-in_err-superblock : goal.returns-in_err-superblock

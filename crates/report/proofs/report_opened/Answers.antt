@@ -29,7 +29,7 @@ pub read_stored-requires : goal.read_stored-requires
 read_stored-requires c = record {
   readable = readable c.args.image.now c.fill_undefined.new.list c.args.superblock c.in-Ok.read.block_count c.in-Ok.read.objects c.walk_image.new.list
       c.walk_image.new.addresses c.walk_image.new.true_counts c.in-Ok.ensures c.requires.bounded;
-  objects_in_bounds = stored-room _ _ _ _ c.requires.lists (c.in-Ok.ensures.ready.table refl).fits;
+  objects_in_bounds = stored-room _ _ _ _ c.requires.lists c.in-Ok.ensures.ready.table.fits;
 }
 
 pub returns-in-Err : goal.returns-in-Err
