@@ -121,8 +121,8 @@ module _ {S : Type 0} (im : List ℕ) (eof room : ℕ) (ws : List ℕ) (count : 
       same-walk _ r (callee-done ws₁ (branch_walk g.heap k level at) _ split same h)
 
 -- at height 0 a symbol table node
-pub leaf_walked : {S : Type 0} (im : List ℕ) (eof room : ℕ) (ws : List ℕ) (count : ℕ) (g : Rattle.format.specs.Entry.Group S) (height at : ℕ) (bounds : List Bound)
-    (s : GroupState S) (ws₁ : List ℕ) (r : Ended (GroupState S)) →
+pub leaf_walked : {S : Type 0} (im : List ℕ) (eof room : ℕ) (ws : List ℕ) (count : ℕ) (g : Rattle.format.specs.Entry.Group S) (height at : ℕ)
+    (bounds : List Bound) (s : GroupState S) (ws₁ : List ℕ) (r : Ended (GroupState S)) →
     height ≡ 0 → Walked ws ws₁ r (run im eof room (symbol_walk g at bounds s) (blocks_of count ws)) → Walked ws ws₁ r
     (run im eof room (subtree g height at bounds s) (blocks_of count ws))
 unfolding subtree

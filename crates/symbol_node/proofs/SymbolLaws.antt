@@ -71,7 +71,8 @@ module _ {S : Type 0} {im seg map ws : List ℕ} {g : Group} {r : NameRange} {co
   abbrev Left : List Bound → Walk (GroupState S) → ℕ → Type 0
   Left bounds w' m = Simulation im g.bounds.end_of_file g.bounds.room (w bounds) count ws w' m ws₁
 
-  wrong : {x : Refusal} {m : ℕ} → ((bounds : List Bound) → Walked ws ws₁ (stopped x) (run im g.bounds.end_of_file g.bounds.room (w bounds) (blocks_of count ws))) →
+  wrong : {x : Refusal} {m : ℕ} →
+      ((bounds : List Bound) → Walked ws ws₁ (stopped x) (run im g.bounds.end_of_file g.bounds.room (w bounds) (blocks_of count ws))) →
       SymbolsAre im seg ws visit g r at count found ws₁ m links found (Err x)
   wrong h = record { walked = λ bounds t. h bounds; sound = tt }
 

@@ -24,7 +24,8 @@ returns-in_err-entries-clause-read g t c =
     let above : c.args.top.height ≡ suc (c.args.top.height - 1) = omega (arith, c.if-top-eq0.false) in
     rw (p.1, p.2) (record {
       walked = λ bounds h.
-          node-stopped _ _ _ _ _ c.requires.descending.sound.lent defined _ refl _ _ _ above bounds _ _ _ (c.in_err-entries.ensures.read.walked defined.heap refl);
+          node-stopped _ _ _ _ _ c.requires.descending.sound.lent defined _ refl _ _ _ above bounds _ _ _
+          (c.in_err-entries.ensures.read.walked defined.heap refl);
       sound = tt;
     })
 
