@@ -18,6 +18,7 @@ use walk::blocks::Blocks;
 use walk::numbers::u64_at;
 
 // The range of a child: between the key at `at` and the one behind the child's address.
+#[inline(always)]
 fn child_range(group: &Group<'_>, range: Option<Keys>, at: usize) -> Keys
     requires range_inside { RangeInside group.now.strings.segment.now range }
     requires key_at { KeyAt group.now.image.now group.now.strings.segment.now at }
@@ -43,13 +44,13 @@ pub fn subtree<V: Visitor>(
     group: &Group<'_>,
     blocks: &mut Blocks<'_>,
     visitor: &mut V,
-    range: NameRange,
+    range: &NameRange,
     top: Top,
 ) -> Result<Name, Refusal>
-    requires descending { Descending group.now.image.now group.now.strings.segment.now group.now.strings.map.now blocks.old.words.now group.now range
-        blocks.old.count (V.links visitor.old) }
+    requires descending { Descending group.now.image.now group.now.strings.segment.now group.now.strings.map.now blocks.old.words.now group.now
+        range.now blocks.old.count (V.links visitor.old) }
     requires ready { V.Ready visitor.old }
-    ensures read { SubtreeIs group.now.image.now group.now.strings.segment.now blocks.old.words.now (V.visit visitor.old) group.now range top
+    ensures read { SubtreeIs group.now.image.now group.now.strings.segment.now blocks.old.words.now (V.visit visitor.old) group.now range.now top
         blocks.old.count (V.found visitor.old) blocks.new.words.now blocks.new.count (V.links visitor.new) (V.found visitor.new) result }
     ensures ready { V.Ready visitor.new }
     ensures kept { SameWords blocks.old blocks.new }
@@ -72,7 +73,7 @@ pub fn subtree<V: Visitor>(
             height: top.height - 1,
             at: u64_at(group.image, here + 8),
         };
-        last = subtree(group, blocks, visitor, next, child)?;
+        last = subtree(group, blocks, visitor, &next, child)?;
     }
     Ok(last)
 }

@@ -31,6 +31,7 @@ pub struct NameRange {
 }
 
 // A symbolic link's value, at the heap offset in the first 4 scratch bytes; a hard link has none.
+#[inline(always)]
 fn check_value(group: &Group<'_>, kind: u64, at: usize) -> Result<(), u8>
     requires at_in_bounds { at + 40 ≤ length group.now.image.now }
     requires known { Known group.now.strings.segment.now group.now.strings.map.now group.now.strings.head group.now.strings.free
@@ -89,16 +90,16 @@ fn named_entry<V: Visitor>(
 fn one_entry<V: Visitor>(
     group: &Group<'_>,
     visitor: &mut V,
-    range: NameRange,
+    range: &NameRange,
     at: usize,
     floor: Name,
 ) -> Result<Name, Refusal>
     requires at_in_bounds { at + 40 ≤ length group.now.image.now }
-    requires strings { Ready group.now.strings.segment.now group.now.strings.map.now group.now range }
-    requires floor { Floor group.now.strings.segment.now range.keys (name_in group.now.strings.segment.now range.last) floor }
+    requires strings { Ready group.now.strings.segment.now group.now.strings.map.now group.now range.now }
+    requires floor { Floor group.now.strings.segment.now range.now.keys (name_in group.now.strings.segment.now range.now.last) floor }
     requires ready { V.Ready visitor.old }
     requires links_bound { V.links visitor.old + 1 < 2 ^ 32 }
-    ensures read { EntryIs group.now.image.now group.now.strings.segment.now (V.visit visitor.old) group.now range at (V.found visitor.old)
+    ensures read { EntryIs group.now.image.now group.now.strings.segment.now (V.visit visitor.old) group.now range.now at (V.found visitor.old)
         (V.found visitor.new) result }
     ensures ready { V.Ready visitor.new }
     ensures links { V.links visitor.new ≤ V.links visitor.old + 1 }
@@ -125,15 +126,15 @@ fn one_entry<V: Visitor>(
 pub fn entries<V: Visitor>(
     group: &Group<'_>,
     visitor: &mut V,
-    range: NameRange,
+    range: &NameRange,
     from: usize,
     n: usize,
 ) -> Result<Name, Refusal>
     requires n_in_bounds { from + 40 * n ≤ length group.now.image.now }
-    requires strings { Ready group.now.strings.segment.now group.now.strings.map.now group.now range }
+    requires strings { Ready group.now.strings.segment.now group.now.strings.map.now group.now range.now }
     requires ready { V.Ready visitor.old }
     requires links_bound { V.links visitor.old + n < 2 ^ 32 }
-    ensures read { EntriesAre group.now.image.now group.now.strings.segment.now (V.visit visitor.old) group.now range from n (V.found visitor.old)
+    ensures read { EntriesAre group.now.image.now group.now.strings.segment.now (V.visit visitor.old) group.now range.now from n (V.found visitor.old)
         (V.found visitor.new) result }
     ensures ready { V.Ready visitor.new }
     ensures links { V.links visitor.new ≤ V.links visitor.old + n }
@@ -146,7 +147,7 @@ pub fn entries<V: Visitor>(
         last = one_entry(
             group,
             visitor,
-            NameRange { keys, last },
+            &NameRange { keys, last },
             from + 40 * i,
             floor,
         )?;

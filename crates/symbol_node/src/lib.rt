@@ -25,13 +25,13 @@ pub fn symbol_node<V: Visitor>(
     group: &Group<'_>,
     blocks: &mut Blocks<'_>,
     visitor: &mut V,
-    range: NameRange,
+    range: &NameRange,
     at: u64,
 ) -> Result<Name, Refusal>
-    requires descending { Descending group.now.image.now group.now.strings.segment.now group.now.strings.map.now blocks.old.words.now group.now range
-        blocks.old.count (V.links visitor.old) }
+    requires descending { Descending group.now.image.now group.now.strings.segment.now group.now.strings.map.now blocks.old.words.now group.now
+        range.now blocks.old.count (V.links visitor.old) }
     requires ready { V.Ready visitor.old }
-    ensures read { SymbolsAre group.now.image.now group.now.strings.segment.now blocks.old.words.now (V.visit visitor.old) group.now range at
+    ensures read { SymbolsAre group.now.image.now group.now.strings.segment.now blocks.old.words.now (V.visit visitor.old) group.now range.now at
         blocks.old.count (V.found visitor.old) blocks.new.words.now blocks.new.count (V.links visitor.new) (V.found visitor.new) result }
     ensures ready { V.Ready visitor.new }
     ensures kept { SameWords blocks.old blocks.new }

@@ -50,7 +50,7 @@ pub fn tree<V: Visitor>(
     let height = root_height(group.image, at);
     if height != 0 {
         let whole = NameRange { keys: None, last };
-        return subtree(group, blocks, visitor, whole, Top { height, at });
+        return subtree(group, blocks, visitor, &whole, Top { height, at });
     }
     let root = node::read_node(group, blocks, at)?;
     let inner = root.level != 0;

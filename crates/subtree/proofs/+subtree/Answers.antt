@@ -40,7 +40,7 @@ loop-i-init g t c =
     let b = c.in_ok-entries.ensures in
     let m = λ (bounds : List Bound).
     node_done group.image.now _ _ _ _ sound.lent defined _ refl _ _ _ above bounds
-    (state_of seg c.args.range.last (g.V.Visitor.found c.args.visitor.now)) _ _ _ b.kept.long b.read.fields.1 (b.read.walked defined.heap refl) in (
+    (state_of seg c.args.range.now.last (g.V.Visitor.found c.args.visitor.now)) _ _ _ b.kept.long b.read.fields.1 (b.read.walked defined.heap refl) in (
       record {
         sound = sound_more _ _ group _ _ _ _ _ sound (m []).lent (m []).blocks;
         walk = λ bounds h. m bounds;

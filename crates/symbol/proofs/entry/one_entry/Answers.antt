@@ -41,6 +41,6 @@ named_entry-requires-clause-name_sound g c =
 
 pub returns-clause-read : goal.returns-clause-read
 returns-clause-read g c =
-    c.named_entry.ensures.read c.args.range
+    c.named_entry.ensures.read c.args.range.now
     (floor-passed c.args.group.now.strings.segment.now _ _ c.args.floor _ c.requires.floor (sym c.name_below-below.ensures ∙ c.if-not-below.false)
     (sym c.at_most.ensures ∙ c.if-not-at_most.false))
