@@ -85,7 +85,7 @@ module _ (im ws : List ℕ) (s : Superblock) (count objects : ℕ) (ws₁ addres
   os = linked_of objects addresses counts
 
   abbrev table : Table addresses counts objects
-  table = w.ready.table refl
+  table = w.ready.table
 
   pub ran : run im s.end_of_file (places_of (length ws)) (audit_walk (superblock_of s)) [] ≡ done os (blocks_of count ws₁)
   ran = walked-done ws ws₁ os count _ w.walked
@@ -103,11 +103,11 @@ module _ (im ws : List ℕ) (s : Superblock) (count objects : ℕ) (ws₁ addres
   }
 
   pub count_fits : count ≤ places_of (length ws)
-  count_fits = w.ready.lent.counted
+  count_fits = w.ready.blocks_ready.lent.counted
 
   -- the blocks handed over, to a list of any length
   pub list-is : (lent : ℕ) → handed lent count ws₁ ≡ block_list lent (blocks_of count ws₁)
-  list-is lent = ap (padded lent) w.ready.lent.numbered
+  list-is lent = ap (padded lent) w.ready.blocks_ready.lent.numbered
 
   pub done-is : opened (superblock_of s) ≡ open_image im → Bounded im s → (stored₀ stored : List ℕ) → stored₀ ≡ replicate objects_most 0 →
       StoredRead im addresses objects stored₀ stored → (lent : ℕ) → room_of lent ≡ places_of (length ws) →

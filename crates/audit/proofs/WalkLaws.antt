@@ -20,17 +20,25 @@ use Rattle.ledger.proofs.LedgerLaws.{sum_first}
 use Rattle.sharing.specs.Sharing.{found_of}
 use Rattle.superblock.specs.Superblock.{superblock_of}
 use Rattle.superblock.specs.declared.Superblock.{Superblock}
-use Rattle.object.proofs.ObjectLaws.{room-lent, listed-ready}
+use Rattle.object.proofs.ObjectLaws.{room-lent}
 use Rattle.object.specs.Object.{Listed, ObjectRead, FoundWalked}
 use Rattle.std.specs.Prelude.{Result, Ok, Err}
 use Rattle.audit.specs.declared.Audited.{Audited}
-use Rattle.audit.specs.Audit.{ImageWalked}
+use Rattle.audit.specs.Audit.{TableReady, ImageWalked}
 
 -- the superblock, where it was entered, is the only block
 one-entered : (answer : ℕ) (f : ℕ → Refusal) (b : Block) (bs : List Block) →
     ◌≡◌ {A = Outcome (Unit {0})} (if_entered answer (done tt (b ∷ [])) (λ m. refused (f m) [])) (done tt bs) → bs ≡ b ∷ []
 one-entered zero f b bs e = cc
 one-entered (suc answer) f b bs e = let z : ◌≡◌ {A = ℕ} 0 1 = cc in absurd (omega arith)
+
+-- the lists that an object is walked with, as the next group is read with them
+listed-ready : {ws addresses counts marks : List ℕ} {eof room count objects spare : ℕ} → Listed ws addresses counts marks eof room count objects spare →
+    TableReady ws addresses counts eof room count objects
+listed-ready h = record {
+  blocks_ready = record { lent = h.lent; apart = h.counting.apart; inside = h.counting.inside; links = omega (arith, h.counting.links) };
+  table = h.counting.table;
+}
 
 -- the numbers that are returned of a walk
 abbrev pub audited : Result ObjectRead Refusal → Result Audited Refusal

@@ -1,5 +1,5 @@
 -- What the audit returns and leaves, as document 01's reply.
-use Rattle.std.specs.Prelude.{ℕ, ◌≤◌, true, List, [], ◌≡◌, ◌≢◌, length, get_or, replicate, Result, Ok, Err, IfOk, IfErr}
+use Rattle.std.specs.Prelude.{ℕ, ◌≤◌, List, [], ◌≡◌, ◌≢◌, length, get_or, replicate, Result, Ok, Err, IfOk, IfErr}
 use Rattle.format.specs.Limits.{objects_most}
 use Rattle.format.specs.declared.Refusal.{Refusal}
 use Rattle.format.specs.Walk.{answer_of, met_of, run}
@@ -10,7 +10,8 @@ use Rattle.walk.specs.Lent.{places_of, Ended, ended, stopped, Walked}
 use Rattle.superblock.specs.Superblock.{superblock_of}
 use Rattle.superblock.specs.declared.Superblock.{Superblock}
 use Rattle.ledger.specs.Index.{index_words}
-use Rattle.ledger.specs.Table.{linked_of}
+use Rattle.ledger.specs.Links.{link_sum}
+use Rattle.ledger.specs.Table.{linked_of, Table}
 use Rattle.group.specs.Group.{Ready}
 use Rattle.ledger.specs.Report.{counted_places, counted_of, Readable}
 use Rattle.ledger.specs.declared.report.Ledger.{Ledger}
@@ -22,8 +23,13 @@ abbrev pub ledger_end : List ℕ → List ℕ → Result Audited Refusal → End
 ledger_end addresses counts (Ok a) = ended (linked_of a.objects addresses counts) a.block_count
 ledger_end addresses counts (Err r) = stopped r
 
+-- The lists as a group is read with them, the links of the table counted, and the table of objects.
+pub record TableReady (ws addresses counts : List ℕ) (eof room count objects : ℕ) : Type 0 where
+  pub blocks_ready : Ready ws eof room count (link_sum (linked_of objects addresses counts))
+  pub table : Table addresses counts objects
+
 abbrev pub ReadyIf : List ℕ → List ℕ → List ℕ → ℕ → ℕ → Result Audited Refusal → Type 0
-ReadyIf ws addresses counts eof room (Ok a) = Ready true ws addresses counts eof room a.block_count a.objects
+ReadyIf ws addresses counts eof room (Ok a) = TableReady ws addresses counts eof room a.block_count a.objects
 ReadyIf ws addresses counts eof room (Err r) = Unit {0}
 
 -- the walk of an opened image was walked, in the whole of the list lent, with this table of objects

@@ -1,68 +1,31 @@
 -- The steps of the code that looks up a component against the steps of its walk.
 use Prim.Native.Nat.{ℕ}
-use mathlib.Core.Bool.{Bool, true, false}
+use mathlib.Core.Bool.{Bool}
 use mathlib.Core.List.{List, []}
 use mathlib.Core.Path.{◌≡◌, refl, ap, sym, subst, ◌∙◌}
 use native.Mathlib.Omega.{arith}
 use lib.ListN.{length}
 use Rattle.format.specs.Blocks.{Block}
 use Rattle.format.specs.declared.Refusal.{Refusal}
-use Rattle.format.specs.Walk.{Walk, refuse, fault, ◌>>=◌, Outcome, done, refused, run, and_then}
+use Rattle.format.specs.Walk.{Walk, refuse, fault, ◌>>=◌, Outcome, run, and_then}
 use Rattle.format.specs.Superblock.{superblock_walk}
 use Rattle.format.specs.Message.{Message}
 use Rattle.format.specs.Header as headers
 use Rattle.format.specs.Header.{header_walk}
 use Rattle.format.specs.Tree.{group_walk}
-use Rattle.format.specs.Ledger.{Linked}
 use Rattle.format.specs.Lookup as lookup
 use Rattle.format.specs.Lookup.{compare_name, find_walk, target_walk, component_walk}
 use Rattle.walk.specs.Lent.{blocks_of, Lent, ended, stopped, Walked}
 use Rattle.laws.proofs.Bind.{run_bind}
 use Rattle.laws.proofs.SumOfLengths.{grown-apart, grown-inside}
-use Rattle.laws.proofs.Follows.{Ran}
-use Rattle.laws.proofs.Simulation.{Simulation, start, callee-done, callee-stopped, walked-refused}
-use Rattle.ledger.specs.Links.{link_sum}
-use Rattle.ledger.specs.Table.{linked_of}
-use Rattle.visit.specs.Visit.{Both, visit_both, both_of, link_of, no_link}
-use Rattle.symbol.specs.State.{State}
+use Rattle.laws.proofs.Simulation.{Simulation, start, callee-done, callee-stopped, walked-done, walked-refused}
 use Rattle.std.specs.Prelude.{Result, Ok, Err}
-use Rattle.group.specs.Group.{Ready, group_end, GroupIs}
-use Rattle.group.proofs.Entries.{lookup-part}
+use Rattle.group.specs.Group.{Ready, GroupIs}
 use Rattle.superblock.specs.Superblock.{superblock_of}
 use Rattle.superblock.specs.declared.Superblock.{Superblock}
 use Rattle.component.specs.Component.{target_of, EndsAs, FoundIs, ComponentIs}
 use Rattle.component.specs.declared.Target.{Target}
 use Rattle.component.specs.declared.Target.TheVariants.{Object, Symbolic}
-
--- the code's visit is done, and with it the lookup's own walk of the group; the ledger stays as it was
-lookup-done : (ws ws' addresses counts : List ℕ) (os : List Linked) (s : State) (o : Outcome lookup.Link) (o' : Outcome Both) →
-    Ran true (λ x b. (last : List ℕ) × (b ≡ record { ledger = os; link = x })) o o' →
-    Walked ws ws' (group_end addresses counts (Ok s)) o' →
-    (bs : List Block) × (o ≡ done (link_of s.link) bs) × (linked_of s.objects addresses counts ≡ os)
-unfolding Ran
-lookup-done ws ws' addresses counts os s (done x bs) o' n w =
-    let u : Walked ws ws' (group_end addresses counts (Ok s)) (done n.0 bs) = rw n.1 at w in
-    let e : both_of addresses counts s.objects s.link ≡ n.0 = cc u.answer in
-    let f : both_of addresses counts s.objects s.link ≡ record { ledger = os; link = x } = e ∙ n.2.1 in
-    (bs, ap (λ (b : Both). done b.link bs) (sym f), ap (λ (b : Both). b.ledger) f)
-lookup-done ws ws' addresses counts os s (refused m bs) o' n w =
-    let u : Walked ws ws' (group_end addresses counts (Ok s)) (refused m bs) = rw n at w in
-    let z : ◌≡◌ {A = ℕ} 0 1 = cc u.answer in
-    absurd (omega arith)
-
-lookup-refused : (ws ws' addresses counts : List ℕ) (os : List Linked) (r : Refusal) (o : Outcome lookup.Link) (o' : Outcome Both) →
-    Ran true (λ x b. (last : List ℕ) × (b ≡ record { ledger = os; link = x })) o o' →
-    Walked ws ws' (group_end addresses counts (Err r)) o' →
-    (bs : List Block) × (o ≡ refused r bs)
-unfolding Ran
-lookup-refused ws ws' addresses counts os r (done x bs) o' n w =
-    let u : Walked ws ws' (stopped r) (done n.0 bs) = rw n.1 at w in
-    let z : ◌≡◌ {A = ℕ} 0 1 = cc u.answer in
-    absurd (omega arith)
-lookup-refused ws ws' addresses counts os r (refused k bs) o' n w =
-    let u : Walked ws ws' (stopped r) (refused k bs) = rw n at w in
-    let e : r ≡ k = cc u.answer in
-    (bs, rw e refl)
 
 -- a walk that is known to end so
 ends_as : (im : List ℕ) (eof room : ℕ) (r : Result Target Refusal) (bs : List Block) → EndsAs r (run im eof room (target_of r) bs)
@@ -71,16 +34,13 @@ ends_as im eof room (Ok (Object a)) bs = (bs, refl)
 ends_as im eof room (Ok Symbolic) bs = (bs, refl)
 ends_as im eof room (Err n) bs = (bs, refl)
 
-module _ (im name ws addresses counts : List ℕ) (s : Superblock) (room tree heap count : ℕ) (last : Bool) (ws₁ addresses₁ counts₁ : List ℕ) where
+module _ (im name ws : List ℕ) (s : Superblock) (room tree heap count : ℕ) (last : Bool) (ws₁ : List ℕ) (count₁ links₁ : ℕ)
+    (link : lookup.Link) where
   abbrev eof : ℕ
   eof = s.end_of_file
 
   abbrev w : Walk lookup.Link
   w = group_walk s.leaf_k s.internal_k tree heap (compare_name name) lookup.absent
-
-  abbrev part : Ran true (λ x b. (last : List ℕ) × (b ≡ record { ledger = linked_of 0 addresses counts; link = x })) (run im eof room w (blocks_of count ws))
-      (run im eof room (group_walk s.leaf_k s.internal_k tree heap (visit_both false name) (both_of addresses counts 0 no_link)) (blocks_of count ws))
-  part = lookup-part im eof room s.leaf_k s.internal_k tree heap (blocks_of count ws) name lookup.absent (linked_of 0 addresses counts)
 
   -- what follows the group's walk
   bound : {o : Outcome lookup.Link} → run im eof room w (blocks_of count ws) ≡ o →
@@ -89,28 +49,23 @@ module _ (im name ws addresses counts : List ℕ) (s : Superblock) (room tree he
       run_bind im eof room w (target_walk last) (blocks_of count ws) ∙ ap
       (λ (x : Outcome lookup.Link). and_then x (λ l cs. run im eof room (target_walk last l) cs)) e
 
+  -- the group was read with the lookup's own visit
+  abbrev Read : Result (Unit {0}) Refusal → Type 0
+  Read r = GroupIs im ws (compare_name name) eof room s.leaf_k s.internal_k tree heap count lookup.absent ws₁ count₁ links₁ link r
+
   -- the group is not sound
-  pub group-stopped : (x : Refusal) → GroupIs im name ws addresses counts eof room s.leaf_k s.internal_k false tree heap count 0 ws₁ addresses₁
-      counts₁ (Err x) →
-      FoundIs im name ws s room tree heap count last (Err x)
-  group-stopped x g =
-      let o = lookup-refused ws ws₁ addresses₁ counts₁ (linked_of 0 addresses counts) x _ _ part g.walked in
-      record { found = (o.0, bound o.1) }
+  pub group-stopped : (x : Refusal) → Read (Err x) → FoundIs im name ws s room tree heap count last (Err x)
+  group-stopped x g = let o = walked-refused ws ws₁ x _ g.walked in record { found = (o.0, bound o.1) }
 
   -- it is sound, and its entries say where the name leads
-  pub group-found : (st : State) (r : Result Target Refusal) → GroupIs im name ws addresses counts eof room s.leaf_k s.internal_k false tree heap count 0 ws₁
-      addresses₁ counts₁ (Ok st) →
-      target_of r ≡ target_walk last (link_of st.link) → FoundIs im name ws s room tree heap count last r
-  unfolding linked_of
-  group-found st r g e =
-      let o = lookup-done ws ws₁ addresses₁ counts₁ (linked_of 0 addresses counts) st _ _ part g.walked in
-      let q : run im eof room (w >>= target_walk last) (blocks_of count ws) ≡ run im eof room (target_of r) o.0 = bound o.1 ∙ ap
-      (λ (v : Walk lookup.Target). run im eof room v o.0) (sym e) in
-      record { found = subst (EndsAs r) (sym q) (ends_as im eof room r o.0) }
-
--- a lookup isn't an audit
-no_table : {A : Type 0} → false ≡ true → A
-no_table e = let z : ◌≡◌ {A = ℕ} 0 1 = cc in absurd (omega arith)
+  pub group-found : (r : Result Target Refusal) → Read (Ok tt) → target_of r ≡ target_walk last link →
+      FoundIs im name ws s room tree heap count last r
+  group-found r g e =
+      let bs = blocks_of count₁ ws₁ in
+      let o = walked-done ws ws₁ link count₁ _ g.walked in
+      let q : run im eof room (w >>= target_walk last) (blocks_of count ws) ≡ run im eof room (target_of r) bs = bound o ∙ ap
+      (λ (v : Walk lookup.Target). run im eof room v bs) (sym e) in
+      record { found = subst (EndsAs r) (sym q) (ends_as im eof room r bs) }
 
 module _ (im name ws : List ℕ) (s : Superblock) (room at : ℕ) (last : Bool) (l : Lent ws 0 room) (ws₁ : List ℕ) where
   abbrev whole : Walk lookup.Target
@@ -162,12 +117,12 @@ module _ (im name ws : List ℕ) (s : Superblock) (room at : ℕ) (last : Bool) 
 
         module _ (tree heap : ℕ)
             (k : Walked ws₁ ws₂ (ended (headers.group tree heap) m) (run im s.end_of_file room (header_walk at) (blocks_of n ws₁))) where
-          -- the lists for the group; there is no table
-          pub group-ready : (addresses counts : List ℕ) → Ready false ws₂ addresses counts s.end_of_file room m 0
-          unfolding linked_of link_sum blocks_of
-          group-ready addresses counts =
+          -- the blocks for the group; no link is counted
+          pub group-ready : Ready ws₂ s.end_of_file room m 0
+          unfolding blocks_of
+          group-ready =
               let a = at-kind (headers.group tree heap) m same₂ k in
-              record { lent = a.lent; table = λ e. no_table e; apart = grown-apart a.blocks tt; inside = grown-inside a.blocks tt; links = omega arith }
+              record { lent = a.lent; apart = grown-apart a.blocks tt; inside = grown-inside a.blocks tt; links = omega arith }
 
           pub group-is : (r : Result Target Refusal) → FoundIs im name ws₂ s room tree heap m last r →
               ComponentIs im name s room at last r

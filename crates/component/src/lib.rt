@@ -1,7 +1,7 @@
 // One component of a path, looked up in the object at an address, on a block list of its own.
 #![tactic(auto)]
 
-ghost use Rattle.std.specs.Prelude.{false, List, ◌≡◌, ℕ};
+ghost use Rattle.std.specs.Prelude.{◌≡◌};
 ghost use Rattle.format.specs.Lookup.{target_walk};
 ghost use Rattle.visit.specs.Visit.{link_of};
 ghost use Rattle.walk.specs.Lent.{Lent};
@@ -13,9 +13,8 @@ ghost use Rattle.component.specs.Component.{target_of, FoundIs, ComponentIs};
 use format::{NO_PLACE, Refusal, answers};
 use image::header;
 use kind::HeaderRead;
-use ledger::table::Objects;
 use superblock::File;
-use visit::Link;
+use visit::{Link, Wanted};
 use walk::blocks::Blocks;
 
 // Where a component leads.
@@ -37,38 +36,39 @@ fn target_of(link: Link, last: bool) -> Result<Target, Refusal>
     }
 }
 
-// The name in the group with the tree and the heap at these addresses. Nothing is counted, so that any lists do as tables.
+// A component of a path: its name, and whether it is the last one.
+#[derive(Clone, Copy)]
+struct PathPart<'a> {
+    name: &'a [u8],
+    last: bool,
+}
+
+// The component in the group with the tree and the heap at these addresses.
 fn find(
     file: File<'_>,
-    name: &[u8],
+    part: PathPart<'_>,
     blocks: &mut Blocks<'_>,
     tree: u64,
     heap: u64,
-    last: bool,
 ) -> Result<Target, Refusal>
     requires opened { Opened file.image.now file.superblock file.room }
-    requires by_index { (addresses counts : List ℕ) → Ready false blocks.old.words.now addresses counts file.superblock.end_of_file file.room
-        blocks.old.count 0 }
-    ensures found { FoundIs file.entry.image.now name.now blocks.old.words.now file.entry.superblock file.entry.room tree heap blocks.old.count last result }
+    requires ready { Ready blocks.old.words.now file.superblock.end_of_file file.room blocks.old.count 0 }
+    ensures found { FoundIs file.entry.image.now part.entry.name.now blocks.old.words.now file.entry.superblock file.entry.room tree heap
+        blocks.old.count part.entry.last result }
     ensures kept { SameWords blocks.old blocks.new }
 {
-    let mut addresses = [0u64; 1];
-    let mut counts = [0u32; 1];
-    let mut objects = Objects {
-        addresses: &mut addresses,
-        counts: &mut counts,
-        count: 0,
-    };
     let reading = group::contents::Reading {
         image: file.image,
-        wanted: name,
         bounds: file.bounds(),
         leaf_k: file.superblock.leaf_k,
         internal_k: file.superblock.internal_k,
-        auditing: false,
     };
-    let state = group::group::read(&reading, blocks, &mut objects, tree, heap)?;
-    target_of(state.link, last)
+    let mut wanted = Wanted {
+        name: part.name,
+        link: Link::Absent,
+    };
+    group::group::read(&reading, blocks, &mut wanted, tree, heap)?;
+    target_of(wanted.link, part.last)
 }
 
 // The component, the last one or not, in the object at `at`.
@@ -90,7 +90,13 @@ pub fn component(
     superblock::enter_superblock(file.superblock, &mut blocks, file.room)?;
     let header = header::read(file.image, &mut blocks, file.bounds(), at)?;
     match header {
-        HeaderRead::Group { tree, heap } => find(file, name, &mut blocks, tree, heap, last),
+        HeaderRead::Group { tree, heap } => find(
+            file,
+            PathPart { name, last },
+            &mut blocks,
+            tree,
+            heap,
+        ),
         HeaderRead::Dataset(_) => Err(Refusal::Fault(answers::NOT_A_GROUP, NO_PLACE)),
         HeaderRead::Committed => Err(Refusal::Fault(answers::NOT_A_GROUP, NO_PLACE)),
     }

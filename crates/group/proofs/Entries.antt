@@ -16,8 +16,7 @@ use Rattle.format.specs.Ledger.{Linked, discover}
 use Rattle.format.specs.Lookup.{Link, absent, compare_name}
 use Rattle.laws.proofs.Results.{bind-value, bind_assoc, value-bind}
 use Rattle.order.proofs.OrderLaws.{below-irreflexive, below-transitive, same_refl, same-equal}
-use Rattle.visit.specs.Visit.{visit_both}
-use Rattle.group.specs.Entries.{keep_entry, entries_walk, count_entries, link_to, remembered, AllAbove, AllBelow, Rising, NoneNamed}
+use Rattle.group.specs.Entries.{keep_entry, entries_walk, count_entries, link_to, remembered, AllAbove, AllBelow, Rising, NoneNamed, visit_both}
 use Rattle.laws.proofs.Follows.{Follows, follows-ret, follows-value, follows-map, Ran, follows-run}
 use Rattle.group.proofs.Visits.{group-follows}
 
@@ -74,7 +73,7 @@ module _ (im : List ℕ) (eof room leaf_k internal_k tree heap : ℕ) (bs : List
       (group-follows false leaf_k internal_k keep_entry (compare_name name) (λ last es l. l ≡ remembered name es absent)
       (λ e last es l at b r. follows-ret false _ _ _ (rw r (sym (remembered-last name es e absent)))) tree heap [] absent refl)
 
-  -- the code's visit, with which the audit's part of what is found is the audit's, and a lookup's part the lookup's
+  -- a visit for both uses: the audit's part of what is found is the audit's, and a lookup's part the lookup's
   pub audit-part : (wanted : List ℕ) (l : Link) (os : List Linked) →
       Ran true (λ x b. (last : List ℕ) × (b ≡ record { ledger = x; link = l })) (run im eof room (group_walk leaf_k internal_k tree heap discover os) bs)
       (run im eof room (group_walk leaf_k internal_k tree heap (visit_both true wanted) (record { ledger = os; link = l })) bs)

@@ -1,5 +1,5 @@
 -- The entries of a group, what the audit makes of them and what a lookup makes of them.
-use Rattle.std.specs.Prelude.{ℕ, true, false, List, [], ◌∷◌, ◌++◌, ◌≡◌, if◌then◌else◌}
+use Rattle.std.specs.Prelude.{ℕ, Bool, true, false, List, [], ◌∷◌, ◌++◌, ◌≡◌, if◌then◌else◌}
 use Rattle.format.specs.Bytes.{same_bytes}
 use Rattle.format.specs.Result.{Result, value, ◌>>=◌}
 use Rattle.format.specs.Walk.{Walk}
@@ -7,7 +7,7 @@ use Rattle.format.specs.Names.{below}
 use Rattle.format.specs.Entry.{Entry, is_hard}
 use Rattle.format.specs.Tree.{group_walk}
 use Rattle.format.specs.Ledger.{Linked, discover}
-use Rattle.format.specs.Lookup.{Link, hard, soft}
+use Rattle.format.specs.Lookup.{Link, hard, soft, compare_name}
 
 -- a visit that keeps the entries, in the order in which they are met
 unfoldable pub keep_entry : Entry → List Entry → Result (List Entry)
@@ -49,3 +49,13 @@ Rising (e ∷ es) = AllAbove e.name es × Rising es
 unfoldable pub NoneNamed : List ℕ → List Entry → Type 0
 NoneNamed name [] = Unit {0}
 NoneNamed name (e ∷ es) = (same_bytes e.name name ≡ false) × NoneNamed name es
+
+-- what both uses find: the audit's ledger, and what a lookup knows of its name
+pub record Both : Type 0 where
+  pub ledger : List Linked
+  pub link : Link
+
+-- the audit discovers and a lookup compares; each leaves the other's part as it is
+unfoldable pub visit_both : Bool → List ℕ → Entry → Both → Result Both
+visit_both true wanted e b = discover e b.ledger >>= λ os. value (record { ledger = os; link = b.link })
+visit_both false wanted e b = compare_name wanted e b.link >>= λ l. value (record { ledger = b.ledger; link = l })

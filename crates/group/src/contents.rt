@@ -2,54 +2,55 @@
 ghost use Rattle.heap.specs.Header.{SegmentInside, segment_of};
 ghost use Rattle.free_list.specs.FreeBlocks.{Sized};
 ghost use Rattle.walk.specs.Entered.{SameWords};
-ghost use Rattle.ledger.specs.Objects.{SameTable};
-ghost use Rattle.symbol.specs.State.{reached};
 ghost use Rattle.group.specs.Group.{Settings, Ready, ContentsAre};
 
 use format::{Refusal, answers};
 use heap::header::Heap;
-use ledger::table::Objects;
 use names::Strings;
 use range::Name;
-use symbol::entry::{Group, State};
+use symbol::entry::Group;
 use tree;
-use visit::Link;
+use visit::Visitor;
 use walk::blocks::{Blocks, Bounds};
 
-// What every group of an image is read with: the image, the name that a lookup looks for, what blocks keep to, and the superblock's two K. `auditing`
-// is true for the audit and false for a lookup.
+// What every group of an image is read with: the image, what blocks keep to, and the superblock's two K.
 #[derive(Clone, Copy)]
 pub struct Reading<'a> {
     pub image: &'a [u8],
-    pub wanted: &'a [u8],
     pub bounds: Bounds,
     pub leaf_k: u64,
     pub internal_k: u64,
-    pub auditing: bool,
+}
+
+// What stands behind a heap header that was entered: the address of the tree, and the heap.
+#[derive(Clone, Copy)]
+pub struct Contents {
+    pub tree: u64,
+    pub heap: Heap,
 }
 
 // The tree at this address with an entered heap. The map is lent for the heap's free bytes.
-pub fn read_with(
+pub fn read_with<V: Visitor>(
     reading: &Reading<'_>,
     blocks: &mut Blocks<'_>,
-    objects: &mut Objects<'_>,
+    visitor: &mut V,
     map: &mut [u8],
-    tree: u64,
-    heap: Heap,
-) -> Result<State, Refusal>
+    contents: Contents,
+) -> Result<(), Refusal>
     requires settings { Settings reading.now.image.now reading.now.bounds.end_of_file reading.now.bounds.room reading.now.leaf_k
         reading.now.internal_k }
-    requires ready { Ready reading.now.auditing blocks.old.words.now objects.old.addresses.now objects.old.counts.now
-        reading.now.bounds.end_of_file reading.now.bounds.room blocks.old.count objects.old.count }
-    requires segment_inside { SegmentInside reading.now.image.now reading.now.bounds.end_of_file heap }
-    requires sized { Sized map.old (segment_of reading.now.image.now heap) }
-    ensures read { ContentsAre reading.now.image.now reading.now.wanted.now blocks.old.words.now objects.old.addresses.now objects.old.counts.now
-        reading.now.bounds.end_of_file reading.now.bounds.room reading.now.leaf_k reading.now.internal_k reading.now.auditing tree heap
-        blocks.old.count objects.old.count blocks.new.words.now objects.new.addresses.now objects.new.counts.now
-        (reached blocks.new.count objects.new.count result) }
+    requires ready { Ready blocks.old.words.now reading.now.bounds.end_of_file reading.now.bounds.room blocks.old.count (V.links visitor.old) }
+    requires visitor { V.Ready visitor.old }
+    requires segment_inside { SegmentInside reading.now.image.now reading.now.bounds.end_of_file contents.heap }
+    requires sized { Sized map.old (segment_of reading.now.image.now contents.heap) }
+    ensures read { ContentsAre reading.now.image.now blocks.old.words.now (V.visit visitor.old) reading.now.bounds.end_of_file
+        reading.now.bounds.room reading.now.leaf_k reading.now.internal_k contents.tree contents.heap blocks.old.count (V.found visitor.old)
+        blocks.new.words.now blocks.new.count (V.links visitor.new) (V.found visitor.new) result }
+    ensures visitor { V.Ready visitor.new }
     ensures kept { SameWords blocks.old blocks.new }
-    ensures kept_objects { SameTable objects.old objects.new }
+    ensures same { V.Same visitor.old visitor.new }
 {
+    let heap = contents.heap;
     let start = heap.segment;
     let end = start + heap.size;
     let image = reading.image;
@@ -65,20 +66,16 @@ pub fn read_with(
             free: known.free,
             ended: known.ended,
         },
-        wanted: reading.wanted,
         bounds: reading.bounds,
         leaf_k: reading.leaf_k,
         internal_k: reading.internal_k,
-        auditing: reading.auditing,
     };
-    let state = State {
-        last: Name {
-            at: 0,
-            size: 0,
-            first: 0,
-            second: 0,
-        },
-        link: Link::Absent,
+    let first = Name {
+        at: 0,
+        size: 0,
+        first: 0,
+        second: 0,
     };
-    tree::tree(&group, blocks, objects, tree, state)
+    tree::tree(&group, blocks, visitor, contents.tree, first)?;
+    Ok(())
 }

@@ -4,15 +4,11 @@ ghost use Rattle.std.specs.Prelude.{◌||◌, ◌≡◌, ◌+◌, ◌/◌, ◌^�
 ghost use Rattle.format.specs.Bytes.{undefined_address};
 ghost use Rattle.heap.specs.Header.{SegmentInside};
 ghost use Rattle.walk.specs.Entered.{SameWords};
-ghost use Rattle.ledger.specs.Objects.{SameTable};
-ghost use Rattle.symbol.specs.State.{reached};
 ghost use Rattle.group.specs.Group.{Settings, Ready, ContentsAre};
 
-use crate::contents::{Reading, read_with};
+use crate::contents::{Contents, Reading, read_with};
 use format::Refusal;
-use heap::header::Heap;
-use ledger::table::Objects;
-use symbol::entry::State;
+use visit::Visitor;
 use walk::blocks::Blocks;
 use walk::numbers::UNDEFINED_ADDRESS;
 
@@ -31,87 +27,85 @@ fn no_list(head: u64) -> bool
 }
 
 // A map of no cells.
-fn read_plain(
+fn read_plain<V: Visitor>(
     reading: &Reading<'_>,
     blocks: &mut Blocks<'_>,
-    objects: &mut Objects<'_>,
-    tree: u64,
-    heap: Heap,
-) -> Result<State, Refusal>
+    visitor: &mut V,
+    contents: Contents,
+) -> Result<(), Refusal>
     requires settings { Settings reading.now.image.now reading.now.bounds.end_of_file reading.now.bounds.room reading.now.leaf_k
         reading.now.internal_k }
-    requires ready { Ready reading.now.auditing blocks.old.words.now objects.old.addresses.now objects.old.counts.now
-        reading.now.bounds.end_of_file reading.now.bounds.room blocks.old.count objects.old.count }
-    requires segment_inside { SegmentInside reading.now.image.now reading.now.bounds.end_of_file heap }
-    ensures read { ContentsAre reading.now.image.now reading.now.wanted.now blocks.old.words.now objects.old.addresses.now objects.old.counts.now
-        reading.now.bounds.end_of_file reading.now.bounds.room reading.now.leaf_k reading.now.internal_k reading.now.auditing tree heap
-        blocks.old.count objects.old.count blocks.new.words.now objects.new.addresses.now objects.new.counts.now
-        (reached blocks.new.count objects.new.count result) }
+    requires ready { Ready blocks.old.words.now reading.now.bounds.end_of_file reading.now.bounds.room blocks.old.count (V.links visitor.old) }
+    requires visitor { V.Ready visitor.old }
+    requires segment_inside { SegmentInside reading.now.image.now reading.now.bounds.end_of_file contents.heap }
+    ensures read { ContentsAre reading.now.image.now blocks.old.words.now (V.visit visitor.old) reading.now.bounds.end_of_file
+        reading.now.bounds.room reading.now.leaf_k reading.now.internal_k contents.tree contents.heap blocks.old.count (V.found visitor.old)
+        blocks.new.words.now blocks.new.count (V.links visitor.new) (V.found visitor.new) result }
+    ensures visitor { V.Ready visitor.new }
     ensures kept { SameWords blocks.old blocks.new }
-    ensures kept_objects { SameTable objects.old objects.new }
+    ensures same { V.Same visitor.old visitor.new }
 {
-    read_with(reading, blocks, objects, &mut [], tree, heap)
+    read_with(reading, blocks, visitor, &mut [], contents)
 }
 
 // A map of so many cells, as many of them as the segment has.
-fn read_mapped<const CELLS: usize>(
+fn read_mapped<V: Visitor, const CELLS: usize>(
     reading: &Reading<'_>,
     blocks: &mut Blocks<'_>,
-    objects: &mut Objects<'_>,
-    tree: u64,
-    heap: Heap,
-) -> Result<State, Refusal>
+    visitor: &mut V,
+    contents: Contents,
+) -> Result<(), Refusal>
     requires settings { Settings reading.now.image.now reading.now.bounds.end_of_file reading.now.bounds.room reading.now.leaf_k
         reading.now.internal_k }
-    requires ready { Ready reading.now.auditing blocks.old.words.now objects.old.addresses.now objects.old.counts.now
-        reading.now.bounds.end_of_file reading.now.bounds.room blocks.old.count objects.old.count }
-    requires segment_inside { SegmentInside reading.now.image.now reading.now.bounds.end_of_file heap }
-    requires size_bound { heap.size / 16 + 1 ≤ CELLS }
+    requires ready { Ready blocks.old.words.now reading.now.bounds.end_of_file reading.now.bounds.room blocks.old.count (V.links visitor.old) }
+    requires visitor { V.Ready visitor.old }
+    requires segment_inside { SegmentInside reading.now.image.now reading.now.bounds.end_of_file contents.heap }
+    requires size_bound { contents.heap.size / 16 + 1 ≤ CELLS }
     requires cells_bound { CELLS < 2 ^ 63 }
-    ensures read { ContentsAre reading.now.image.now reading.now.wanted.now blocks.old.words.now objects.old.addresses.now objects.old.counts.now
-        reading.now.bounds.end_of_file reading.now.bounds.room reading.now.leaf_k reading.now.internal_k reading.now.auditing tree heap
-        blocks.old.count objects.old.count blocks.new.words.now objects.new.addresses.now objects.new.counts.now
-        (reached blocks.new.count objects.new.count result) }
+    ensures read { ContentsAre reading.now.image.now blocks.old.words.now (V.visit visitor.old) reading.now.bounds.end_of_file
+        reading.now.bounds.room reading.now.leaf_k reading.now.internal_k contents.tree contents.heap blocks.old.count (V.found visitor.old)
+        blocks.new.words.now blocks.new.count (V.links visitor.new) (V.found visitor.new) result }
+    ensures visitor { V.Ready visitor.new }
     ensures kept { SameWords blocks.old blocks.new }
-    ensures kept_objects { SameTable objects.old objects.new }
+    ensures same { V.Same visitor.old visitor.new }
 {
     let mut map = [0u8; CELLS];
-    let cells = heap.size / 16 + 1;
-    read_with(reading, blocks, objects, &mut map[..cells], tree, heap)
+    let cells = contents.heap.size / 16 + 1;
+    read_with(reading, blocks, visitor, &mut map[..cells], contents)
 }
 
 // The contents of a group with an entered heap, with a map that is as long as the segment asks for. A list is followed for each name in a segment that
 // is too long.
-pub fn read_in(
+pub fn read_in<V: Visitor>(
     reading: &Reading<'_>,
     blocks: &mut Blocks<'_>,
-    objects: &mut Objects<'_>,
-    tree: u64,
-    heap: Heap,
-) -> Result<State, Refusal>
+    visitor: &mut V,
+    contents: Contents,
+) -> Result<(), Refusal>
     requires settings { Settings reading.now.image.now reading.now.bounds.end_of_file reading.now.bounds.room reading.now.leaf_k
         reading.now.internal_k }
-    requires ready { Ready reading.now.auditing blocks.old.words.now objects.old.addresses.now objects.old.counts.now
-        reading.now.bounds.end_of_file reading.now.bounds.room blocks.old.count objects.old.count }
-    requires segment_inside { SegmentInside reading.now.image.now reading.now.bounds.end_of_file heap }
-    ensures read { ContentsAre reading.now.image.now reading.now.wanted.now blocks.old.words.now objects.old.addresses.now objects.old.counts.now
-        reading.now.bounds.end_of_file reading.now.bounds.room reading.now.leaf_k reading.now.internal_k reading.now.auditing tree heap
-        blocks.old.count objects.old.count blocks.new.words.now objects.new.addresses.now objects.new.counts.now
-        (reached blocks.new.count objects.new.count result) }
+    requires ready { Ready blocks.old.words.now reading.now.bounds.end_of_file reading.now.bounds.room blocks.old.count (V.links visitor.old) }
+    requires visitor { V.Ready visitor.old }
+    requires segment_inside { SegmentInside reading.now.image.now reading.now.bounds.end_of_file contents.heap }
+    ensures read { ContentsAre reading.now.image.now blocks.old.words.now (V.visit visitor.old) reading.now.bounds.end_of_file
+        reading.now.bounds.room reading.now.leaf_k reading.now.internal_k contents.tree contents.heap blocks.old.count (V.found visitor.old)
+        blocks.new.words.now blocks.new.count (V.links visitor.new) (V.found visitor.new) result }
+    ensures visitor { V.Ready visitor.new }
     ensures kept { SameWords blocks.old blocks.new }
-    ensures kept_objects { SameTable objects.old objects.new }
+    ensures same { V.Same visitor.old visitor.new }
 {
+    let heap = contents.heap;
     if no_list(heap.head) {
-        return read_plain(reading, blocks, objects, tree, heap);
+        return read_plain(reading, blocks, visitor, contents);
     }
     if heap.size / 16 < FEW_CELLS {
-        return read_mapped::<FEW_CELLS>(reading, blocks, objects, tree, heap);
+        return read_mapped::<V, FEW_CELLS>(reading, blocks, visitor, contents);
     }
     if heap.size / 16 < MANY_CELLS {
-        return read_mapped::<MANY_CELLS>(reading, blocks, objects, tree, heap);
+        return read_mapped::<V, MANY_CELLS>(reading, blocks, visitor, contents);
     }
     if heap.size / 16 < MOST_CELLS {
-        return read_mapped::<MOST_CELLS>(reading, blocks, objects, tree, heap);
+        return read_mapped::<V, MOST_CELLS>(reading, blocks, visitor, contents);
     }
-    read_plain(reading, blocks, objects, tree, heap)
+    read_plain(reading, blocks, visitor, contents)
 }

@@ -161,6 +161,7 @@ fn name_size(segment: &[u8], off: usize) -> Option<usize>
 }
 
 // A name of a group: how many bytes it has, without its NUL.
+#[inline(always)]
 pub fn name(strings: Strings<'_>, off: u64) -> Result<usize, NameFault>
     requires last_nul { LastNul strings.segment.now strings.ended }
     requires held { Held strings.segment.now strings.map.now strings.head strings.free }

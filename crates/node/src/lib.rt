@@ -63,6 +63,7 @@ pub fn read_node(group: &Group<'_>, blocks: &mut Blocks<'_>, at: u64) -> Result<
 }
 
 // The entries of a node below the root, or of a root that isn't empty: of this level, with an entry or more, all keys sound.
+#[inline(always)]
 pub fn read_branch(
     group: &Group<'_>,
     blocks: &mut Blocks<'_>,

@@ -2,38 +2,34 @@
 use Prim.Native.Nat.{ℕ, ◌≤◌}
 use mathlib.Core.Bool.{true, false}
 use mathlib.Core.List.{List}
-use mathlib.Core.Path.{◌≡◌, refl, ap, sym, ◌∙◌}
+use mathlib.Core.Path.{◌≡◌, ap, sym, ◌∙◌}
 use native.Mathlib.Omega.{arith}
 use lib.ListN.{length}
 use Rattle.format.specs.declared.Refusal.{Refusal}
 use Rattle.format.specs.Result.{value, answer}
-use Rattle.format.specs.Walk.{Walk, ret, refuse, fault, located, ◌>>=◌, ◌>>◌, Outcome, done, refused, run}
+use Rattle.format.specs.Walk.{Walk, ret, refuse, fault, located, ◌>>=◌, ◌>>◌, run}
 use Rattle.format.specs.Message.{Message}
 use Rattle.format.specs.Header.{Object, group, dataset, committed, Headed, header_with}
 use Rattle.format.specs.Dataset.{head_at, storage_walk}
 use Rattle.format.specs.Tree.{group_walk}
-use Rattle.format.specs.Ledger.{Linked, discover}
-use Rattle.format.specs.Lookup as lookup
+use Rattle.format.specs.Ledger.{discover}
 use Rattle.format.specs.Sharing.{Found, share_each, discover_sharing, shared_by, known, not_committed}
 use Rattle.format.specs.Object.{sharing_dataset, content_walk, object_walk}
-use Rattle.walk.specs.Lent.{blocks_of, places_of, Lent, Ended, ended, stopped, Walked}
+use Rattle.walk.specs.Lent.{blocks_of, places_of, Lent, ended, stopped, Walked}
 use Rattle.walk.proofs.BlockList.{places-most, lent_none}
 use Rattle.laws.proofs.Growth.{Grown}
 use Rattle.laws.proofs.SumOfLengths.{grown-apart, grown-inside, grown-lengths}
-use Rattle.laws.proofs.Follows.{Ran}
 use Rattle.laws.proofs.Simulation.{Simulation, start, same-walk, returned, callee-value, callee-refusal, callee-done, callee-stopped, callee-last}
-use Rattle.ledger.specs.Table.{linked_of}
-use Rattle.visit.specs.Visit.{Both, both_of}
-use Rattle.symbol.specs.State.{State}
+use Rattle.ledger.specs.Links.{link_sum}
+use Rattle.ledger.specs.Table.{linked_of, Table}
 use Rattle.std.specs.Prelude.{Result, Ok, Err}
 use Rattle.sharing.specs.Sharing.{found_of, Kept, Counting, KindKnown}
 use Rattle.dataset.specs.Dataset.{SpaceAndType, parts_walk}
 use Rattle.dataset.proofs.DatasetLaws.{parts-split}
-use Rattle.group.specs.Group.{Ready, group_end, GroupIs}
-use Rattle.group.proofs.Entries.{audit-part}
+use Rattle.group.specs.Group.{Ready, GroupIs}
 use Rattle.superblock.specs.Superblock.{superblock_of}
 use Rattle.superblock.specs.declared.Superblock as superblocks
-use Rattle.object.specs.Object.{Opened, Bounded, Listed, ObjectRead, FoundWalked, behind_header}
+use Rattle.object.specs.Object.{Opened, Bounded, Listed, ObjectRead, walked_to, FoundWalked, behind_header}
 
 -- an image that was opened, with the room that a list of so many words gives
 pub opened : (im : List ℕ) (s : superblocks.Superblock) (room lent : ℕ) → room ≡ places_of lent → Bounded im s → Opened im s room
@@ -99,63 +95,20 @@ module _ {ws addresses counts marks : List ℕ} {eof room count objects spare : 
     };
   }
 
-  -- as the group reader has them
-  pub listed-ready : Ready true ws addresses counts eof room count objects
-  listed-ready = record {
-    lent = h.lent;
-    table = λ _. h.counting.table;
-    apart = h.counting.apart;
-    inside = h.counting.inside;
-    links = omega (arith, h.counting.links);
-  }
-
-  pub ready-listed : {ws₁ addresses₁ counts₁ : List ℕ} {n objects₁ : ℕ} → Ready true ws₁ addresses₁ counts₁ eof room n objects₁ →
-      Listed ws₁ addresses₁ counts₁ marks eof room n objects₁ 0
-  ready-listed r = record {
+  -- after a group
+  pub ready-listed : {ws₁ addresses₁ counts₁ : List ℕ} {n objects₁ : ℕ} → Table addresses₁ counts₁ objects₁ →
+      Ready ws₁ eof room n (link_sum (linked_of objects₁ addresses₁ counts₁)) → Listed ws₁ addresses₁ counts₁ marks eof room n objects₁ 0
+  ready-listed t r = record {
     lent = r.lent;
     counting = record {
       small = h.counting.small;
       apart = r.apart;
       inside = r.inside;
-      table = r.table refl;
+      table = t;
       marked = h.counting.marked;
       links = omega (arith, r.links);
     };
   }
-
--- what the group reader returns, as the object's
-abbrev pub object_read : Result State Refusal → Result ObjectRead Refusal
-object_read (Ok s) = Ok (record { count = s.count; objects = s.objects })
-object_read (Err n) = Err n
-
--- the ledger, with the number of blocks then entered, or the refusal
-abbrev ledger_end : List ℕ → List ℕ → Result ObjectRead Refusal → Ended (List Linked)
-ledger_end addresses counts (Ok o) = ended (linked_of o.objects addresses counts) o.count
-ledger_end addresses counts (Err r) = stopped r
-
--- the code's visit ended, and with it the audit's own walk of the group
-audit-ended : (ws ws' addresses counts : List ℕ) (l : lookup.Link) (r : Result State Refusal) (o : Outcome (List Linked)) (o' : Outcome Both) →
-    Ran true (λ x b. (last : List ℕ) × (b ≡ record { ledger = x; link = l })) o o' → Walked ws ws' (group_end addresses counts r) o' →
-    Walked ws ws' (ledger_end addresses counts (object_read r)) o
-unfolding Ran
-audit-ended ws ws' addresses counts l (Ok s) (done x bs) o' n w =
-    let u : Walked ws ws' (group_end addresses counts (Ok s)) (done n.0 bs) = rw n.1 at w in
-    let e : both_of addresses counts s.objects s.link ≡ n.0 = cc u.answer in
-    let f : s.count ≡ length bs = cc u.answer in
-    let g : linked_of s.objects addresses counts ≡ x = ap (λ (b : Both). b.ledger) (e ∙ n.2.1) in
-    record { answer = rw (f, g) refl; held = u.held; rest = u.rest; indexed = u.indexed }
-audit-ended ws ws' addresses counts l (Err m) (done x bs) o' n w =
-    let u : Walked ws ws' (stopped m) (done n.0 bs) = rw n.1 at w in
-    let z : ◌≡◌ {A = ℕ} 0 1 = cc u.answer in
-    absurd (omega arith)
-audit-ended ws ws' addresses counts l (Ok s) (refused m bs) o' n w =
-    let u : Walked ws ws' (group_end addresses counts (Ok s)) (refused m bs) = rw n at w in
-    let z : ◌≡◌ {A = ℕ} 0 1 = cc u.answer in
-    absurd (omega arith)
-audit-ended ws ws' addresses counts l (Err k) (refused m bs) o' n w =
-    let u : Walked ws ws' (stopped k) (refused m bs) = rw n at w in
-    let e : k ≡ m = cc u.answer in
-    record { answer = ap stopped e; held = u.held; rest = u.rest; indexed = u.indexed }
 
 module _ (im : List ℕ) (s : superblocks.Superblock) (room : ℕ) (ws addresses counts marks : List ℕ) (count objects : ℕ) where
   abbrev eof : ℕ
@@ -173,28 +126,22 @@ module _ (im : List ℕ) (s : superblocks.Superblock) (room : ℕ) (ws addresses
     begun w = start im eof room (w f) count ws y.lent
 
     -- a group was read
-    pub group-is : (wanted : List ℕ) (tree heap : ℕ) (ws₁ addresses₁ counts₁ : List ℕ) (r : Result State Refusal) → length ws₁ ≡ length ws →
-        GroupIs im wanted ws addresses counts eof room s.leaf_k s.internal_k true tree heap count objects ws₁ addresses₁ counts₁ r →
-        Walks (content_walk (superblock_of s) (group tree heap)) ws₁ addresses₁ counts₁ marks (object_read r)
+    pub group-is : (tree heap : ℕ) (ws₁ addresses₁ counts₁ : List ℕ) (n objects₁ : ℕ) (r : Result (Unit {0}) Refusal) → length ws₁ ≡ length ws →
+        Table addresses₁ counts₁ objects₁ →
+        GroupIs im ws discover eof room s.leaf_k s.internal_k tree heap count f.objects ws₁ n (link_sum (linked_of objects₁ addresses₁ counts₁))
+        (linked_of objects₁ addresses₁ counts₁) r →
+        Walks (content_walk (superblock_of s) (group tree heap)) ws₁ addresses₁ counts₁ marks (walked_to n objects₁ r)
     unfolding content_walk
-    group-is wanted tree heap ws₁ addresses₁ counts₁ (Ok st) same h =
-        let part = audit-part im eof room s.leaf_k s.internal_k tree heap (blocks_of count ws) wanted lookup.absent
-        (linked_of objects addresses counts) in
-        let e = audit-ended ws ws₁ addresses₁ counts₁ lookup.absent (Ok st) _ _ part h.walked in
-        record {
-          walked = returned (callee-done ws₁ (group_walk s.leaf_k s.internal_k tree heap discover f.objects) _
-              (begun (content_walk (superblock_of s) (group tree heap))) same e);
-          listed = ready-listed y h.ready;
-        }
-    group-is wanted tree heap ws₁ addresses₁ counts₁ (Err x) same h =
-        let part = audit-part im eof room s.leaf_k s.internal_k tree heap (blocks_of count ws) wanted lookup.absent
-        (linked_of objects addresses counts) in
-        let e = audit-ended ws ws₁ addresses₁ counts₁ lookup.absent (Err x) _ _ part h.walked in
-        record {
-          walked = callee-stopped ws₁ (group_walk s.leaf_k s.internal_k tree heap discover f.objects) _
-              (begun (content_walk (superblock_of s) (group tree heap))) e;
-          listed = tt;
-        }
+    group-is tree heap ws₁ addresses₁ counts₁ n objects₁ (Ok u) same t h = record {
+      walked = returned (callee-done ws₁ (group_walk s.leaf_k s.internal_k tree heap discover f.objects) _
+          (begun (content_walk (superblock_of s) (group tree heap))) same h.walked);
+      listed = ready-listed y t h.ready;
+    }
+    group-is tree heap ws₁ addresses₁ counts₁ n objects₁ (Err x) same t h = record {
+      walked = callee-stopped ws₁ (group_walk s.leaf_k s.internal_k tree heap discover f.objects) _
+          (begun (content_walk (superblock_of s) (group tree heap))) h.walked;
+      listed = tt;
+    }
 
     -- a dataset was read
     module _ (space type layout : Message) where

@@ -18,7 +18,7 @@ use sharing::Found;
 use superblock::File;
 use walk::blocks::Blocks;
 
-// A group: its hard links are counted. No name is looked for, so that any slice does as the wanted one.
+// A group: its hard links are counted.
 fn read_group(
     file: File<'_>,
     blocks: &mut Blocks<'_>,
@@ -33,17 +33,13 @@ fn read_group(
     ensures kept { SameWords blocks.old blocks.new }
     ensures kept_found { SameFound found.old found.new }
 {
-    let auditing = true;
     let reading = group::contents::Reading {
         image: file.image,
-        wanted: file.image,
         bounds: file.bounds(),
         leaf_k: file.superblock.leaf_k,
         internal_k: file.superblock.internal_k,
-        auditing,
     };
-    group::group::read(&reading, blocks, found.objects, tree, heap)?;
-    Ok(())
+    group::group::read(&reading, blocks, found.objects, tree, heap)
 }
 
 // A dataset: what its datatype shares is discovered where that message is read, before the layout.

@@ -139,14 +139,14 @@ module _ (im ws : List ℕ) (s : Superblock) (b : Bounded im s) where
   module _ (count objects : ℕ) (ws₁ addresses counts : List ℕ)
       (w : ImageWalked im ws s ws₁ addresses counts (Ok (record { block_count = count; objects = objects }))) where
     abbrev table : Table addresses counts objects
-    table = w.ready.table refl
+    table = w.ready.table
 
     pub done-is : (stored₀ stored : List ℕ) → stored₀ ≡ replicate objects_most 0 → StoredRead im addresses objects stored₀ stored →
         (block : ListedBlock) → listed_of block ≡ no_block →
         Reports im (places_of (length ws)) s ws₁ addresses stored counts
         (record { answer = 0; block_count = count; place = 0; block = block; met = 0; objects = objects })
     done-is stored₀ stored z q block e = (
-      w.ready.lent.counted,
+      w.ready.blocks_ready.lent.counted,
       λ lent. record {
         reply = rw (
           ran im ws s count objects ws₁ addresses counts w,

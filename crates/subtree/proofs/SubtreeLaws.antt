@@ -20,14 +20,13 @@ use Rattle.laws.proofs.Growth.{Grown}
 use Rattle.laws.proofs.SumOfLengths.{grown-apart, grown-inside, grown-lengths}
 use Rattle.walk.specs.Entered.{SameWords}
 use Rattle.walk.specs.declared.blocks.Blocks.{Blocks}
-use Rattle.ledger.specs.Objects.{SameTable}
-use Rattle.ledger.specs.declared.table.Objects.{Objects}
-use Rattle.range.specs.Range.{Range, Tight}
-use Rattle.visit.specs.Visit.{Both}
+use Rattle.range.specs.Range.{Tight}
+use Rattle.range.specs.declared.Name.{Name}
+use Rattle.visit.specs.Visit.{Visit}
 use Rattle.symbol.specs.declared.entry.Group.{Group}
 use Rattle.symbol.specs.Entry.{group_of, state_of}
-use Rattle.symbol.specs.State.{State, state_with}
-use Rattle.symbol.specs.declared.entry.State as lent
+use Rattle.symbol.specs.declared.entry.NameRange.{NameRange}
+use Rattle.subtree.specs.declared.Top.{Top}
 use Rattle.node.specs.Node.{branch_walk}
 use Rattle.symbol_node.specs.Tree.{Sound}
 
@@ -38,7 +37,7 @@ unfolding within
 within-alike low low' high high' bounds t e f = rw (e, f)
 
 -- a node below: its own walk, then its children
-subtree-split : (g : Rattle.format.specs.Entry.Group Both) (level at : ℕ) (bounds : List Bound) (s : GroupState Both) →
+subtree-split : {S : Type 0} (g : Rattle.format.specs.Entry.Group S) (level at : ℕ) (bounds : List Bound) (s : GroupState S) →
     subtree g (suc level) at bounds s ≡ branch_walk g.heap g.internal_k level at >>= λ b. children g.heap (subtree g level) (u16 b 6) (drop 24 b)
     bounds s
 unfolding subtree branches branch_walk
@@ -49,8 +48,8 @@ abbrev pub keys_at : List ℕ → List ℕ → ℕ → Bound
 keys_at im seg at = record { low = string_at seg (u64 im at); high = string_at seg (u64 im (at + 16)) }
 
 -- the first of n + 1 children, then the others; the keys and addresses stand from `from` on
-children-next : (h : Heap) (walk : ℕ → List Bound → GroupState Both → Walk (GroupState Both)) (n : ℕ) (im : List ℕ) (from m : ℕ) (bounds : List Bound)
-    (s : GroupState Both) → 24 ≤ m →
+children-next : {S : Type 0} (h : Heap) (walk : ℕ → List Bound → GroupState S → Walk (GroupState S)) (n : ℕ) (im : List ℕ) (from m : ℕ) (bounds : List Bound)
+    (s : GroupState S) → 24 ≤ m →
     children h walk (suc n) (part im from m) bounds s ≡
     walk (u64 im (from + 8)) (keys_at im h.segment from ∷ bounds) s >>= λ t. children h walk n (part im (from + 16) (m - 16)) bounds t
 unfolding children
@@ -58,15 +57,16 @@ children-next h walk n im from m bounds s l =
     rw (part-first-number im from m 8 (omega arith), part-number im from m 8 8 (omega arith), part-number im from m 16 8 (omega arith), drop-part im from m 16)
 
 -- the children from the ith on
-abbrev pub children_from : Rattle.format.specs.Entry.Group Both → ℕ → List ℕ → ℕ → ℕ → ℕ → ℕ → List Bound → GroupState Both → Walk (GroupState Both)
+abbrev pub children_from : {S : Type 0} → Rattle.format.specs.Entry.Group S → ℕ → List ℕ → ℕ → ℕ → ℕ → ℕ → List Bound → GroupState S →
+    Walk (GroupState S)
 children_from g level im from m n i bounds s = children g.heap (subtree g level) (n - i) (part im (from + 16 * i) (m - 16 * i)) bounds s
 
-module _ (g : Rattle.format.specs.Entry.Group Both) (level : ℕ) (im : List ℕ) (from m n : ℕ) (bounds : List Bound) where
-  pub children-end : (i : ℕ) (s : GroupState Both) → n ≤ i → children_from g level im from m n i bounds s ≡ ret s
+module _ {S : Type 0} (g : Rattle.format.specs.Entry.Group S) (level : ℕ) (im : List ℕ) (from m n : ℕ) (bounds : List Bound) where
+  pub children-end : (i : ℕ) (s : GroupState S) → n ≤ i → children_from g level im from m n i bounds s ≡ ret s
   unfolding children
   children-end i s h = let z : n - i ≡ 0 = omega arith in rw z
 
-  pub children-turn : (i : ℕ) (s : GroupState Both) → i < n → 16 * n + 8 ≤ m →
+  pub children-turn : (i : ℕ) (s : GroupState S) → i < n → 16 * n + 8 ≤ m →
       children_from g level im from m n i bounds s ≡
       subtree g level (u64 im (from + 16 * i + 8)) (keys_at im g.heap.segment (from + 16 * i) ∷ bounds) s
       >>= λ t. children_from g level im from m n (i + 1) bounds t
@@ -77,7 +77,7 @@ module _ (g : Rattle.format.specs.Entry.Group Both) (level : ℕ) (im : List ℕ
       rw (a, d, e) (children-next g.heap (subtree g level) (n - (i + 1)) im (from + 16 * i) (m - 16 * i) bounds s (omega arith))
 
   -- a walk that has come to the ith child: that child's subtree at its address, then the other children
-  pub children-here : {eof room : ℕ} {w : Walk (GroupState Both)} {n₀ n₁ : ℕ} {ws₀ ws₁ : List ℕ} (i : ℕ) (s : GroupState Both) → i < n → 16 * n + 8 ≤ m →
+  pub children-here : {eof room : ℕ} {w : Walk (GroupState S)} {n₀ n₁ : ℕ} {ws₀ ws₁ : List ℕ} (i : ℕ) (s : GroupState S) → i < n → 16 * n + 8 ≤ m →
       (child : ℕ) → child ≡ u64 im (from + 16 * i + 8) →
       Simulation im eof room w n₀ ws₀ (children_from g level im from m n i bounds s) n₁ ws₁ →
       Simulation im eof room w n₀ ws₀ (subtree g level child (keys_at im g.heap.segment (from + 16 * i) ∷ bounds) s
@@ -85,10 +85,10 @@ module _ (g : Rattle.format.specs.Entry.Group Both) (level : ℕ) (im : List ℕ
   children-here i s h l child e u = rw e (same-walk _ (children-turn i s h l) u)
 
 -- A node was read: what is left are its children.
-module _ (im : List ℕ) (eof room : ℕ) (ws : List ℕ) (count : ℕ) (l : Lent ws count room) (g : Rattle.format.specs.Entry.Group Both) (k : ℕ)
+module _ {S : Type 0} (im : List ℕ) (eof room : ℕ) (ws : List ℕ) (count : ℕ) (l : Lent ws count room) (g : Rattle.format.specs.Entry.Group S) (k : ℕ)
     (kk : g.internal_k ≡ k) (height level at : ℕ)
-    (hh : height ≡ suc level) (bounds : List Bound) (s : GroupState Both) (ws₁ : List ℕ) where
-  abbrev w : Walk (GroupState Both)
+    (hh : height ≡ suc level) (bounds : List Bound) (s : GroupState S) (ws₁ : List ℕ) where
+  abbrev w : Walk (GroupState S)
   w = subtree g height at bounds s
 
   abbrev node : List ℕ
@@ -121,41 +121,38 @@ module _ (im : List ℕ) (eof room : ℕ) (ws : List ℕ) (count : ℕ) (l : Len
       same-walk _ r (callee-done ws₁ (branch_walk g.heap k level at) _ split same h)
 
 -- at height 0 a symbol table node
-pub leaf_walked : (im : List ℕ) (eof room : ℕ) (ws : List ℕ) (count : ℕ) (g : Rattle.format.specs.Entry.Group Both) (height at : ℕ) (bounds : List Bound)
-    (s : GroupState Both) (ws₁ : List ℕ) (r : Ended (GroupState Both)) →
+pub leaf_walked : {S : Type 0} (im : List ℕ) (eof room : ℕ) (ws : List ℕ) (count : ℕ) (g : Rattle.format.specs.Entry.Group S) (height at : ℕ)
+    (bounds : List Bound) (s : GroupState S) (ws₁ : List ℕ) (r : Ended (GroupState S)) →
     height ≡ 0 → Walked ws ws₁ r (run im eof room (symbol_walk g at bounds s) (blocks_of count ws)) → Walked ws ws₁ r
     (run im eof room (subtree g height at bounds s) (blocks_of count ws))
 unfolding subtree
 leaf_walked im eof room ws count g height at bounds s ws₁ r e h = rw e h
 
--- a sound state stays so with more blocks
-pub sound_more : (seg ws addresses counts : List ℕ) (g : Group) (s : State) (ws₁ : List ℕ) (n : ℕ) → Sound seg ws addresses counts g s →
+-- what is sound stays so with more blocks
+pub sound_more : (seg ws : List ℕ) (g : Group) (count links : ℕ) (last : Name) (ws₁ : List ℕ) (n : ℕ) → Sound seg ws g count links last →
     Lent ws₁ n g.bounds.room →
-    Grown g.bounds.end_of_file g.bounds.room (blocks_of s.count ws) (blocks_of n ws₁) →
-    Sound seg ws₁ addresses counts g (record { count = n; objects = s.objects; last = s.last; link = s.link })
-sound_more seg ws addresses counts g s ws₁ n h l m = record {
+    Grown g.bounds.end_of_file g.bounds.room (blocks_of count ws) (blocks_of n ws₁) →
+    Sound seg ws₁ g n links last
+sound_more seg ws g count links last ws₁ n h l m = record {
   lent = l;
   last = h.last;
-  table = h.table;
   apart = grown-apart m h.apart;
   inside = grown-inside m h.inside;
   links = omega (arith, h.links, grown-lengths m);
 }
 
--- What holds at each turn of the loop over a node's children: the walk of the subtree has come to the ith child.
-pub record Turn (g : Group) (range : Range) (height at : ℕ) (blocks₀ : Blocks) (objects₀ : Objects) (s₀ : lent.State) (n : ℕ) (blocks : Blocks)
-    (objects : Objects) (i : ℕ) (s : lent.State) : Type 0 where
-  pub sound : Sound g.strings.segment.now blocks.words.now objects.addresses.now objects.counts.now g (state_with blocks.count objects.count s)
-  pub walk : (bounds : List Bound) → Tight g.strings.segment.now range bounds →
+-- What holds at each turn of the loop over a node's children: the walk of the subtree, with the visit of the loop's start, has come to the ith child.
+pub record Turn {S : Type 0} (visit : Visit S) (g : Group) (r : NameRange) (top : Top) (blocks₀ : Blocks) (found₀ : S) (n : ℕ) (blocks : Blocks) (i : ℕ)
+    (last : Name) (found : S) (links : ℕ) : Type 0 where
+  pub sound : Sound g.strings.segment.now blocks.words.now g blocks.count links last
+  pub walk : (bounds : List Bound) → Tight g.strings.segment.now r.keys bounds →
       Simulation g.image.now g.bounds.end_of_file g.bounds.room
-      (subtree (group_of g.strings.segment.now g.wanted.now g) height at bounds
-      (state_of g.strings.segment.now objects₀.addresses.now objects₀.counts.now (state_with blocks₀.count objects₀.count s₀)))
+      (subtree (group_of g.strings.segment.now visit g) top.height top.at bounds (state_of g.strings.segment.now r.last found₀))
       blocks₀.count blocks₀.words.now
-      (children_from (group_of g.strings.segment.now g.wanted.now g) (height - 1) g.image.now (at + 24) (8 + 32 * g.internal_k) n i bounds
-      (state_of g.strings.segment.now objects.addresses.now objects.counts.now (state_with blocks.count objects.count s)))
+      (children_from (group_of g.strings.segment.now visit g) (top.height - 1) g.image.now (top.at + 24) (8 + 32 * g.internal_k) n i bounds
+      (state_of g.strings.segment.now last found))
       blocks.count blocks.words.now
   pub words : SameWords blocks₀ blocks
-  pub table : SameTable objects₀ objects
 
 -- the same words are lent after two steps
 pub words-kept : {b b' b'' : Blocks} → SameWords b b' → SameWords b' b'' → SameWords b b''

@@ -17,30 +17,24 @@ use Rattle.format.specs.Blocks.{Block, overlaps_any}
 use Rattle.format.specs.Heap.{Heap}
 use Rattle.format.specs.Names.{Bound, Text, text, fault, bad_form, in_free_block, fault_number, read_text, key_text, name_text, value_text, below, within}
 use Rattle.format.specs.Names.{is_name, well_formed, outside_free}
-use Rattle.format.specs.Entry.{GroupState, read_value, read_entry}
+use Rattle.format.specs.Entry.{Entry, GroupState, read_value, read_entry}
 use Rattle.format.specs.Symbols.{entries}
 use Rattle.free_list.specs.FreeBlocks.{chain}
 use Rattle.heap.specs.Segment.{heap_with, chained_heap}
 use Rattle.names.specs.Texts.{fault_of, TextRead, CheckedAs}
 use Rattle.names.specs.declared.NameFault.{NameFault}
-use Rattle.ledger.specs.Links.{link_sum}
-use Rattle.ledger.specs.Table.{linked_of}
-use Rattle.ledger.specs.Objects.{SameTable}
-use Rattle.ledger.specs.declared.table.Objects.{Objects}
 use Rattle.laws.proofs.Bind.{ret-bind, refuse-bind}
 use Rattle.laws.proofs.Results.{passes, fails, gives, answers}
 use Rattle.walk.proofs.Parts.{part-part, drop-part}
 use Rattle.walk.proofs.Tests.{takes-then, takes-else, field-equal, field-unequal, field-most, field-above}
-use Rattle.range.specs.Range.{Range, name_in, range_holds, Tight, Floor}
+use Rattle.range.specs.Range.{NameInside, name_in, range_holds, Tight, Floor}
 use Rattle.range.proofs.FirstBytes.{name_at, string-inside}
 use Rattle.range.proofs.RangeLaws.{floor-next, second-fails}
-use Rattle.visit.specs.Visit.{Both, visit_both, Visited}
-use Rattle.symbol.specs.Entry.{group_of, state_of, ValueIs, NameSound, Kept, EntryIs, EntriesAre}
+use Rattle.visit.specs.Visit.{Visit, visit_of}
+use Rattle.symbol.specs.Entry.{group_of, state_of, ValueIs, NameSound, Between, EntryIs, EntriesAre}
 use Rattle.range.specs.declared.Name.{Name}
-use Rattle.visit.specs.declared.Link.{Link}
 use Rattle.symbol.specs.declared.entry.Group.{Group}
-use Rattle.symbol.specs.declared.entry.State as lent
-use Rattle.symbol.specs.State.{State, state_with}
+use Rattle.symbol.specs.declared.entry.NameRange.{NameRange}
 
 -- a field of the entry, read from the image
 field : (im : List ℕ) (at m b n : ℕ) → 40 ≤ m → b + n ≤ 40 → little_endian (part (part im at m) b n) ≡ little_endian (part im (at + b) n)
@@ -101,10 +95,10 @@ name-sound {im} {seg} {g} {at} {off} {n} o e h =
     }
 
 -- An entry, by its tests in their order.
-module _ (im seg wanted addresses counts : List ℕ) (g : Group) (r : Range) (at : ℕ) (s : State) (addresses' counts' : List ℕ) where
+module _ {S : Type 0} (im seg : List ℕ) (visit : Visit S) (g : Group) (r : NameRange) (at : ℕ) (found found' : S) where
   pub name-refused : {off : ℕ} {x : Result ℕ NameFault} {f : NameFault} → off ≡ u64 im at → x ≡ Err f →
       TextRead seg off x (name_text (chained_heap seg g.strings.head g.strings.free) off) →
-      EntryIs im seg wanted addresses counts g r at s addresses' counts' (Err (fault_at (fault_number (fault_of f)) at))
+      EntryIs im seg visit g r at found found' (Err (fault_at (fault_number (fault_of f)) at))
   unfolding read_entry
   name-refused {off} {x} {f} o e h =
       let t : TextRead seg off (Err f) (name_text (chained_heap seg g.strings.head g.strings.free) off) = rw e at h in
@@ -112,7 +106,6 @@ module _ (im seg wanted addresses counts : List ℕ) (g : Group) (r : Range) (at
         walk =
             λ bounds m u l i. ap (located at)
             (answers _ (ap read_text (t.value ∙ ap (name_text (chained_heap seg g.strings.head g.strings.free)) (o ∙ sym (first_field im at m l)))));
-        kept = tt;
         floor = tt;
       }
 
@@ -121,42 +114,40 @@ module _ (im seg wanted addresses counts : List ℕ) (g : Group) (r : Range) (at
     name-there m l = ap read_text (sym sound.is ∙ ap (name_text (chained_heap seg g.strings.head g.strings.free)) (sym (first_field im at m l)))
 
     -- its place among names and keys: both tests fail with 8
-    pub place-refused : all_hold (below (name_in seg s.last) (name_in seg n) ∷ range_holds seg r (name_in seg n) ∷ []) ≡ false →
-        EntryIs im seg wanted addresses counts g r at s addresses' counts' (Err (fault_at 8 at))
+    pub place-refused : all_hold (below (name_in seg r.last) (name_in seg n) ∷ range_holds seg r.keys (name_in seg n) ∷ []) ≡ false →
+        EntryIs im seg visit g r at found found' (Err (fault_at 8 at))
     unfolding read_entry all_hold
     place-refused e = record {
-      walk = λ bounds m t l i. ap (located at) (gives _ (name-there m l) (go (below (name_in seg s.last) (name_in seg n)) refl bounds t _));
-      kept = tt;
+      walk = λ bounds m t l i. ap (located at) (gives _ (name-there m l) (go (below (name_in seg r.last) (name_in seg n)) refl bounds t _));
       floor = tt;
     }
       where
-        go : (z : Bool) → below (name_in seg s.last) (name_in seg n) ≡ z → (bounds : List Bound) → Tight seg r bounds → (k : Read (GroupState Both)) →
-            answer 8 ≡ (check (below (name_in seg s.last) (name_in seg n)) 8 >> (check (within bounds (name_in seg n)) 8 >> k))
+        go : (z : Bool) → below (name_in seg r.last) (name_in seg n) ≡ z → (bounds : List Bound) → Tight seg r.keys bounds → (k : Read (GroupState S)) →
+            answer 8 ≡ (check (below (name_in seg r.last) (name_in seg n)) 8 >> (check (within bounds (name_in seg n)) 8 >> k))
         go false p bounds t k = fails _ _ p
         go true p bounds t k = passes _ _ p (fails _ _ (t (name_in seg n) sound.short ∙ second-fails _ _ p e))
 
-    module _ (passed : (below (name_in seg s.last) (name_in seg n) ≡ true) × (range_holds seg r (name_in seg n) ≡ true)) where
-      placed : (bounds : List Bound) → Tight seg r bounds → {x : Read (GroupState Both)} (k : Read (GroupState Both)) → x ≡ k →
-          x ≡ (check (below (name_in seg s.last) (name_in seg n)) 8 >> (check (within bounds (name_in seg n)) 8 >> k))
+    module _ (passed : Between seg r n) where
+      placed : (bounds : List Bound) → Tight seg r.keys bounds → {x : Read (GroupState S)} (k : Read (GroupState S)) → x ≡ k →
+          x ≡ (check (below (name_in seg r.last) (name_in seg n)) 8 >> (check (within bounds (name_in seg n)) 8 >> k))
       placed bounds t k e = passes _ _ passed.0 (passes _ _ (t (name_in seg n) sound.short ∙ passed.1) e)
 
       module _ {kind : ℕ} (k : kind ≡ u32 im (at + 16)) where
         kind-there : (m : ℕ) → 40 ≤ m → u32 (part im at m) 16 ≡ kind
         kind-there m l = field im at m 16 4 l (omega arith) ∙ sym k
 
-        pub type-refused : 2 < kind → EntryIs im seg wanted addresses counts g r at s addresses' counts' (Err (fault_at 8 at))
+        pub type-refused : 2 < kind → EntryIs im seg visit g r at found found' (Err (fault_at 8 at))
         unfolding read_entry
         type-refused h = record {
           walk =
               λ bounds m t l i. ap (located at)
               (gives _ (name-there m l) (placed bounds t _ (fails _ _ (field-above (kind-there m l) h))));
-          kept = tt;
           floor = tt;
         }
 
         module _ (known : kind ≤ 2) where
           pub link-refused : {v : Result (Unit {0}) ℕ} {x : ℕ} → v ≡ Err x → ValueIs im seg (chain g.strings.free seg g.strings.head) kind at v →
-              EntryIs im seg wanted addresses counts g r at s addresses' counts' (Err (fault_at x at))
+              EntryIs im seg visit g r at found found' (Err (fault_at x at))
           unfolding read_entry
           link-refused {v} {x} e w =
               let w' : ValueIs im seg (chain g.strings.free seg g.strings.head) kind at (Err x) = rw e at w in
@@ -165,63 +156,63 @@ module _ (im seg wanted addresses counts : List ℕ) (g : Group) (r : Range) (at
                     ap (located at)
                     (gives _ (name-there m l) (placed bounds t _ (passes _ _ (field-most (kind-there m l) known)
                     (answers _ (w' m l i (sym (kind-there m l)))))));
-                kept = tt;
                 floor = tt;
               }
 
           module _ {v : Result (Unit {0}) ℕ} (e : v ≡ Ok tt) (w : ValueIs im seg (chain g.strings.free seg g.strings.head) kind at v) {header : ℕ}
-              (h : header ≡ u64 im (at + 8)) {name : List ℕ} (q : name ≡ name_in seg n) {y : Option (ℕ × Link)}
-              (d : Visited addresses counts s.objects g.auditing name wanted kind header s.link addresses' counts' y) where
+              (h : header ≡ u64 im (at + 8)) {name : List ℕ} (q : name ≡ name_in seg n) (y : Option (Unit {0}))
+              (d : visit_of found' y ≡ visit (record { name = name; type = kind; header = header }) found) where
             value_sound : ValueIs im seg (chain g.strings.free seg g.strings.head) kind at (Ok tt)
             value_sound = rw e at w
 
             -- what the visit is told
-            visit-there : (m : ℕ) → 40 ≤ m → (b : Both) →
-                visit_both g.auditing wanted (record { name = name_in seg n; type = kind; header = header }) b
-                ≡ visit_both g.auditing wanted (record { name = name_in seg n; type = u32 (part im at m) 16; header = u64 (part im at m) 8 }) b
-            visit-there m l b =
+            visit-there : (m : ℕ) → 40 ≤ m → visit_of found' y ≡
+                visit (record { name = name_in seg n; type = u32 (part im at m) 16; header = u64 (part im at m) 8 }) found
+            visit-there m l =
                 let e : header ≡ u64 (part im at m) 8 = h ∙ sym (field im at m 8 8 l (omega arith)) in
-                λ i. visit_both g.auditing wanted (record { name = name_in seg n; type = sym (kind-there m l) i; header = e i }) b
+                d ∙ λ i. visit (record { name = q i; type = sym (kind-there m l) i; header = e i }) found
 
-            pub visit-refused : y ≡ None → EntryIs im seg wanted addresses counts g r at s addresses' counts' (Err (fault_at 12 at))
+            pub visit-refused : y ≡ None → EntryIs im seg visit g r at found found' (Err (fault_at 12 at))
             unfolding read_entry
-            visit-refused f =
-                let d' : Visited addresses counts s.objects g.auditing (name_in seg n) wanted kind header s.link addresses' counts' None = rw (q, f) at d in
-                record {
-                  walk = λ bounds m t l i.
-                      ap (located at)
-                      (gives _ (name-there m l) (placed bounds t _ (passes _ _ (field-most (kind-there m l) known)
-                      (gives _ (value_sound m l i (sym (kind-there m l))) (answers _ (d'.walk ∙ visit-there m l _))))));
-                  kept = tt;
-                  floor = tt;
-                }
+            visit-refused f = record {
+              walk = λ bounds m t l i.
+                  ap (located at)
+                  (gives _ (name-there m l) (placed bounds t _ (passes _ _ (field-most (kind-there m l) known)
+                  (gives _ (value_sound m l i (sym (kind-there m l))) (answers _ (ap (visit_of found') (sym f) ∙ visit-there m l))))));
+              floor = tt;
+            }
 
-            pub visited : {objects : ℕ} {link : Link} → y ≡ Some (objects, link) →
-                EntryIs im seg wanted addresses counts g r at s addresses' counts'
-                (Ok (record { count = s.count; objects = objects; last = n; link = link }))
+            pub visited : y ≡ Some tt → EntryIs im seg visit g r at found found' (Ok n)
             unfolding read_entry
-            visited {objects} {link} f =
-                let d' : Visited addresses counts s.objects g.auditing (name_in seg n) wanted kind header s.link addresses' counts' (Some (objects, link)) =
-                rw (q, f) at d in
-                record {
-                  walk = λ bounds m t l i.
-                      ap (located at)
-                      (gives _ (name-there m l) (placed bounds t _ (passes _ _ (field-most (kind-there m l) known)
-                      (gives _ (value_sound m l i (sym (kind-there m l))) (gives _ (d'.walk ∙ visit-there m l _) refl)))));
-                  kept = record { blocks = refl; last = sound.inside; table = d'.table.0; links = d'.table.1 };
-                  floor = floor-next seg r n sound.inside passed.1;
-                }
+            visited f = record {
+              walk = λ bounds m t l i.
+                  ap (located at)
+                  (gives _ (name-there m l) (placed bounds t _ (passes _ _ (field-most (kind-there m l) known)
+                  (gives _ (value_sound m l i (sym (kind-there m l))) (gives _ (ap (visit_of found') (sym f) ∙ visit-there m l) refl)))));
+              floor = floor-next seg r.keys n sound.inside passed.1;
+            }
 
--- The loop over the entries: what i entries leave to read, and the state with them.
-pub record Reading (im seg wanted addresses₀ counts₀ : List ℕ) (g : Group) (r : Range) (from n : ℕ) (s₀ : State) (addresses counts : List ℕ) (i : ℕ)
-    (s : State) : Type 0 where
+-- The loop over the entries: what i entries leave to read, and what they have come to.
+pub record Reading {S : Type 0} (im seg : List ℕ) (visit : Visit S) (g : Group) (r : NameRange) (from n : ℕ) (found₀ : S) (i : ℕ) (last : Name)
+    (found : S) : Type 0 where
   pub inside : i ≤ n
-  pub walk : (bounds : List Bound) (m : ℕ) → Tight seg r bounds → 40 * n ≤ m → from + m ≤ length im →
-      entries (group_of seg wanted g) bounds n from (part im from m) (state_of seg addresses₀ counts₀ s₀)
-      ≡ entries (group_of seg wanted g) bounds (n - i) (from + 40 * i) (part im (from + 40 * i) (m - 40 * i)) (state_of seg addresses counts s)
-  pub kept : Kept seg addresses₀ counts₀ g s₀ i addresses counts s
-  pub addresses_same : length addresses ≡ length addresses₀
-  pub counts_same : length counts ≡ length counts₀
+  pub walk : (bounds : List Bound) (m : ℕ) → Tight seg r.keys bounds → 40 * n ≤ m → from + m ≤ length im →
+      entries (group_of seg visit g) bounds n from (part im from m) (state_of seg r.last found₀)
+      ≡ entries (group_of seg visit g) bounds (n - i) (from + 40 * i) (part im (from + 40 * i) (m - 40 * i)) (state_of seg last found)
+  pub last_inside : NameInside seg last
+
+-- before the first
+pub reading-start : {S : Type 0} {im seg : List ℕ} {visit : Visit S} {g : Group} {r : NameRange} {from n : ℕ} {found₀ : S} → NameInside seg r.last →
+    Reading im seg visit g r from n found₀ 0 r.last found₀
+reading-start {S} {im} {seg} {visit} {g} {r} {from} {n} {found₀} h = record {
+  inside = omega arith;
+  walk = λ bounds m t l j.
+      let a : n - 0 ≡ n = omega arith in
+      let d : from + 40 * 0 ≡ from = omega arith in
+      let e : m - 40 * 0 ≡ m = omega arith in
+      rw (a, d, e) refl;
+  last_inside = h;
+}
 
 -- the next of k + 1 entries
 entries_next : {S : Type 0} (g : Rattle.format.specs.Entry.Group S) (bounds : List Bound) (k at : ℕ) (b : List ℕ) (s : GroupState S) →
@@ -229,67 +220,48 @@ entries_next : {S : Type 0} (g : Rattle.format.specs.Entry.Group S) (bounds : Li
 unfolding entries
 entries_next g bounds k at b s = refl
 
-module _ {im seg wanted addresses₀ counts₀ : List ℕ} {g : Group} {r : Range} {from n : ℕ} {s₀ : State} {addresses counts : List ℕ} {i : ℕ} {s : State}
-    (reading : Reading im seg wanted addresses₀ counts₀ g r from n s₀ addresses counts i s) where
-  pub reading-end : n ≤ i → EntriesAre im seg wanted addresses₀ counts₀ g r from n s₀ addresses counts (Ok s)
+module _ {S : Type 0} {im seg : List ℕ} {visit : Visit S} {g : Group} {r : NameRange} {from n : ℕ} {found₀ : S} {i : ℕ} {last : Name} {found : S}
+    (reading : Reading im seg visit g r from n found₀ i last found) where
+  pub reading-end : n ≤ i → EntriesAre im seg visit g r from n found₀ found (Ok last)
   unfolding entries
   reading-end h =
       let e : n - i ≡ 0 = omega arith in
-      let k : link_sum (linked_of s.objects addresses counts) ≤ link_sum (linked_of s₀.objects addresses₀ counts₀) + i = reading.kept.links in
-      record {
-        walk = λ bounds m t l j. sym (reading.walk bounds m t l j ∙ rw e);
-        kept = record { blocks = reading.kept.blocks; last = reading.kept.last; table = reading.kept.table; links = omega (arith, reading.inside) };
-      }
+      record { walk = λ bounds m t l j. sym (reading.walk bounds m t l j ∙ rw e); last = reading.last_inside }
 
-  module _ (some : i < n) (addresses' counts' : List ℕ) where
+  module _ (some : i < n) (found' : S) where
     -- the walk from here on, by its next entry
-    reading-next : (bounds : List Bound) (m : ℕ) → Tight seg r bounds → 40 * n ≤ m → from + m ≤ length im →
-        entries (group_of seg wanted g) bounds n from (part im from m) (state_of seg addresses₀ counts₀ s₀)
-        ≡ (located (from + 40 * i) (read_entry (group_of seg wanted g) bounds (part im (from + 40 * i) (m - 40 * i)) (state_of seg addresses counts s))
-        >>= λ s'. entries (group_of seg wanted g) bounds (n - (i + 1)) (from + 40 * i + 40) (drop 40 (part im (from + 40 * i) (m - 40 * i))) s')
+    reading-next : (bounds : List Bound) (m : ℕ) → Tight seg r.keys bounds → 40 * n ≤ m → from + m ≤ length im →
+        entries (group_of seg visit g) bounds n from (part im from m) (state_of seg r.last found₀)
+        ≡ (located (from + 40 * i) (read_entry (group_of seg visit g) bounds (part im (from + 40 * i) (m - 40 * i)) (state_of seg last found))
+        >>= λ s'. entries (group_of seg visit g) bounds (n - (i + 1)) (from + 40 * i + 40) (drop 40 (part im (from + 40 * i) (m - 40 * i))) s')
     reading-next bounds m t l j =
         let e : n - i ≡ suc (n - (i + 1)) = omega arith in
         reading.walk bounds m t l j ∙ rw e (entries_next _ bounds (n - (i + 1)) (from + 40 * i) _ _)
 
-    pub reading-refused : {x : Refusal} → EntryIs im seg wanted addresses counts g r (from + 40 * i) s addresses' counts' (Err x) →
-        EntriesAre im seg wanted addresses₀ counts₀ g r from n s₀ addresses' counts' (Err x)
+    pub reading-refused : {x : Refusal} → EntryIs im seg visit g (record { keys = r.keys; last = last }) (from + 40 * i) found found' (Err x) →
+        EntriesAre im seg visit g r from n found₀ found' (Err x)
     reading-refused {x} h = record {
       walk = λ bounds m t l j. sym (reading-next bounds m t l j ∙ rw (← h.walk bounds (m - 40 * i) t (omega arith) (omega arith)) (refuse-bind x _));
-      kept = tt;
+      last = tt;
     }
 
-    pub reading-again : {s' : State} → EntryIs im seg wanted addresses counts g r (from + 40 * i) s addresses' counts' (Ok s') →
-        length addresses' ≡ length addresses → length counts' ≡ length counts →
-        Reading im seg wanted addresses₀ counts₀ g r from n s₀ addresses' counts' (i + 1) s'
-    reading-again {s'} h p q =
-        let k : link_sum (linked_of s.objects addresses counts) ≤ link_sum (linked_of s₀.objects addresses₀ counts₀) + i = reading.kept.links in
-        let k' : link_sum (linked_of s'.objects addresses' counts') ≤ link_sum (linked_of s.objects addresses counts) + 1 = h.kept.links in
-        record {
-          inside = omega arith;
-          walk = λ bounds m t l j.
-              let e : from + 40 * i + 40 ≡ from + 40 * (i + 1) = omega arith in
-              let f : m - 40 * i - 40 ≡ m - 40 * (i + 1) = omega arith in
-              reading-next bounds m t l j
-              ∙ rw (← h.walk bounds (m - 40 * i) t (omega arith) (omega arith))
-              (ret-bind (state_of seg addresses' counts' s') _ ∙ rw (drop-part im (from + 40 * i) (m - 40 * i) 40, e, f));
-          kept = record { blocks = h.kept.blocks ∙ reading.kept.blocks; last = h.kept.last; table = h.kept.table; links = omega arith };
-          addresses_same = p ∙ reading.addresses_same;
-          counts_same = q ∙ reading.counts_same;
-        }
+    pub reading-again : {last' : Name} →
+        EntryIs im seg visit g (record { keys = r.keys; last = last }) (from + 40 * i) found found' (Ok last') →
+        Reading im seg visit g r from n found₀ (i + 1) last' found'
+    reading-again {last'} h = record {
+      inside = omega arith;
+      walk = λ bounds m t l j.
+          let e : from + 40 * i + 40 ≡ from + 40 * (i + 1) = omega arith in
+          let f : m - 40 * i - 40 ≡ m - 40 * (i + 1) = omega arith in
+          reading-next bounds m t l j
+          ∙ rw (← h.walk bounds (m - 40 * i) t (omega arith) (omega arith))
+          (ret-bind (state_of seg last' found') _ ∙ rw (drop-part im (from + 40 * i) (m - 40 * i) 40, e, f));
+      last_inside = h.floor.inside;
+    }
 
--- the same lists are lent after two steps
-pub table-kept : {o o' o'' : Objects} → SameTable o o' → SameTable o' o'' → SameTable o o''
-table-kept h k = record {
-  addresses = k.addresses ∙ h.addresses;
-  counts = k.counts ∙ h.counts;
-  addresses_long = k.addresses_long ∙ h.addresses_long;
-  counts_long = k.counts_long ∙ h.counts_long;
-}
-
--- what holds at each turn of the loop, whatever the number of blocks
-pub record Turn (g : Group) (r : Range) (from n : ℕ) (objects₀ : Objects) (s₀ : lent.State) (objects : Objects) (i : ℕ) (s : lent.State) (floor : Name) :
-    Type 0 where
-  pub reading : (count : ℕ) → Reading g.image.now g.strings.segment.now g.wanted.now objects₀.addresses.now objects₀.counts.now g r from n
-      (state_with count objects₀.count s₀) objects.addresses.now objects.counts.now i (state_with count objects.count s)
-  pub above : Floor g.strings.segment.now r (name_in g.strings.segment.now s.last) floor
-  pub same : SameTable objects₀ objects
+-- What holds at each turn of the loop: what was read, with the visit of the loop's start, and how many links were counted since then.
+pub record Turn {S : Type 0} (visit : Visit S) (g : Group) (r : NameRange) (from n : ℕ) (found₀ : S) (links₀ i : ℕ) (last floor : Name) (found : S)
+    (links : ℕ) : Type 0 where
+  pub reading : Reading g.image.now g.strings.segment.now visit g r from n found₀ i last found
+  pub above : Floor g.strings.segment.now r.keys (name_in g.strings.segment.now last) floor
+  pub links_most : links ≤ links₀ + i

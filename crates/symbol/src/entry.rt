@@ -2,42 +2,36 @@
 ghost use Rattle.std.specs.Prelude.{ℕ, ◌+◌, ◌*◌, ◌^◌, ◌≤◌, ◌<◌, length};
 ghost use Rattle.free_list.specs.FreeBlocks.{chain};
 ghost use Rattle.segment.specs.Segment.{Known};
-ghost use Rattle.ledger.specs.Links.{link_sum};
-ghost use Rattle.ledger.specs.Table.{linked_of};
 ghost use Rattle.range.specs.Range.{name_in, Floor};
-ghost use Rattle.ledger.specs.Objects.{SameTable};
-ghost use Rattle.symbol.specs.State.{state_with, reached};
-ghost use Rattle.symbol.specs.Entry.{ValueIs, Ready, NameSound, EntryIs, EntriesAre};
+ghost use Rattle.symbol.specs.Entry.{ValueIs, Ready, NameSound, Between, EntryIs, EntriesAre};
+ghost use Rattle.symbol.specs.declared.entry.NameRange.{NameRange};
 
 use format::{Refusal, answers};
-use ledger::table::Objects;
 use names::Strings;
 use range::{Keys, Name};
-use visit::{Entry, Link};
+use visit::{Entry, Visitor};
 use walk::blocks::Bounds;
 use walk::numbers::{u32_at, u64_at};
 
-// What stays the same over the whole descent: the image, the strings of the group's heap, the name that a lookup looks for, what blocks keep to, and
-// the superblock's two K. `auditing` is true for the audit and false for a lookup.
+// What stays the same over the whole descent: the image, the strings of the group's heap, what blocks keep to, and the superblock's two K.
 #[derive(Clone, Copy)]
 pub struct Group<'a> {
     pub image: &'a [u8],
     pub strings: Strings<'a>,
-    pub wanted: &'a [u8],
     pub bounds: Bounds,
     pub leaf_k: u64,
     pub internal_k: u64,
-    pub auditing: bool,
 }
 
-// What the descent has come to: the last name, and a lookup's answer.
+// Where the next name has to be: between the keys above it in the tree, and above the last name.
 #[derive(Clone, Copy)]
-pub struct State {
+pub struct NameRange {
+    pub keys: Option<Keys>,
     pub last: Name,
-    pub link: Link,
 }
 
 // A symbolic link's value, at the heap offset in the first 4 scratch bytes; a hard link has none.
+#[inline(always)]
 fn check_value(group: &Group<'_>, kind: u64, at: usize) -> Result<(), u8>
     requires at_in_bounds { at + 40 ≤ length group.now.image.now }
     requires known { Known group.now.strings.segment.now group.now.strings.map.now group.now.strings.head group.now.strings.free
@@ -52,33 +46,26 @@ fn check_value(group: &Group<'_>, kind: u64, at: usize) -> Result<(), u8>
     names::value(group.strings, off).map_err(u8::from)
 }
 
-// An entry whose name is sound: its place among names and keys, its type, its value, and the visit. The name has to be above `floor`, which
-// stands for the last name and the keys before it.
-fn named_entry(
+// An entry whose name is sound and in its place: its type, its value, and the visit.
+fn named_entry<V: Visitor>(
     group: &Group<'_>,
-    objects: &mut Objects<'_>,
-    range: Option<Keys>,
+    visitor: &mut V,
     at: usize,
     name: Name,
-    floor: Name,
-    state: State,
-) -> Result<State, Refusal>
+) -> Result<Name, Refusal>
     requires at_in_bounds { at + 40 ≤ length group.now.image.now }
-    requires ready { Ready group.now.strings.segment.now group.now.strings.map.now objects.old.addresses.now objects.old.counts.now group.now
-        range objects.old.count state.last }
-    requires counts_bound { link_sum (linked_of objects.old.count objects.old.addresses.now objects.old.counts.now) + 1 < 2 ^ 32 }
-    requires floor { Floor group.now.strings.segment.now range (name_in group.now.strings.segment.now state.last) floor }
+    requires known { Known group.now.strings.segment.now group.now.strings.map.now group.now.strings.head group.now.strings.free
+        group.now.strings.ended }
     requires name_sound { NameSound group.now.image.now group.now.strings.segment.now group.now at name }
-    ensures read { (count : ℕ) → EntryIs group.now.image.now group.now.strings.segment.now group.now.wanted.now
-        objects.old.addresses.now objects.old.counts.now group.now range at (state_with count objects.old.count state)
-        objects.new.addresses.now objects.new.counts.now (reached count objects.new.count result) }
-    ensures kept { SameTable objects.old objects.new }
+    requires ready { V.Ready visitor.old }
+    requires links_bound { V.links visitor.old + 1 < 2 ^ 32 }
+    ensures read { (range : NameRange) → Between group.now.strings.segment.now range name →
+        EntryIs group.now.image.now group.now.strings.segment.now (V.visit visitor.old) group.now range at (V.found visitor.old)
+        (V.found visitor.new) result }
+    ensures ready { V.Ready visitor.new }
+    ensures links { V.links visitor.new ≤ V.links visitor.old + 1 }
+    ensures same { V.Same visitor.old visitor.new }
 {
-    let segment = group.strings.segment;
-    let below = range::name_below(segment, floor, name);
-    if !below || !range::at_most(segment, range, name) {
-        return Err(Refusal::Fault(answers::NODE_UNSOUND, at));
-    }
     let kind = u32_at(group.image, at + 16);
     let unknown = 2 < kind;
     if unknown {
@@ -86,35 +73,37 @@ fn named_entry(
     }
     check_value(group, kind, at).map_err(|answer| Refusal::Fault(answer, at))?;
     let end = name.at + name.size;
+    let segment = group.strings.segment;
     let entry = Entry {
         name: &segment[name.at..end],
         kind,
         header: u64_at(group.image, at + 8),
     };
-    let link = visit::visit_entry(objects, group.auditing, group.wanted, entry, state.link).ok_or(
-        Refusal::Fault(answers::TOO_MANY_OBJECTS, at),
-    )?;
-    Ok(State { last: name, link })
+    visitor
+        .visit(entry)
+        .ok_or(Refusal::Fault(answers::TOO_MANY_OBJECTS, at))?;
+    Ok(name)
 }
 
-// The entry at `at`.
-fn one_entry(
+// The entry at `at`: its name, the place of this among names and keys, and what follows it. The name has to be above `floor`, which stands for the
+// last name and the keys before it.
+fn one_entry<V: Visitor>(
     group: &Group<'_>,
-    objects: &mut Objects<'_>,
-    range: Option<Keys>,
+    visitor: &mut V,
+    range: &NameRange,
     at: usize,
     floor: Name,
-    state: State,
-) -> Result<State, Refusal>
+) -> Result<Name, Refusal>
     requires at_in_bounds { at + 40 ≤ length group.now.image.now }
-    requires ready { Ready group.now.strings.segment.now group.now.strings.map.now objects.old.addresses.now objects.old.counts.now group.now
-        range objects.old.count state.last }
-    requires counts_bound { link_sum (linked_of objects.old.count objects.old.addresses.now objects.old.counts.now) + 1 < 2 ^ 32 }
-    requires floor { Floor group.now.strings.segment.now range (name_in group.now.strings.segment.now state.last) floor }
-    ensures read { (count : ℕ) → EntryIs group.now.image.now group.now.strings.segment.now group.now.wanted.now
-        objects.old.addresses.now objects.old.counts.now group.now range at (state_with count objects.old.count state)
-        objects.new.addresses.now objects.new.counts.now (reached count objects.new.count result) }
-    ensures kept { SameTable objects.old objects.new }
+    requires strings { Ready group.now.strings.segment.now group.now.strings.map.now group.now range.now }
+    requires floor { Floor group.now.strings.segment.now range.now.keys (name_in group.now.strings.segment.now range.now.last) floor }
+    requires ready { V.Ready visitor.old }
+    requires links_bound { V.links visitor.old + 1 < 2 ^ 32 }
+    ensures read { EntryIs group.now.image.now group.now.strings.segment.now (V.visit visitor.old) group.now range.now at (V.found visitor.old)
+        (V.found visitor.new) result }
+    ensures ready { V.Ready visitor.new }
+    ensures links { V.links visitor.new ≤ V.links visitor.old + 1 }
+    ensures same { V.Same visitor.old visitor.new }
 {
     let segment = group.strings.segment;
     let off = u64_at(group.image, at);
@@ -126,32 +115,43 @@ fn one_entry(
         first: order::first_number(segment, start, size),
         second: order::second_number(segment, start, size),
     };
-    named_entry(group, objects, range, at, name, floor, state)
+    let below = range::name_below(segment, floor, name);
+    if !below || !range::at_most(segment, range.keys, name) {
+        return Err(Refusal::Fault(answers::NODE_UNSOUND, at));
+    }
+    named_entry(group, visitor, at, name)
 }
 
-// `n` entries, one after the other; the first stands at `from`. They enter no block, so that what is read is the same with any number of blocks.
-pub fn entries(
+// `n` entries, one after the other; the first stands at `from`. What is returned is the last name.
+pub fn entries<V: Visitor>(
     group: &Group<'_>,
-    objects: &mut Objects<'_>,
-    range: Option<Keys>,
+    visitor: &mut V,
+    range: &NameRange,
     from: usize,
     n: usize,
-    state: State,
-) -> Result<State, Refusal>
+) -> Result<Name, Refusal>
     requires n_in_bounds { from + 40 * n ≤ length group.now.image.now }
-    requires ready { Ready group.now.strings.segment.now group.now.strings.map.now objects.old.addresses.now objects.old.counts.now group.now
-        range objects.old.count state.last }
-    requires n_bound { link_sum (linked_of objects.old.count objects.old.addresses.now objects.old.counts.now) + n < 2 ^ 32 }
-    ensures read { (count : ℕ) → EntriesAre group.now.image.now group.now.strings.segment.now group.now.wanted.now
-        objects.old.addresses.now objects.old.counts.now group.now range from n (state_with count objects.old.count state)
-        objects.new.addresses.now objects.new.counts.now (reached count objects.new.count result) }
-    ensures kept { SameTable objects.old objects.new }
+    requires strings { Ready group.now.strings.segment.now group.now.strings.map.now group.now range.now }
+    requires ready { V.Ready visitor.old }
+    requires links_bound { V.links visitor.old + n < 2 ^ 32 }
+    ensures read { EntriesAre group.now.image.now group.now.strings.segment.now (V.visit visitor.old) group.now range.now from n (V.found visitor.old)
+        (V.found visitor.new) result }
+    ensures ready { V.Ready visitor.new }
+    ensures links { V.links visitor.new ≤ V.links visitor.old + n }
+    ensures same { V.Same visitor.old visitor.new }
 {
-    let mut s = state;
-    let mut floor = range::floor(group.strings.segment, range, state.last);
+    let keys = range.keys;
+    let mut last = range.last;
+    let mut floor = range::floor(group.strings.segment, keys, last);
     for i in 0..n {
-        s = one_entry(group, objects, range, from + 40 * i, floor, s)?;
-        floor = s.last;
+        last = one_entry(
+            group,
+            visitor,
+            &NameRange { keys, last },
+            from + 40 * i,
+            floor,
+        )?;
+        floor = last;
     }
-    Ok(s)
+    Ok(last)
 }

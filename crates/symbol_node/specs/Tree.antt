@@ -7,24 +7,22 @@ use Rattle.format.specs.Symbols.{symbol_walk}
 use Rattle.walk.specs.Lent.{blocks_of, length_sum, Lent, Ended, ended, stopped, Walked}
 use Rattle.laws.specs.Blocks.{Fresh, Inside}
 use Rattle.segment.specs.Segment.{Known}
-use Rattle.ledger.specs.Links.{link_sum}
-use Rattle.ledger.specs.Table.{linked_of}
-use Rattle.range.specs.Range.{Range, NameInside, RangeInside, Tight}
-use Rattle.visit.specs.Visit.{Both, TableIf}
+use Rattle.range.specs.Range.{NameInside, RangeInside, Tight}
+use Rattle.range.specs.declared.Name.{Name}
+use Rattle.visit.specs.Visit.{Visit}
 use Rattle.symbol.specs.Entry.{group_of, state_of}
 use Rattle.symbol.specs.declared.entry.Group.{Group}
-use Rattle.symbol.specs.State.{State}
+use Rattle.symbol.specs.declared.entry.NameRange.{NameRange}
 use Rattle.format.specs.declared.Refusal.{Refusal}
 
--- What holds of a state on the way down. An entry has 40 bytes of a block, so that the links found are at most the bytes of the blocks
--- entered; these lie inside the end of file, each once.
-pub record Sound (seg ws addresses counts : List ℕ) (g : Group) (s : State) : Type 0 where
-  pub lent : Lent ws s.count g.bounds.room
-  pub last : NameInside seg s.last
-  pub table : TableIf g.auditing addresses counts s.objects
-  pub apart : Fresh [] (blocks_of s.count ws)
-  pub inside : Inside g.bounds.end_of_file (blocks_of s.count ws)
-  pub links : link_sum (linked_of s.objects addresses counts) ≤ length_sum (blocks_of s.count ws)
+-- What holds on the way down, with so many blocks entered, so many links found, and this last name. An entry has 40 bytes of a block, so that the
+-- links found are at most the bytes of the blocks entered; these lie inside the end of file, each once.
+pub record Sound (seg ws : List ℕ) (g : Group) (count links_found : ℕ) (n : Name) : Type 0 where
+  pub lent : Lent ws count g.bounds.room
+  pub last : NameInside seg n
+  pub apart : Fresh [] (blocks_of count ws)
+  pub inside : Inside g.bounds.end_of_file (blocks_of count ws)
+  pub links : links_found ≤ length_sum (blocks_of count ws)
 
 -- what holds all the way down
 pub record Fixed (im seg map : List ℕ) (g : Group) : Type 0 where
@@ -34,23 +32,24 @@ pub record Fixed (im seg map : List ℕ) (g : Group) : Type 0 where
   pub internal : g.internal_k < 65536
   pub known : Known seg map g.strings.head g.strings.free g.strings.ended
 
-pub record Descending (im seg map ws addresses counts : List ℕ) (g : Group) (r : Range) (s : State) : Type 0 where
+pub record Descending (im seg map ws : List ℕ) (g : Group) (r : NameRange) (count links : ℕ) : Type 0 where
   pub fixed : Fixed im seg map g
-  pub range : RangeInside seg r
-  pub sound : Sound seg ws addresses counts g s
+  pub keys : RangeInside seg r.keys
+  pub sound : Sound seg ws g count links r.last
 
-abbrev pub step_end : List ℕ → List ℕ → List ℕ → Result State Refusal → Ended (GroupState Both)
-step_end seg addresses counts (Ok s) = ended (state_of seg addresses counts s) s.count
-step_end seg addresses counts (Err r) = stopped r
+-- the last name, what was found and how many blocks were entered then, or the refusal
+abbrev pub step_end : {S : Type 0} → List ℕ → S → ℕ → Result Name Refusal → Ended (GroupState S)
+step_end seg found count (Ok n) = ended (state_of seg n found) count
+step_end seg found count (Err r) = stopped r
 
-abbrev pub SoundIf : List ℕ → List ℕ → List ℕ → List ℕ → Group → Result State Refusal → Type 0
-SoundIf seg ws addresses counts g (Ok s) = Sound seg ws addresses counts g s
-SoundIf seg ws addresses counts g (Err r) = Unit {0}
+abbrev pub SoundIf : List ℕ → List ℕ → Group → ℕ → ℕ → Result Name Refusal → Type 0
+SoundIf seg ws g count links (Ok n) = Sound seg ws g count links n
+SoundIf seg ws g count links (Err r) = Unit {0}
 
 -- a symbol table node was read as its walk reads it
-pub record SymbolsAre (im seg wanted ws addresses counts : List ℕ) (g : Group) (r : Range) (at : ℕ) (s : State) (ws' addresses' counts' : List ℕ)
-    (x : Result State Refusal) : Type 0 where
-  pub walked : (bounds : List Bound) → Tight seg r bounds →
-      Walked ws ws' (step_end seg addresses' counts' x) (run im g.bounds.end_of_file g.bounds.room
-      (symbol_walk (group_of seg wanted g) at bounds (state_of seg addresses counts s)) (blocks_of s.count ws))
-  pub sound : SoundIf seg ws' addresses' counts' g x
+pub record SymbolsAre {S : Type 0} (im seg ws : List ℕ) (visit : Visit S) (g : Group) (r : NameRange) (at count : ℕ) (found : S) (ws' : List ℕ)
+    (count' links' : ℕ) (found' : S) (x : Result Name Refusal) : Type 0 where
+  pub walked : (bounds : List Bound) → Tight seg r.keys bounds →
+      Walked ws ws' (step_end seg found' count' x) (run im g.bounds.end_of_file g.bounds.room
+      (symbol_walk (group_of seg visit g) at bounds (state_of seg r.last found)) (blocks_of count ws))
+  pub sound : SoundIf seg ws' g count' links' x

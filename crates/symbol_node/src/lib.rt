@@ -3,15 +3,13 @@
 
 ghost use Rattle.std.specs.Prelude.{◌*◌, ◌+◌};
 ghost use Rattle.walk.specs.Entered.{SameWords};
-ghost use Rattle.ledger.specs.Objects.{SameTable};
-ghost use Rattle.symbol.specs.State.{state_with, reached};
 ghost use Rattle.symbol_node.specs.Tree.{Descending, SymbolsAre};
 
 use format::{Refusal, answers};
-use ledger::table::Objects;
-use range::Keys;
+use range::Name;
 use symbol::entry;
-use symbol::entry::{Group, State};
+use symbol::entry::{Group, NameRange};
+use visit::Visitor;
 use walk::blocks::Blocks;
 use walk::kinds;
 use walk::numbers::{u16_at, u32_at};
@@ -22,22 +20,22 @@ const SNOD: u64 = 0x444f4e53;
 // The version of a symbol table node.
 const VERSION: u8 = 1;
 
-// The node at `at` is entered, and its entries are read.
-pub fn symbol_node(
+// The node at `at` is entered, and its entries are read. What is returned is the last name.
+pub fn symbol_node<V: Visitor>(
     group: &Group<'_>,
     blocks: &mut Blocks<'_>,
-    objects: &mut Objects<'_>,
-    range: Option<Keys>,
+    visitor: &mut V,
+    range: &NameRange,
     at: u64,
-    state: State,
-) -> Result<State, Refusal>
-    requires { Descending group.now.image.now group.now.strings.segment.now group.now.strings.map.now blocks.old.words.now
-        objects.old.addresses.now objects.old.counts.now group.now range (state_with blocks.old.count objects.old.count state) }
-    ensures read { SymbolsAre group.now.image.now group.now.strings.segment.now group.now.wanted.now blocks.old.words.now
-        objects.old.addresses.now objects.old.counts.now group.now range at (state_with blocks.old.count objects.old.count state)
-        blocks.new.words.now objects.new.addresses.now objects.new.counts.now (reached blocks.new.count objects.new.count result) }
+) -> Result<Name, Refusal>
+    requires descending { Descending group.now.image.now group.now.strings.segment.now group.now.strings.map.now blocks.old.words.now group.now
+        range.now blocks.old.count (V.links visitor.old) }
+    requires ready { V.Ready visitor.old }
+    ensures read { SymbolsAre group.now.image.now group.now.strings.segment.now blocks.old.words.now (V.visit visitor.old) group.now range.now at
+        blocks.old.count (V.found visitor.old) blocks.new.words.now blocks.new.count (V.links visitor.new) (V.found visitor.new) result }
+    ensures ready { V.Ready visitor.new }
     ensures kept { SameWords blocks.old blocks.new }
-    ensures kept_objects { SameTable objects.old objects.new }
+    ensures same { V.Same visitor.old visitor.new }
 {
     let image = group.image;
     let k = group.leaf_k;
@@ -53,5 +51,5 @@ pub fn symbol_node(
     if n < 1 || 2 * k < n {
         return Err(Refusal::Fault(answers::NODE_UNSOUND, start));
     }
-    entry::entries(group, objects, range, start + 8, n as usize, state)
+    entry::entries(group, visitor, range, start + 8, n as usize)
 }

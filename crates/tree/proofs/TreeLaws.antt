@@ -21,7 +21,6 @@ use mathlib.Core.Bool.{true, false}
 use Rattle.walk.proofs.Tests.{field-equal, field-unequal, field-least}
 use Rattle.laws.proofs.Simulation.{passed, failed, chosen-then, Simulation, start, same-walk, returned, callee-done, callee-stopped}
 use Rattle.range.specs.Range.{Tight}
-use Rattle.visit.specs.Visit.{Both}
 
 -- two walks that enter the same block and go on alike with its bytes run alike
 run-enter-same : (im : List ℕ) (eof room : ℕ) (bs : List Block) {A : Type 0} (v : Kind) (a n : ℕ) (f f' : List ℕ → Walk A) →
@@ -38,15 +37,15 @@ node-then : {A : Type 0} (k at : ℕ) (f : List ℕ → Walk A) → node_walk k 
 unfolding node_walk
 node-then k at f = simp (bind_assoc, ret-bind)
 
-module _ (im : List ℕ) (g : Rattle.format.specs.Entry.Group Both) (at : ℕ) (s : GroupState Both) where
+module _ {S : Type 0} (im : List ℕ) (g : Rattle.format.specs.Entry.Group S) (at : ℕ) (s : GroupState S) where
   abbrev root_bytes : List ℕ
   root_bytes = part im at (32 + 32 * g.internal_k)
 
   -- what follows the root's tests, and what follows those of a node of this level
-  abbrev after_root : List ℕ → Walk (GroupState Both)
+  abbrev after_root : List ℕ → Walk (GroupState S)
   after_root b = if eqb (u16 b 6) 0 then check (eqb (u8 b 5) 0) (fault 8 at) >> ret s else branches g.heap (subtree g (u8 b 5)) at b [] s
 
-  abbrev after_node : ℕ → List ℕ → Walk (GroupState Both)
+  abbrev after_node : ℕ → List ℕ → Walk (GroupState S)
   after_node level b = check (eqb (u8 b 5) level) (fault 8 at) >> (check (leb 1 (u16 b 6)) (fault 8 at) >> branches g.heap (subtree g level) at b [] s)
 
   root-entries : u16 root_bytes 6 ≡ u16 im (at + 6)
@@ -68,9 +67,9 @@ module _ (im : List ℕ) (g : Rattle.format.specs.Entry.Group Both) (at : ℕ) (
       (subtree g (suc (u8 im (at + 5))) at [] s) bs
   unfolding tree_walk subtree shown
   root-used eof room bs h =
-      ap (λ (w : Walk (GroupState Both)). run im eof room w bs) (node-then g.internal_k at after_root)
+      ap (λ (w : Walk (GroupState S)). run im eof room w bs) (node-then g.internal_k at after_root)
       ∙ run-enter-same im eof room bs tree_block at (32 + 32 * g.internal_k) _ _ (ap (node_tests g.internal_k at root_bytes) (same_after h))
-      ∙ sym (ap (λ (w : Walk (GroupState Both)). run im eof room w bs) (node-then g.internal_k at (after_node (u8 im (at + 5)))))
+      ∙ sym (ap (λ (w : Walk (GroupState S)). run im eof room w bs) (node-then g.internal_k at (after_node (u8 im (at + 5)))))
 
   -- an empty root, or one that can't be read
   module _ (eof room : ℕ) (ws : List ℕ) (count : ℕ) (l : Lent ws count room) (k : ℕ) (kk : g.internal_k ≡ k) (ws₁ : List ℕ) where

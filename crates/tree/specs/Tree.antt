@@ -6,7 +6,8 @@ use Rattle.format.specs.Tree.{tree_walk}
 use Rattle.walk.specs.Lent.{blocks_of, Walked}
 use Rattle.symbol.specs.Entry.{group_of, state_of}
 use Rattle.symbol.specs.declared.entry.Group.{Group}
-use Rattle.symbol.specs.State.{State}
+use Rattle.range.specs.declared.Name.{Name}
+use Rattle.visit.specs.Visit.{Visit}
 use Rattle.format.specs.declared.Refusal.{Refusal}
 use Rattle.symbol_node.specs.Tree.{step_end, SoundIf}
 
@@ -16,8 +17,8 @@ pub record HeightAt (im : List ℕ) (at r : ℕ) : Type 0 where
   pub used : (r ≡ 0 → ⊥) → (u16 im (at + 6) ≡ 0 → ⊥) × (r ≡ suc (u8 im (at + 5)))
 
 -- a tree was read as its walk reads it
-pub record TreeIs (im seg wanted ws addresses counts : List ℕ) (g : Group) (at : ℕ) (s : State) (ws' addresses' counts' : List ℕ)
-    (x : Result State Refusal) : Type 0 where
-  pub walked : Walked ws ws' (step_end seg addresses' counts' x) (run im g.bounds.end_of_file g.bounds.room
-      (tree_walk (group_of seg wanted g) at (state_of seg addresses counts s)) (blocks_of s.count ws))
-  pub sound : SoundIf seg ws' addresses' counts' g x
+pub record TreeIs {S : Type 0} (im seg ws : List ℕ) (visit : Visit S) (g : Group) (at : ℕ) (last : Name) (count : ℕ) (found : S) (ws' : List ℕ)
+    (count' links' : ℕ) (found' : S) (x : Result Name Refusal) : Type 0 where
+  pub walked : Walked ws ws' (step_end seg found' count' x) (run im g.bounds.end_of_file g.bounds.room
+      (tree_walk (group_of seg visit g) at (state_of seg last found)) (blocks_of count ws))
+  pub sound : SoundIf seg ws' g count' links' x

@@ -1,21 +1,23 @@
 -- Laws of what is done at an entry: a lookup's comparison, and an audit's discovery.
-use Prim.Native.Nat.{ℕ, ◌≤◌, ◌<◌}
+use Prim.Native.Nat.{ℕ, ◌+◌, ◌≤◌, ◌<◌}
 use mathlib.Core.Bool.{Bool, true, false}
 use mathlib.Core.List.{List}
 use mathlib.Core.Path.{◌≡◌, refl, ap, sym, ◌∙◌}
 use native.Mathlib.Omega.{arith}
 use borrow.Author.Tests.{le-leb, lt-leb}
 use lib.Dec.{leb}
-use Rattle.std.specs.Prelude.{if◌then◌else◌, Some, None}
+use Rattle.std.specs.Prelude.{if◌then◌else◌, Option, Some, None}
 use Rattle.format.specs.Bytes.{same_bytes}
 use Rattle.format.specs.Result.{value}
 use Rattle.format.specs.Entry.{Entry}
+use Rattle.format.specs.Ledger.{discover}
 use Rattle.format.specs.Lookup.{hard, soft, compare_name}
-use Rattle.laws.proofs.Results.{value-bind, answer-bind}
+use Rattle.ledger.specs.Links.{link_sum}
 use Rattle.ledger.specs.Table.{linked_of, Discovered}
+use Rattle.ledger.specs.Objects.{found_count}
 use Rattle.ledger.proofs.LedgerLaws.{discover-hard, discover-other}
 use Rattle.ledger.proofs.TableLaws.{discovered-sum}
-use Rattle.visit.specs.Visit.{visit_both, link_of, link_after, TableIf, Visited}
+use Rattle.visit.specs.Visit.{visit_of, link_of, link_after}
 use Rattle.visit.specs.declared.Link.{Link}
 use Rattle.visit.specs.declared.Link.TheVariants.{Hard, Symbolic}
 
@@ -37,38 +39,25 @@ link-chosen true true header l = refl
 link-chosen true false header l = refl
 link-chosen false u header l = refl
 
--- A visit, by what was done.
-module _ (xs ts : List ℕ) (n : ℕ) (auditing : Bool) (t : TableIf auditing xs ts n) (name wanted : List ℕ) (kind header : ℕ) (l : Link) where
-  abbrev entry : Entry
-  entry = record { name = name; type = kind; header = header }
+-- a name compared
+pub compared : (e : Entry) (wanted : List ℕ) (l l' : Link) → l' ≡ link_after e.name wanted e.type e.header l →
+    value (link_of l') ≡ compare_name wanted e (link_of l)
+unfolding compare_name
+compared e wanted l l' h =
+    ap (λ (k : Rattle.format.specs.Lookup.Link). value k) (ap link_of h ∙ link-chosen (same_bytes e.name wanted) (leb e.type 1) e.header l)
 
-  pub visit-compared : (l' : Link) → auditing ≡ false → l' ≡ link_after name wanted kind header l →
-      Visited xs ts n auditing name wanted kind header l xs ts (Some (n, l'))
-  unfolding visit_both compare_name
-  visit-compared l' u e = let t' : TableIf false xs ts n = rw u at t in rw u record {
-    walk =
-        ap (λ (k : Rattle.format.specs.Lookup.Link). value (record { ledger = linked_of n xs ts; link = k }))
-        (ap link_of e ∙ link-chosen (same_bytes name wanted) (leb kind 1) header l)
-        ∙ sym (value-bind _ _);
-    table = (t', omega arith);
-  }
+-- An entry at an audit, by what was done.
+module _ (e : Entry) (xs ts : List ℕ) (n : ℕ) where
+  pub passed-by : 1 < e.type → value (linked_of n xs ts) ≡ discover e (linked_of n xs ts)
+  passed-by h = sym (discover-other e (linked_of n xs ts) (lt-leb e.type 1 h))
 
-  pub visit-passed : auditing ≡ true → 1 < kind → Visited xs ts n auditing name wanted kind header l xs ts (Some (n, l))
-  unfolding visit_both
-  visit-passed u h = rw u record {
-    walk = rw (discover-other entry (linked_of n xs ts) (lt-leb kind 1 h)) (sym (value-bind _ _));
-    table = (λ _. t u, omega arith);
-  }
+  module _ (xs' ts' : List ℕ) (n' : ℕ) where
+    pub discovered : (r : Option (Unit {0})) → e.type ≤ 1 → Discovered xs ts n e.header xs' ts' (found_count n' r) →
+        visit_of (linked_of n' xs' ts') r ≡ discover e (linked_of n xs ts)
+    discovered (Some u) h d = d.walk ∙ sym (discover-hard e (linked_of n xs ts) (le-leb e.type 1 h))
+    discovered None h d = d.walk ∙ sym (discover-hard e (linked_of n xs ts) (le-leb e.type 1 h))
 
-  module _ (u : auditing ≡ true) (h : kind ≤ 1) (xs' ts' : List ℕ) where
-    pub visit-full : Discovered xs ts n header xs' ts' None → Visited xs ts n auditing name wanted kind header l xs' ts' None
-    unfolding visit_both
-    visit-full d =
-        rw u record { walk = rw (discover-hard entry (linked_of n xs ts) (le-leb kind 1 h), ← d.walk) (sym (answer-bind _ _)); table = tt }
-
-    pub visit-counted : (m : ℕ) → Discovered xs ts n header xs' ts' (Some m) → Visited xs ts n auditing name wanted kind header l xs' ts' (Some (m, l))
-    unfolding visit_both
-    visit-counted m d = rw u record {
-      walk = rw (discover-hard entry (linked_of n xs ts) (le-leb kind 1 h), ← d.walk) (sym (value-bind _ _));
-      table = (λ _. d.table, omega (arith, discovered-sum xs ts n header xs' ts' m d));
-    }
+    pub one-link : (r : Option (Unit {0})) → Discovered xs ts n e.header xs' ts' (found_count n' r) → (r ≡ None → n' ≡ n) →
+        link_sum (linked_of n' xs' ts') ≤ link_sum (linked_of n xs ts) + 1
+    one-link (Some u) d f = omega (arith, discovered-sum xs ts n e.header xs' ts' n' d)
+    one-link None d f = rw (d.table.0, d.table.1, f refl) (omega arith)

@@ -31,7 +31,7 @@ read_stored-requires c =
     (rw o at c.open.ensures.fields_bounded) in
     record {
       readable = readable-taken w.addresses a.objects r.listed c.args.image.now r;
-      stored_fit = rw (length-take-le a.objects w.addresses r.listed) (stored-room _ _ _ _ c.requires (c.in_ok-audited.ensures.ready.table refl).fits);
+      stored_fit = rw (length-take-le a.objects w.addresses r.listed) (stored-room _ _ _ _ c.requires c.in_ok-audited.ensures.ready.table.fits);
     }
 
 pub returns-in_err-superblock : goal.returns-in_err-superblock

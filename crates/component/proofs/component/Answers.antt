@@ -15,7 +15,7 @@ read-requires c = rw c.bounds.ensures (record {
 pub find-requires : goal.find-requires
 find-requires c = record {
   opened = c.requires.opened;
-  by_index = group-ready c.args.file.image.now c.args.name.now c.args.list.now c.args.file.superblock c.args.file.room
+  ready = group-ready c.args.file.image.now c.args.name.now c.args.list.now c.args.file.superblock c.args.file.room
       c.args.at c.args.last c.requires.lent c.enter_superblock.new.blocks.words.now c.enter_superblock.new.blocks.count
       c.enter_superblock.ensures.kept.long (c.in_ok-enter_superblock.ensures.walked c.args.file.image.now) c.read.new.blocks.words.now
       c.read.new.blocks.count c.read.ensures.kept.long c.in-Group.tree c.in-Group.heap (rw (c.bounds.ensures, c.in-Group.is) at c.in_ok-header.ensures.header).walked;

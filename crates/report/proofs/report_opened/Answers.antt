@@ -32,7 +32,7 @@ read_stored-requires c =
     c.requires.bounded in
     record {
       readable = readable-taken w.addresses o.objects r.listed c.args.image.now r;
-      stored_fit = rw (length-take-le o.objects w.addresses r.listed) (stored-room _ _ _ _ c.requires.lists (c.in-Ok.ensures.ready.table refl).fits);
+      stored_fit = rw (length-take-le o.objects w.addresses r.listed) (stored-room _ _ _ _ c.requires.lists c.in-Ok.ensures.ready.table.fits);
     }
 
 pub returns-in-Err : goal.returns-in-Err

@@ -3,7 +3,6 @@ use mathlib.Core.List.{[]}
 use mathlib.Core.Path.{◌≡◌, refl, sym}
 use Prim.Native.Nat.{◌+◌}
 use Rattle.format.specs.Bytes.{u16}
-use Rattle.symbol.specs.State.{state_with}
 use Rattle.symbol.specs.Entry.{group_of, state_of}
 use Rattle.subtree.proofs.SubtreeLaws.{sound_more}
 use Rattle.tree.proofs.TreeLaws.{no-bounds, root-used, root-stopped, root-empty, empty-level-wrong, empty-read}
@@ -12,49 +11,48 @@ use Rattle.std.proofs.lemmas.Result.{err_from_is_err_and}
 use Rattle.tree.proofs.tree.Goals as goal
 
 pub returns-then-height-ne0-clause-read : goal.returns-then-height-ne0-clause-read
-returns-then-height-ne0-clause-read c =
-    let g = c.args.group.now in
+returns-then-height-ne0-clause-read g c =
+    let group = c.args.group.now in
+    let seg = group.strings.segment.now in
     let u = c.root_height-height.ensures.used c.if-height-ne0.true in
     record {
-      walked = rw (root-used g.image.now (group_of g.strings.segment.now g.wanted.now g) c.args.at _ _ _ _ u.0, sym u.1)
-          (c.subtree.ensures.read.walked []
-          (no-bounds g.strings.segment.now));
+      walked = rw (root-used group.image.now (group_of seg (g.V.Visitor.visit c.args.visitor.now) group) c.args.at _ _ _ _ u.0, sym u.1)
+          (c.subtree.ensures.read.walked [] (no-bounds seg));
       sound = c.subtree.ensures.read.sound;
     }
 
 pub returns-then-inner-clause-read : goal.returns-then-inner-clause-read
-returns-then-inner-clause-read c =
-    let g = c.args.group.now in
+returns-then-inner-clause-read g c =
+    let group = c.args.group.now in
     let r = c.in_ok-root.ensures.read in
-    let no-entries : u16 g.image.now (c.args.at + 6) ≡ 0 = c.root_height-height.ensures.empty c.if-height-ne0.false (omega (arith, r.fields.0)) in
+    let no-entries : u16 group.image.now (c.args.at + 6) ≡ 0 = c.root_height-height.ensures.empty c.if-height-ne0.false (omega (arith, r.fields.0)) in
     record {
-      walked = empty-level-wrong g.image.now (group_of g.strings.segment.now g.wanted.now g) c.args.at _ _ _ _ _ c.requires.sound.lent _ refl _ _
-          c.in_ok-root.ensures.kept.long no-entries r.walked _ r.fields.1 c.if-inner.true;
+      walked = empty-level-wrong group.image.now (group_of group.strings.segment.now (g.V.Visitor.visit c.args.visitor.now) group) c.args.at _ _ _ _ _
+          c.requires.sound.lent _ refl _ _ c.in_ok-root.ensures.kept.long no-entries r.walked _ r.fields.1 c.if-inner.true;
       sound = tt;
     }
 
 pub returns-in_err-root-clause-read : goal.returns-in_err-root-clause-read
-returns-in_err-root-clause-read c =
-    let g = c.args.group.now in
+returns-in_err-root-clause-read g c =
+    let group = c.args.group.now in
     let p = err_from_is_err_and c.from_residual.result c.from_residual.ensures.1 in
     rw (p.1, p.2) (record {
-      walked = root-stopped g.image.now (group_of g.strings.segment.now g.wanted.now g) c.args.at _ _ _ _ _ c.requires.sound.lent _ refl _ _
-          c.in_err-root.ensures.read.walked;
+      walked = root-stopped group.image.now (group_of group.strings.segment.now (g.V.Visitor.visit c.args.visitor.now) group) c.args.at _ _ _ _ _
+          c.requires.sound.lent _ refl _ _ c.in_err-root.ensures.read.walked;
       sound = tt;
     })
 
 pub returns-clause-read : goal.returns-clause-read
-returns-clause-read c =
-    let g = c.args.group.now in
-    let group = group_of g.strings.segment.now g.wanted.now g in
+returns-clause-read g c =
+    let group = c.args.group.now in
+    let defined = group_of group.strings.segment.now (g.V.Visitor.visit c.args.visitor.now) group in
     let r = c.in_ok-root.ensures.read in
     let same = c.in_ok-root.ensures.kept.long in
-    let no-entries : u16 g.image.now (c.args.at + 6) ≡ 0 = c.root_height-height.ensures.empty c.if-height-ne0.false (omega (arith, r.fields.0)) in
-    let state = state_with c.args.blocks.now.count c.args.objects.now.count c.args.state in
-    let found = state_of g.strings.segment.now c.args.objects.now.addresses.now c.args.objects.now.counts.now state in
-    let m = root-empty g.image.now group c.args.at found _ _ _ _ c.requires.sound.lent _ refl _ _ same no-entries r.walked in
+    let no-entries : u16 group.image.now (c.args.at + 6) ≡ 0 = c.root_height-height.ensures.empty c.if-height-ne0.false (omega (arith, r.fields.0)) in
+    let state = state_of group.strings.segment.now c.args.last (g.V.Visitor.found c.args.visitor.now) in
+    let m = root-empty group.image.now defined c.args.at state _ _ _ _ c.requires.sound.lent _ refl _ _ same no-entries r.walked in
     record {
-      walked = empty-read g.image.now group c.args.at found _ _ _ _ c.requires.sound.lent _ refl _ _ same no-entries r.walked _ r.fields.1
+      walked = empty-read group.image.now defined c.args.at state _ _ _ _ c.requires.sound.lent _ refl _ _ same no-entries r.walked _ r.fields.1
           c.if-inner.false;
-      sound = sound_more _ _ _ _ g state _ _ c.requires.sound m.lent m.blocks;
+      sound = sound_more _ _ group _ _ _ _ _ c.requires.sound m.lent m.blocks;
     }

@@ -3,4 +3,4 @@ use native.Mathlib.Omega.{arith}
 use Rattle.group.proofs.maps.read_in.Goals as goal
 
 pub read_mapped-requires-clause-size_bound : goal.read_mapped-requires-clause-size_bound
-read_mapped-requires-clause-size_bound c = omega arith
+read_mapped-requires-clause-size_bound g c = omega arith
