@@ -230,7 +230,8 @@ pub record Loop {S : Type 0} (visit : Message → S → Result S) (im ws₀ : Li
 module _ {S : Type 0} {visit : Message → S → Result S} {im ws₀ : List ℕ} {q : Reading} {count : ℕ} {found₀ : S} {t₀ : Tally} {k₀ : Cursor} {ws : List ℕ} {n : ℕ}
     {found : S} {t : Tally} {k : Cursor} (r : Loop visit im ws₀ q count found₀ t₀ k₀ ws n found t k) (p : Lending im ws₀ q count)
     {waiting sofar : List Message} (o : Sought im ws₀ count k₀ waiting) (y : Tallied im sofar t₀) where
-  pub loop-now : Following visit im q.bounds.end_of_file q.bounds.room (continuations visit (blocks_most + 1) waiting (gathered sofar found₀)) count ws₀ k t found
+  pub loop-now : Following visit im q.bounds.end_of_file q.bounds.room
+      (continuations visit (blocks_most + 1) waiting (gathered sofar found₀)) count ws₀ k t found
       n ws
   loop-now = r.going (blocks_most + 1) waiting sofar (omega arith) p.lent o y
 

@@ -153,7 +153,8 @@ module _ (im : List ℕ) (s : superblocks.Superblock) (room : ℕ) (ws addresses
           count ws
       unfolding content_walk sharing_dataset
       at-parts =
-          same-walk _ (parts-split space type (λ d t. located (head_at type) (share_each (shared_by t) f) >>= λ f'. storage_walk d t layout >> ret f')) (begun w)
+          same-walk _
+          (parts-split space type (λ d t. located (head_at type) (share_each (shared_by t) f) >>= λ f'. storage_walk d t layout >> ret f')) (begun w)
 
       pub parts-refused : (x : Refusal) → refuse x ≡ parts_walk space type → Walks w ws addresses counts marks (Err x)
       parts-refused x e = record { walked = callee-refusal _ _ x (sym e) at-parts; listed = tt }
@@ -179,7 +180,8 @@ module _ (im : List ℕ) (s : superblocks.Superblock) (room : ℕ) (ws addresses
 
           pub storage-read : (d : Rattle.format.specs.Dataset.Dataset) (n : ℕ) → length ws₁ ≡ length ws →
               Walked ws ws₁ (ended d n) (run im eof room (storage_walk p.space p.type layout) (blocks_of count ws)) →
-              Kept addresses counts objects spare addresses₁ counts₁ marks₁ objects₁ → Walks w ws₁ addresses₁ counts₁ marks₁ (Ok (record { count = n; objects = objects₁ }))
+              Kept addresses counts objects spare addresses₁ counts₁ marks₁ objects₁ →
+              Walks w ws₁ addresses₁ counts₁ marks₁ (Ok (record { count = n; objects = objects₁ }))
           storage-read d n same h k =
               let m = callee-done ws₁ _ _ at-storage same h in
               record { walked = returned m; listed = listed_more (listed-counted y k) m.lent m.blocks }
@@ -235,7 +237,8 @@ module _ (im : List ℕ) (s : superblocks.Superblock) (room : ℕ) (ws addresses
       pub committed-read : (n : ℕ) (addresses₁ counts₁ marks₁ : List ℕ) (objects₁ : ℕ) → length ws₁ ≡ length ws →
           Walked ws ws₁ (ended (record { object = committed; found = found_of addresses₁ counts₁ marks₁ objects₁ }) n)
           (run im eof room header (blocks_of count ws)) →
-          (left : ℕ) → Counting addresses₁ counts₁ marks₁ objects₁ eof (blocks_of n ws₁) left → Walks whole ws₁ addresses₁ counts₁ marks₁ (Ok (record { count = n; objects = objects₁ }))
+          (left : ℕ) → Counting addresses₁ counts₁ marks₁ objects₁ eof (blocks_of n ws₁) left →
+          Walks whole ws₁ addresses₁ counts₁ marks₁ (Ok (record { count = n; objects = objects₁ }))
       unfolding content_walk ◌>>=◌
       committed-read n addresses₁ counts₁ marks₁ objects₁ same h left c = record {
         walked = returned (at-kind committed n addresses₁ counts₁ marks₁ objects₁ same h);

@@ -18,7 +18,8 @@ find-requires c = record {
   ready = group-ready c.args.file.image.now c.args.name.now c.args.list.now c.args.file.superblock c.args.file.room
       c.args.at c.args.last c.requires.lent c.enter_superblock.new.blocks.words.now c.enter_superblock.new.blocks.count
       c.enter_superblock.ensures.kept.long (c.in_ok-enter_superblock.ensures.walked c.args.file.image.now) c.read.new.blocks.words.now
-      c.read.new.blocks.count c.read.ensures.kept.long c.in-Group.tree c.in-Group.heap (rw (c.bounds.ensures, c.in-Group.is) at c.in_ok-header.ensures.header).walked;
+      c.read.new.blocks.count c.read.ensures.kept.long c.in-Group.tree c.in-Group.heap
+      (rw (c.bounds.ensures, c.in-Group.is) at c.in_ok-header.ensures.header).walked;
 }
 
 pub returns-in_err-enter_superblock : goal.returns-in_err-enter_superblock
@@ -56,4 +57,5 @@ returns-in-Group c =
     group-is c.args.file.image.now c.args.name.now c.args.list.now c.args.file.superblock c.args.file.room
     c.args.at c.args.last c.requires.lent c.enter_superblock.new.blocks.words.now c.enter_superblock.new.blocks.count
     c.enter_superblock.ensures.kept.long (c.in_ok-enter_superblock.ensures.walked c.args.file.image.now) c.read.new.blocks.words.now
-    c.read.new.blocks.count c.read.ensures.kept.long c.in-Group.tree c.in-Group.heap (rw (c.bounds.ensures, c.in-Group.is) at c.in_ok-header.ensures.header).walked _ c.find.ensures.found
+    c.read.new.blocks.count c.read.ensures.kept.long c.in-Group.tree c.in-Group.heap
+    (rw (c.bounds.ensures, c.in-Group.is) at c.in_ok-header.ensures.header).walked _ c.find.ensures.found

@@ -19,7 +19,8 @@ pub returns-in_err-enter-clause-gathered_is : goal.returns-in_err-enter-clause-g
 returns-in_err-enter-clause-gathered_is g c =
     let p = err_from_is_err_and c.from_residual.result c.from_residual.ensures.1 in
     rw (p.1, p.2)
-    (header_refused _ _ _ _ _ _ _ _ c.requires.lending.lent _ c.u32_at-size.ensures (omega (arith, c.requires.lending.file)) (omega arith) _ c.enter.ensures.entered _
+    (header_refused _ _ _ _ _ _ _ _ c.requires.lending.lent _ c.u32_at-size.ensures (omega (arith, c.requires.lending.file))
+    (omega arith) _ c.enter.ensures.entered _
     c.in_err-enter.ensures.value)
 
 pub contents-requires-clause-lending : goal.contents-requires-clause-lending

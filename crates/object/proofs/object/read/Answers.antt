@@ -40,7 +40,8 @@ returns-in_err-known-in-Dataset-clause-walked c =
     let p = err_from_is_err_and c.from_residual-in_err-known-in-Dataset.result c.from_residual-in_err-known-in-Dataset.ensures.1 in
     let shared = c.in_err-known-in-Dataset.ensures.known in
     rw (p.1, p.2, shared.1, c.known.ensures.objects)
-    (known-refused _ c.args.file.superblock _ _ _ _ _ _ _ _ _ c.requires.listed _ _ _ _ _ _ _ c.read_with.ensures.kept.long headed.walked counting refl _ shared.0)
+    (known-refused _ c.args.file.superblock _ _ _ _ _ _ _ _ _ c.requires.listed _ _ _ _ _ _ _
+    c.read_with.ensures.kept.long headed.walked counting refl _ shared.0)
 
 pub returns-in_ok-known-in-Dataset-clause-walked : goal.returns-in_ok-known-in-Dataset-clause-walked
 returns-in_ok-known-in-Dataset-clause-walked c =
@@ -64,7 +65,8 @@ returns-in_err-known-in-Group-clause-walked c =
     let p = err_from_is_err_and c.from_residual-in_err-known-in-Group.result c.from_residual-in_err-known-in-Group.ensures.1 in
     let shared = c.in_err-known-in-Group.ensures.known in
     rw (p.1, p.2, shared.1, c.known-in-Group.ensures.objects)
-    (known-refused _ c.args.file.superblock _ _ _ _ _ _ _ _ _ c.requires.listed _ _ _ _ _ _ _ c.read_with.ensures.kept.long headed.walked counting refl _ shared.0)
+    (known-refused _ c.args.file.superblock _ _ _ _ _ _ _ _ _ c.requires.listed _ _ _ _ _ _ _
+    c.read_with.ensures.kept.long headed.walked counting refl _ shared.0)
 
 pub returns-in_ok-known-in-Group-clause-walked : goal.returns-in_ok-known-in-Group-clause-walked
 returns-in_ok-known-in-Group-clause-walked c =
