@@ -140,6 +140,7 @@ fn has_slash(segment: &[u8], off: usize, n: usize) -> bool
 }
 
 // How many bytes the name at `off` has; none if the string there is no name: 1 to 255 bytes, no '/', and not ".". Most names end within 16 bytes.
+#[inline(always)]
 fn name_size(segment: &[u8], off: usize) -> Option<usize>
     requires { off + before_nul (drop off segment.now) < length segment.now }
     ensures { result ≡ name_size segment.now off }
@@ -205,6 +206,7 @@ fn outside_free(strings: Strings<'_>, off: usize) -> bool
 }
 
 // The value of a symbolic link.
+#[inline(always)]
 pub fn value(strings: Strings<'_>, off: u64) -> Result<(), NameFault>
     requires last_nul { LastNul strings.segment.now strings.ended }
     requires held { Held strings.segment.now strings.map.now strings.head strings.free }
