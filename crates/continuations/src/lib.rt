@@ -15,7 +15,7 @@ ghost use Rattle.continuations.specs.Continuations.{with_blocks, Waiting, Ready,
 use format::Refusal;
 use scan;
 use scan::Span;
-use sharing::Visit;
+use sharing::MessageVisitor;
 use tally::Tally;
 use walk::blocks::{Blocks, Bounds};
 use walk::kinds;
@@ -69,7 +69,7 @@ fn seek(image: &[u8], blocks: &Blocks<'_>, cursor: Cursor) -> Cursor
 }
 
 // Enters the continuation that was named, and counts its messages behind those of the tally.
-fn read_block<V: Visit>(
+fn read_block<V: MessageVisitor>(
     reading: Reading<'_>,
     blocks: &mut Blocks<'_>,
     found: &mut V,
@@ -98,7 +98,7 @@ fn read_block<V: Visit>(
 
 // Enters and reads the continuations that the messages from the cursor on name, and those that these name in turn: their
 // messages are counted behind those of the tally. The queue grows while it is read, so that no range has its places.
-pub fn follow<V: Visit>(
+pub fn follow<V: MessageVisitor>(
     reading: Reading<'_>,
     blocks: &mut Blocks<'_>,
     found: &mut V,

@@ -14,14 +14,14 @@ use continuations::{Cursor, Reading};
 use format::{Refusal, answers};
 use scan;
 use scan::Span;
-use sharing::Visit;
+use sharing::MessageVisitor;
 use tally::Tally;
 use walk::blocks::Blocks;
 use walk::numbers::{u16_at, u32_at};
 use walk::{blocks, kinds};
 
 // What stands in a header block of 16 and so many bytes more at `at`, which was entered as the last.
-fn contents<V: Visit>(
+fn contents<V: MessageVisitor>(
     reading: Reading<'_>,
     blocks: &mut Blocks<'_>,
     found: &mut V,
@@ -61,7 +61,7 @@ fn contents<V: Visit>(
 }
 
 // All messages of the header at `at`: its block is entered before its version is looked at.
-pub fn messages<V: Visit>(
+pub fn messages<V: MessageVisitor>(
     reading: Reading<'_>,
     blocks: &mut Blocks<'_>,
     found: &mut V,

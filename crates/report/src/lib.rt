@@ -47,7 +47,8 @@ fn unopened(number: u8) -> Reported
     }
 }
 
-// The report of a file whose walk is refused: the blocks that were entered before stand at the head of the list.
+// The report of a file whose walk is refused: the blocks that were entered before stand at the head of the list. Their number is reported too, so that
+// it is given with the list.
 fn refused(list: &[u64], entered: usize, refusal: Refusal) -> Reported
     requires entered_in_bounds { 4 * entered ≤ length list.now }
     requires list_value { take (4 * entered) list.now ≡ block_words no_object (blocks_of entered list.now) }
@@ -119,7 +120,7 @@ pub fn report_into(
     }
 }
 
-// The same in a list that is filled already.
+// The same in a list that is filled already: two functions, so that no list is filled twice.
 fn report_filled(
     image: &[u8],
     list: &mut [u64],
@@ -150,9 +151,9 @@ pub struct Reply {
     pub ledger: Ledger,
 }
 
-// Makes a reply that of what is reported. Its ledger has the counts that the walk left, and gets the addresses at the head of the table; where no object
-// is reported, it is cleared.
-fn settle(reply: &mut Reply, reported: Reported, table: &[u64])
+// Completes a reply with what is reported. Its ledger has the counts that the walk left, and gets the addresses at the head of the table; where no
+// object is reported, the counts are cleared.
+fn complete(reply: &mut Reply, reported: Reported, table: &[u64])
     requires objects_in_bounds { reported.objects ≤ length table.now }
     requires objects_le_objects_most { reported.objects ≤ objects_most }
     requires none { reply.old.ledger.objects ≡ 0 }
@@ -199,6 +200,6 @@ pub fn report(image: &[u8], list: &mut [u64]) -> Reply
         &mut reply.ledger.true_counts,
     );
     blocks::hand_over(list, &work, r.block_count);
-    settle(&mut reply, r, &objects_table);
+    complete(&mut reply, r, &objects_table);
     reply
 }

@@ -5,7 +5,7 @@ ghost use Rattle.std.specs.Prelude.{◌+◌, ◌-◌, ◌≤◌, length, OnOk};
 ghost use Rattle.scan.specs.Scan.{with_tally, Scanned, Readable, NextIs};
 
 use format::Refusal;
-use sharing::Visit;
+use sharing::MessageVisitor;
 use tally::Tally;
 use walk::numbers::u16_at;
 
@@ -19,7 +19,7 @@ pub struct Span {
 // Reads the messages that fill the bytes of a span, and counts them behind those of the tally. A message is visited before the
 // next one is read. The step is a message's size, so that no range has the places. The tally is lent: a long chain of blocks is
 // read more slowly if each returns its own.
-pub fn scan_block<V: Visit>(
+pub fn scan_block<V: MessageVisitor>(
     image: &[u8],
     found: &mut V,
     span: Span,

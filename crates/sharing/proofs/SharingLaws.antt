@@ -7,6 +7,12 @@ use native.Mathlib.Omega.{arith}
 use borrow.Author.Tests.{eq-eqb, ne_eqb}
 use lib.Dec.{eqb}
 use lib.ListN.{length, get_or, set, length-set}
+use Rattle.laws.proofs.Disjoint.{fresh-append}
+use Rattle.laws.proofs.Growth.{inside-append}
+use Rattle.laws.proofs.SumOfLengths.{lengths-append, lengths-inside}
+use Rattle.sharing.specs.Lent.{TablesIn, KeptIn, CountingIn}
+use Rattle.sharing.specs.Visit.{Counts}
+use Rattle.sharing.specs.VisitLaws.{found_counts}
 use Rattle.std.specs.Prelude.{Result, Ok, Err, Option, Some, None, unwrap_or}
 use Rattle.format.specs.Attribute.{read_attribute}
 use Rattle.format.specs.Sharing.{Found, place_of, share, share_each, discover_sharing, not_committed}
@@ -116,3 +122,8 @@ module _ (ms : List ℕ) (i : ℕ) where
   pub kind-marked : (get_or ms i 0 ≡ 1 → ⊥) → KindKnown ms i (set ms i 2) true
   unfolding not_committed
   kind-marked h = record { walk = λ os. passes _ _ (ap not (ne_eqb (get_or ms i 0) 1 h)) refl; marks_same = length-set ms i 2 }
+
+-- the laws of what an audit counts
+pub found-counting : Counts TablesIn KeptIn CountingIn
+found-counting =
+    found_counts (record { apart = fresh-append; inside = inside-append; lengths = lengths-append; lengths_inside = lengths-inside })

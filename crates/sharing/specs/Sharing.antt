@@ -34,6 +34,11 @@ pub record Kept (addresses counts : List ℕ) (objects n : ℕ) (addresses' coun
   pub marked : objects_most ≤ length marks'
   pub links : link_sum (linked_of objects' addresses' counts') ≤ link_sum (linked_of objects addresses counts) + n
 
+-- so after a sharing that wasn't refused
+abbrev pub KeptThen : (addresses counts : List ℕ) (objects n : ℕ) (addresses' counts' marks' : List ℕ) → Result ℕ ℕ → Type 0
+KeptThen addresses counts objects n addresses' counts' marks' (Ok objects') = Kept addresses counts objects n addresses' counts' marks' objects'
+KeptThen addresses counts objects n addresses' counts' marks' (Err number) = Unit {0}
+
 -- Links and sharings found are at most the bytes of the blocks entered, even with so many to spare; the blocks lie inside the end of file, and
 -- no byte is in two of them. So no count outgrows the file.
 pub record Counting (addresses counts marks : List ℕ) (objects eof : ℕ) (bs : List Block) (spare : ℕ) : Type 0 where
@@ -43,11 +48,6 @@ pub record Counting (addresses counts marks : List ℕ) (objects eof : ℕ) (bs 
   pub table : Table addresses counts objects
   pub marked : objects_most ≤ length marks
   pub links : link_sum (linked_of objects addresses counts) + spare ≤ length_sum bs
-
--- so after a sharing that wasn't refused
-abbrev pub KeptThen : (addresses counts : List ℕ) (objects n : ℕ) (addresses' counts' marks' : List ℕ) → Result ℕ ℕ → Type 0
-KeptThen addresses counts objects n addresses' counts' marks' (Ok objects') = Kept addresses counts objects n addresses' counts' marks' objects'
-KeptThen addresses counts objects n addresses' counts' marks' (Err number) = Unit {0}
 
 -- a sharing of the address was counted and marked as the definition does it
 pub record Shared (addresses counts marks : List ℕ) (objects address : ℕ) (addresses' counts' marks' : List ℕ) (r : Result ℕ ℕ) : Type 0 where

@@ -1,13 +1,11 @@
 -- The laws of what is done at a message: of the audit, and of nothing at all.
-use Prim.Native.Nat.{◌+◌}
+use Prim.Native.Nat.{ℕ, ◌+◌, ◌≤◌}
 use mathlib.Core.List.{List, [], ◌∷◌, ◌++◌}
 use mathlib.Core.Path.{◌≡◌, refl, ◌∙◌}
 use native.Mathlib.Omega.{arith}
 use Rattle.format.specs.Blocks.{Block}
 use Rattle.walk.specs.Lent.{length_sum}
-use Rattle.laws.proofs.Disjoint.{fresh-append}
-use Rattle.laws.proofs.Growth.{inside-append}
-use Rattle.laws.proofs.SumOfLengths.{lengths-append, lengths-inside}
+use Rattle.laws.specs.Blocks.{Fresh, Inside}
 use Rattle.sharing.specs.Lent.{SameFound, TablesIn, KeptIn, CountingIn}
 use Rattle.sharing.specs.Visit.{Lasts, Counts}
 
@@ -35,28 +33,35 @@ found_lasts = record {
       };
 }
 
-longer : (bs : List Block) (b : Block) → length_sum (bs ++ (b ∷ [])) ≡ length_sum bs + b.size
+-- what is shown of lists of blocks for all walks, and holds here too
+pub record BlockLaws : Type 0 where
+  pub apart : (bs cs ds : List Block) → Fresh bs cs → Fresh (bs ++ cs) ds → Fresh bs (cs ++ ds)
+  pub inside : (eof : ℕ) (bs cs : List Block) → Inside eof bs → Inside eof cs → Inside eof (bs ++ cs)
+  pub lengths : (bs cs : List Block) → length_sum (bs ++ cs) ≡ length_sum bs + length_sum cs
+  pub lengths_inside : (eof : ℕ) (bs : List Block) → Fresh [] bs → Inside eof bs → length_sum bs ≤ eof
+
+longer : BlockLaws → (bs : List Block) (b : Block) → length_sum (bs ++ (b ∷ [])) ≡ length_sum bs + b.size
 unfolding length_sum
-longer bs b = lengths-append bs (b ∷ []) ∙ (let z : length_sum bs + (b.size + 0) ≡ length_sum bs + b.size = omega arith in z)
+longer l bs b = l.lengths bs (b ∷ []) ∙ (let z : length_sum bs + (b.size + 0) ≡ length_sum bs + b.size = omega arith in z)
 
 -- links are counted in the tables, one at most for a message
-pub found_counts : Counts TablesIn KeptIn CountingIn
-found_counts = record {
+pub found_counts : BlockLaws → Counts TablesIn KeptIn CountingIn
+found_counts blocks = record {
   none = λ f n t. record { table = t.table; marked = t.marked; links = omega arith };
   more = λ f g h m n k l i j. record { table = j.table; marked = j.marked; links = omega (arith, i.links, j.links) };
   room = λ f g m n k l t j. record { table = j.table; marked = j.marked; fits = omega (arith, t.fits, j.links) };
   fits = λ f eof bs n k l c.
-      record { table = c.table; marked = c.marked; fits = omega (arith, c.links, c.small, lengths-inside eof bs c.apart c.inside) };
+      record { table = c.table; marked = c.marked; fits = omega (arith, c.links, c.small, blocks.lengths_inside eof bs c.apart c.inside) };
   spare = λ f g eof bs m n k l c j.
       record { small = c.small; apart = c.apart; inside = c.inside; table = j.table; marked = j.marked; links = omega (arith, c.links, j.links) };
   entered = λ f eof bs b n fresh inside c.
       record {
         small = c.small;
-        apart = fresh-append [] bs (b ∷ []) c.apart fresh;
-        inside = inside-append eof bs (b ∷ []) c.inside inside;
+        apart = blocks.apart [] bs (b ∷ []) c.apart fresh;
+        inside = blocks.inside eof bs (b ∷ []) c.inside inside;
         table = c.table;
         marked = c.marked;
-        links = omega (arith, c.links, longer bs b);
+        links = omega (arith, c.links, longer blocks bs b);
       };
 }
 

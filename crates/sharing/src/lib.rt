@@ -9,6 +9,9 @@ ghost use Rattle.format.specs.Header.{pass_over};
 ghost use Rattle.format.specs.Message.{Message};
 ghost use Rattle.format.specs.Result as reader;
 ghost use Rattle.format.specs.Sharing as definitions;
+ghost use Rattle.laws.proofs.Disjoint.{fresh-append};
+ghost use Rattle.laws.proofs.Growth.{inside-append};
+ghost use Rattle.laws.proofs.SumOfLengths.{lengths-append, lengths-inside};
 ghost use Rattle.walk.specs.Entered.{with_count};
 ghost use Rattle.sharing.specs.Sharing.{Tables, Shared, TypeShared, KindKnown};
 ghost use Rattle.sharing.specs.Lent.{SameFound, found_in, TablesIn, KeptIn, CountingIn};
@@ -87,7 +90,7 @@ impl Found<'_, '_> {
 
 // What is done at a message of a header that has passed its checks, with what was found so far. The header's reader knows no
 // more of it than these clauses and laws.
-pub trait Visit {
+pub trait MessageVisitor {
     // What was found so far, as the definitions have it.
     ghost State: { Type 0 };
 
@@ -121,7 +124,7 @@ pub trait Visit {
 }
 
 // The audit discovers what an attribute shares.
-impl Visit for Found<'_, '_> {
+impl MessageVisitor for Found<'_, '_> {
     ghost State = { definitions.Found };
 
     ghost state = { found_in };
@@ -138,7 +141,7 @@ impl Visit for Found<'_, '_> {
 
     ghost lasts = { found_lasts };
 
-    ghost counts = { found_counts };
+    ghost counts = { found_counts (record { apart = fresh-append; inside = inside-append; lengths = lengths-append; lengths_inside = lengths-inside }) };
 
     fn visit_message(&mut self, body: &[u8], kind: u64) -> Result<(), u8> {
         let passed_by = kind != 0x000c;
@@ -156,7 +159,7 @@ impl Visit for Found<'_, '_> {
 #[derive(Drop)]
 pub struct PassOver;
 
-impl Visit for PassOver {
+impl MessageVisitor for PassOver {
     ghost State = { Unit {0} };
 
     ghost state = { λ v. tt };

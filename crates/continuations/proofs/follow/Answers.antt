@@ -23,7 +23,7 @@ loop-c-init g c = (
   },
   c.requires.counting,
   record { same = refl; long = refl },
-  g.met.V.Visit.lasts.itself _,
+  g.met.V.MessageVisitor.lasts.itself _,
 )
 
 pub overflow_add-at : goal.overflow_add-at
@@ -109,7 +109,7 @@ loop-c-preserved g c =
       },
       c.in_ok-read_block.ensures.counting_on,
       same_words-then _ _ _ c.loop-c.invariant.2 c.in_ok-read_block.ensures.kept,
-      g.met.V.Visit.lasts.next _ _ _ c.loop-c.invariant.3 c.in_ok-read_block.ensures.same,
+      g.met.V.MessageVisitor.lasts.next _ _ _ c.loop-c.invariant.3 c.in_ok-read_block.ensures.same,
     )
 
 pub returns-clause-by_index : goal.returns-clause-by_index

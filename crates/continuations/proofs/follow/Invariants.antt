@@ -8,7 +8,7 @@ use Rattle.continuations.proofs.follow.Given as goal
 abbrev pub invariant-loop-c : goal.invariant-loop-c
 invariant-loop-c g l =
     let b₀ = l.fn.blocks in
-    let v = g.V.Visit in
+    let v = g.V.MessageVisitor in
     Loop v.visit l.reading.image.now b₀.words.now l.reading b₀.count (v.state l.fn.found) l.fn.tally l.initial.c l.blocks.words.now l.blocks.count
     (v.state l.found) l.tally l.c
     × v.Counting l.found l.reading.bounds.end_of_file (entered_in l.blocks) 16

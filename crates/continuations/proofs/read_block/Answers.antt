@@ -20,7 +20,7 @@ scan_block-requires-clause-end_in_bounds g c =
 pub scan_block-requires-clause-room : goal.scan_block-requires-clause-room
 scan_block-requires-clause-room g c =
     let n = c.args.named in
-    let counts = g.met.V.Visit.counts in
+    let counts = g.met.V.MessageVisitor.counts in
     counts.fits _ _ _ _ _ (omega arith)
     (counting-entered _ _ continuation_block n.address n.size _ _ _ c.requires.lending.lent c.enter.ensures.entered _ c.in_ok-enter.ensures.value
     counts _ 16 c.requires.counting)
@@ -33,7 +33,7 @@ returns-clause-read g c =
 pub returns-clause-counting_on : goal.returns-clause-counting_on
 returns-clause-counting_on g c =
     let n = c.args.named in
-    let counts = g.met.V.Visit.counts in
+    let counts = g.met.V.MessageVisitor.counts in
     on_ok_weaker c.scan_block.result
     (λ kept.
     counts.spare _ _ _ _ _ _ _ (omega arith)

@@ -10,7 +10,7 @@ pub returns-then-image-at-ne1-clause-gathered_is : goal.returns-then-image-at-ne
 returns-then-image-at-ne1-clause-gathered_is g c = version-wrong _ _ _ _ _ _ _ _ _ c.requires.lending.lent c.requires.size_in_bounds c.if-image-at-ne1.true
 
 pub scan_block-requires-clause-room : goal.scan_block-requires-clause-room
-scan_block-requires-clause-room g c = g.met.V.Visit.counts.fits _ _ _ _ _ (omega arith) c.requires.counting
+scan_block-requires-clause-room g c = g.met.V.MessageVisitor.counts.fits _ _ _ _ _ (omega arith) c.requires.counting
 
 pub returns-in_err-scan_block-clause-gathered_is : goal.returns-in_err-scan_block-clause-gathered_is
 returns-in_err-scan_block-clause-gathered_is g c =
@@ -20,7 +20,7 @@ returns-in_err-scan_block-clause-gathered_is g c =
 
 pub follow-requires-clause-counting : goal.follow-requires-clause-counting
 follow-requires-clause-counting g c =
-    g.met.V.Visit.counts.spare _ _ _ _ _ _ _ (omega arith) c.requires.counting c.in_ok-scan_block.ensures.counted
+    g.met.V.MessageVisitor.counts.spare _ _ _ _ _ _ _ (omega arith) c.requires.counting c.in_ok-scan_block.ensures.counted
 
 pub follow-requires-clause-ready : goal.follow-requires-clause-ready
 follow-requires-clause-ready g c =

@@ -37,7 +37,7 @@ contents-requires-clause-counting g c =
     let size = c.u32_at-size.result in
     let whole : 0 + (16 + size) ≡ 16 + size = omega arith in
     rw whole at (counting-entered _ _ header_block _ _ _ _ _ c.requires.lending.lent c.enter.ensures.entered _ c.in_ok-enter.ensures.value
-    g.met.V.Visit.counts _ 0 c.requires.counting)
+    g.met.V.MessageVisitor.counts _ 0 c.requires.counting)
 
 pub contents-requires-clause-size_in_bounds : goal.contents-requires-clause-size_in_bounds
 contents-requires-clause-size_in_bounds g c =

@@ -71,9 +71,9 @@ placed : (im : List ℕ) (lent room n : ℕ) (ys addresses stored counts : List 
     r.objects ≤ objects_most
 placed im lent room n ys addresses stored counts r is words h = (h lent (working lent room n undefined_address is words).fit).fits
 
-pub settle-requires : goal.settle-requires
+pub complete-requires : goal.complete-requires
 unfolding objects_most blocks_most undefined_address
-settle-requires c =
+complete-requires c =
     let r = c.report_filled-r in
     let fits = placed c.args.image.now (length c.args.list.now) _ _ _ _ _ _ _ c.room.ensures c.work_words-n.ensures r.ensures.by_index in
     record {
@@ -90,4 +90,4 @@ returns c =
     let r = c.report_filled-r in
     let o = working-over n _ _ undefined_address _ _ c.room.ensures c.work_words-n.ensures r.auto.list r.ensures.block_count_bound in
     let h = reported _ n _ _ _ _ _ _ _ r.result c.room.ensures c.work_words-n.ensures (c.hand_over.ensures ∙ o.same) r.ensures.by_index in
-    reply-is c.args.image.now _ _ _ _ _ r.result h c.settle.new.reply c.settle.ensures.fields c.settle.ensures.ledger
+    reply-is c.args.image.now _ _ _ _ _ r.result h c.complete.new.reply c.complete.ensures.fields c.complete.ensures.ledger

@@ -13,12 +13,12 @@ loop-at-init g c =
     let from = c.args.span.from in
     let none : from - from ≡ 0 = omega arith in (
       scanning-start _ _ _ _ _ _ c.requires.from_le_end,
-      rw none (g.met.V.Visit.counts.none _ _ c.requires.room),
-      g.met.V.Visit.lasts.itself _,
+      rw none (g.met.V.MessageVisitor.counts.none _ _ c.requires.room),
+      g.met.V.MessageVisitor.lasts.itself _,
     )
 
 pub visit_message-requires : goal.visit_message-requires
-visit_message-requires g c = g.met.V.Visit.counts.room _ _ _ _ _ (omega arith) c.requires.room c.loop-at.invariant.1
+visit_message-requires g c = g.met.V.MessageVisitor.counts.room _ _ _ _ _ (omega arith) c.requires.room c.loop-at.invariant.1
 
 pub returns-in_err-message-clause-scanned : goal.returns-in_err-message-clause-scanned
 returns-in_err-message-clause-scanned g c =
@@ -54,8 +54,8 @@ loop-at-preserved g c =
     let counted = rw f at c.visit_message.ensures.counted in (
       scanning-read _ _ _ _ _ _ _ _ _ inv.0 c.requires.end_in_bounds c.loop-at-test.true _ _ _ read.fields
           read.walk _ (rw size at (visited m.flags (at + 8))) _ (c.counted.ensures c.args.image.now),
-      g.met.V.Visit.counts.more _ _ _ _ _ _ (omega (arith, inv.0.before)) inv.1 counted,
-      g.met.V.Visit.lasts.next _ _ _ inv.2 c.visit_message.ensures.same,
+      g.met.V.MessageVisitor.counts.more _ _ _ _ _ _ (omega (arith, inv.0.before)) inv.1 counted,
+      g.met.V.MessageVisitor.lasts.next _ _ _ inv.2 c.visit_message.ensures.same,
     )
 
 pub returns-clause-scanned : goal.returns-clause-scanned

@@ -6,12 +6,12 @@ use Rattle.std.specs.Prelude.{Ok, Err}
 use Rattle.std.proofs.lemmas.Result.{err_from_is_err_and}
 use Rattle.format.specs.Walk.{fault}
 use Rattle.dataset.specs.Dataset.{body_of, parts_of}
-use Rattle.sharing.specs.VisitLaws.{found_counts}
+use Rattle.sharing.proofs.SharingLaws.{found-counting}
 use Rattle.object.proofs.ObjectLaws.{parts-refused, sharing-refused, storage-stopped, storage-read}
 use Rattle.object.proofs.object.read_dataset.Goals as goal
 
 pub share_type-requires : goal.share_type-requires
-share_type-requires c = found_counts.fits c.args.found.now _ _ _ 1 (omega arith) c.requires.listed.counting
+share_type-requires c = found-counting.fits c.args.found.now _ _ _ 1 (omega arith) c.requires.listed.counting
 
 pub read_storage-requires : goal.read_storage-requires
 read_storage-requires c = rw c.bounds.ensures (record {

@@ -1,7 +1,7 @@
 -- By the message's type: another message is passed by; an attribute is read, and what it shares is counted.
 use Rattle.sharing.proofs.SharingLaws.{other-message, own-type, bad-attribute, shared-type}
 use Rattle.std.proofs.lemmas.Result.{err_from_is_err_and}
-use Rattle.sharing.proofs.FoundVisit.visit_message.Goals as goal
+use Rattle.sharing.proofs.FoundMessageVisitor.visit_message.Goals as goal
 
 pub returns-then-passed_by-clause-visited : goal.returns-then-passed_by-clause-visited
 returns-then-passed_by-clause-visited c = other-message _ _ _ _ _ _ c.if-passed_by.true

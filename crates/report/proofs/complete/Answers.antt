@@ -4,7 +4,7 @@ use mathlib.Core.Path.{◌≡◌, refl, ◌∙◌}
 use lib.ListN.{length}
 use native.Mathlib.Omega.{arith}
 use Rattle.format.specs.Limits.{objects_most}
-use Rattle.report.proofs.settle.Goals as goal
+use Rattle.report.proofs.complete.Goals as goal
 
 pub returns-then-objects-eq0-clause-ledger : goal.returns-then-objects-eq0-clause-ledger
 unfolding objects_most
