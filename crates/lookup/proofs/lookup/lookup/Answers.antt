@@ -24,4 +24,6 @@ unfolding blocks_most
 returns c =
     let n = length c.args.list.now in
     let w = working n _ _ 0 c.room.ensures c.work_words-n.ensures in
-    rw (all-cleared c.args.list.now _ c.clear_from.ensures) (c.lookup_in-found.ensures n w.fit)
+    let cleared = all-cleared c.args.list.now _ c.clear_from.ensures in
+    let found = c.lookup_in-found.ensures n w.fit in
+    rw cleared (grind arith)
